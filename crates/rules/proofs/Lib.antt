@@ -1,0 +1,9 @@
+pub mod Text
+pub mod Lists
+pub mod Contents
+pub mod Sizes
+pub mod Positions
+pub mod Fits
+pub mod Parts
+pub mod Settled
+pub mod Wrote

@@ -1,0 +1,156 @@
+-- The document's examples marked P, and its sheet, as one table and one result. Assumes nothing.
+use Prim.Native.Nat.{ℕ}
+use mathlib.Core.Path.{_≡_, refl}
+use mathlib.Core.List.{List, [], _∷_, _++_, map}
+use mathlib.Core.Bool.{Bool, true, false}
+use mathlib.Core.Option.{Option, none, some}
+use lib.ListN.{length, replicate}
+use Rattle.rules.specs.Quote.{ascii}
+use Rattle.rules.specs.Text.{greatest, sum, upFrom, keep, flat, textWidth, firstOf, restOf}
+use Rattle.rules.specs.Sheet.{Width, Column, Cell, Row, Table, noWidth, noColumn}
+use Rattle.rules.specs.Field.{got, onward, _>>=_, give, byte, word, only, zeroWord, several, listed, ended}
+use Rattle.rules.specs.Format.{width, column, line, cell, row, table, sheet}
+use Rattle.rules.specs.Wrap.{onto, pieces, glue, room, tight, full, act, last, place, weight, split, wrapLine, wrapLines, exceeds, fitting, cutLine, cut}
+use Rattle.rules.specs.Style.{bordersOf}
+use Rattle.rules.specs.Widths.{cellsOf, longest, numbers, cellLongest, visible, borders, percentOf, widthOf, widthIf, lower, upper, absolute, covering, evaluate, noted, first, untargeted, zeros, taken, start, fix, fixAt, visit, pass, passes, aboveAverage, withinAverage, fittingAverage, trialParts, cellParts, longestPart, shorterBy3, splitAtAverage, step1, step2, step3, share, shared, widened, step4, contents}
+use Rattle.rules.specs.Page.{area, visibleWidths, wrapped, cellLines, height, areaAt, areas, joinedMore, joined, lineOf, ruled, textLine, shown, headed, ruledMore, ruledRows, rowText, framed, pageLines, closed, page, lineAt, lineCount, byteCount}
+use Rattle.rules.specs.Words.{widthsOf, linesOf, areaOf, characters, letters}
+use Rattle.rules.specs.Calls.{countOf, count, put, printOf, printPage, printLineOf, printLine, turned}
+
+-- the house grid, the bare style, and the document's sheet of 81 bytes
+abbrev pub grid : List ℕ
+grid = ascii "+-++|||+=++|||+-+++-++"
+
+abbrev pub bare : List ℕ
+bare = replicate 22 0
+
+abbrev pub padded : List ℕ
+padded = 1 ∷ 1 ∷ replicate 9 0
+
+abbrev pub house : List ℕ
+house = (1 ∷ 1 ∷ 20 ∷ 0 ∷ 0 ∷ 0 ∷ 22 ∷ []) ++ (grid ++ (2 ∷ padded ++ (padded ++ ((0 ∷ 1 ∷ 0 ∷ 2 ∷ 0 ∷ 0 ∷ 1 ∷ 2 ∷ []) ++ (ascii "ab" ++ ((0 ∷ 0 ∷ 1 ∷ 15 ∷ []) ++ ascii "the quick brown"))))))
+
+-- no style, no header, no rows
+abbrev pub empty : List ℕ
+empty = (1 ∷ 0 ∷ 0 ∷ 0 ∷ 0 ∷ 0 ∷ 22 ∷ []) ++ (bare ++ (0 ∷ 0 ∷ 0 ∷ []))
+
+-- one column, and a row of one cell
+abbrev pub single : ℕ → ℕ → Column → List ℕ → Table
+single arrangement target c l = record { edition = 1; arrangement = arrangement; target = target; delimiter = 0; indicator = []; style = bare; columns = c ∷ []; header = []; rows = record { limit = 0; cells = record { delimiter = 0; alignment = 0; lines = l ∷ [] } ∷ [] } ∷ [] }
+
+-- equal paddings, a constraint and its fixed width
+abbrev pub held : ℕ → ℕ → ℕ → Column
+held pad k w = record { left = pad; right = pad; delimiter = 0; alignment = 0; constraint = k; first = record { unit = 0; value = w }; second = noWidth }
+
+-- two columns in the house grid, whose borders are 3, at a target of 21
+abbrev pub wide : Table
+wide = record { edition = 1; arrangement = 1; target = 21; delimiter = 0; indicator = []; style = grid; columns = noColumn ∷ noColumn ∷ []; header = []; rows = [] }
+
+-- two columns without padding, the second without a cell, at a target of 10
+abbrev pub lone : Table
+lone = record { edition = 1; arrangement = 1; target = 10; delimiter = 0; indicator = []; style = bare; columns = noColumn ∷ noColumn ∷ []; header = []; rows = record { limit = 0; cells = record { delimiter = 0; alignment = 0; lines = ascii "abcdefghijklmnop" ∷ [] } ∷ [] } ∷ [] }
+
+pub record Examples : Type 0 where
+  pub quick : wrapLine 6 32 (ascii "the quick brown") ≡ ascii "the" ∷ ascii "quick" ∷ ascii "brown" ∷ []
+  pub long-word : wrapLine 6 32 (ascii "a abcdefgh") ≡ ascii "a abcd" ∷ ascii "efgh" ∷ []
+  pub short-words : wrapLine 4 32 (ascii "abc d e") ≡ ascii "abc" ∷ ascii "d e" ∷ []
+  pub spaces : wrapLine 3 32 (ascii "     ") ≡ []
+  pub hello : cutLine 5 (ascii "...") (ascii "hello") ≡ ascii "he..."
+  pub he : cutLine 5 (ascii "...") (ascii "he") ≡ ascii "he..."
+  pub no-indicator : cutLine 2 (ascii "...") (ascii "he") ≡ ascii "he"
+  pub eleven-by-three : map (share 11 3) (0 ∷ 1 ∷ 2 ∷ []) ≡ 4 ∷ 4 ∷ 3 ∷ []
+  pub part-of-9 : splitAtAverage (single 1 11 noColumn (ascii "aaaaaaaaa bbbbbbbbb")) 0 11 ≡ none
+  pub part-of-8 : splitAtAverage (single 1 11 noColumn (ascii "aaaaaaaa bbbbbbbb")) 0 11 ≡ some 8
+  pub disabled-5 : contents (single 0 0 (held 1 5 5) (ascii "abcde")) ≡ 5 ∷ []
+  pub disabled-6 : contents (single 0 0 (held 1 5 5) (ascii "abcdef")) ≡ 3 ∷ []
+  pub absolute-3 : contents (single 1 0 (held 2 3 3) (ascii "abcde")) ≡ 1 ∷ []
+  pub three-borders : borders wide ≡ 3
+  pub percent-50 : widthOf wide (record { unit = 1; value = 50 }) ≡ some 9
+  pub percent-150 : widthOf wide (record { unit = 1; value = 150 }) ≡ some 18
+  pub empty-page : count empty ≡ record { number = 0; place = 0; lines = 0; bytes = 0 }
+  pub empty-line : (b : List ℕ) → printLine empty 0 b ≡ turned 21 0 b
+  pub house-bytes : length house ≡ 81
+  pub house-page : printPage house (replicate 90 7)
+      ≡ record {
+        answer = record { number = 0; place = 0; written = 84 };
+        buffer = ascii "+----+-------------+\n| ab | the quick   |\n|    | brown       |\n+----+-------------+\n" ++ replicate 6 7;
+      }
+
+-- what the document's sheet holds, and demand 3's words for it
+abbrev pub plain : Column
+plain = record { left = 1; right = 1; delimiter = 0; alignment = 0; constraint = 0; first = noWidth; second = noWidth }
+
+abbrev pub houseTable : Table
+houseTable = record {
+  edition = 1;
+  arrangement = 1;
+  target = 20;
+  delimiter = 0;
+  indicator = [];
+  style = grid;
+  columns = plain ∷ plain ∷ [];
+  header = [];
+  rows = record { limit = 0; cells = record { delimiter = 0; alignment = 0; lines = ascii "ab" ∷ [] } ∷ record { delimiter = 0; alignment = 0; lines = ascii "the quick brown" ∷ [] } ∷ [] } ∷ [];
+}
+
+pub record House : Type 0 where
+  pub reads : sheet house ≡ got houseTable 81
+  pub widths : widthsOf houseTable ≡ 4 ∷ 13 ∷ []
+  pub lines : linesOf houseTable 0 ≡ 2
+  pub second-area : areaOf houseTable 0 1 1 ≡ ascii " brown       "
+  pub blank-area : areaOf houseTable 0 1 0 ≡ ascii "    "
+  pub text : characters houseTable 0 1 ≡ ascii "the quick brown"
+  pub letters-left : letters houseTable houseTable 0 1 (characters houseTable 0 1) ≡ ascii "thequickbrown"
+
+-- the document's plausible slips, each with an example that shows it
+pub record Slips : Type 0 where
+  pub charge-of-0 : contents lone ≡ 10 ∷ 1 ∷ []
+  pub padding-not-counted : contents (single 0 0 (held 1 5 5) (ascii "abcde")) ≡ 5 ∷ []
+  pub exact-width : wrapLine 3 32 (ascii "   ") ≡ ascii "   " ∷ []
+  pub top-junction : ruled (0 ∷ 45 ∷ replicate 20 0) true 0 (2 ∷ 3 ∷ []) ≡ ascii "-- ---"
+
+pub examples : Examples
+unfolding greatest sum upFrom keep flat textWidth firstOf restOf onward _>>=_ give byte word only zeroWord several listed ended width column line cell row table sheet onto pieces glue room tight full act last place weight split wrapLine wrapLines exceeds fitting cutLine cut bordersOf cellsOf cellLongest longest numbers visible borders percentOf widthOf widthIf lower upper absolute covering evaluate noted first untargeted zeros taken start fix fixAt visit pass passes aboveAverage withinAverage fittingAverage trialParts cellParts longestPart shorterBy3 splitAtAverage step1 step2 step3 share shared widened step4 contents area visibleWidths wrapped cellLines height areaAt areas joinedMore joined lineOf ruled textLine shown headed ruledMore ruledRows rowText framed pageLines closed page lineAt lineCount byteCount countOf count put printOf printPage printLineOf printLine
+examples = record {
+  quick = refl;
+  long-word = refl;
+  short-words = refl;
+  spaces = refl;
+  hello = refl;
+  he = refl;
+  no-indicator = refl;
+  eleven-by-three = refl;
+  part-of-9 = refl;
+  part-of-8 = refl;
+  disabled-5 = refl;
+  disabled-6 = refl;
+  absolute-3 = refl;
+  three-borders = refl;
+  percent-50 = refl;
+  percent-150 = refl;
+  empty-page = refl;
+  empty-line = λ b. refl;
+  house-bytes = refl;
+  house-page = refl;
+}
+
+pub slips : Slips
+unfolding greatest sum upFrom keep flat textWidth firstOf restOf onward _>>=_ give byte word only zeroWord several listed ended width column line cell row table sheet onto pieces glue room tight full act last place weight split wrapLine wrapLines exceeds fitting cutLine cut bordersOf cellsOf cellLongest longest numbers visible borders percentOf widthOf widthIf lower upper absolute covering evaluate noted first untargeted zeros taken start fix fixAt visit pass passes aboveAverage withinAverage fittingAverage trialParts cellParts longestPart shorterBy3 splitAtAverage step1 step2 step3 share shared widened step4 contents area visibleWidths wrapped cellLines height areaAt areas joinedMore joined lineOf ruled textLine shown headed ruledMore ruledRows rowText framed pageLines closed page lineAt lineCount byteCount countOf count put printOf printPage printLineOf printLine
+slips = record {
+  charge-of-0 = refl;
+  padding-not-counted = refl;
+  exact-width = refl;
+  top-junction = refl;
+}
+
+pub house-words : House
+unfolding greatest sum upFrom keep flat textWidth firstOf restOf onward _>>=_ give byte word only zeroWord several listed ended width column line cell row table sheet onto pieces glue room tight full act last place weight split wrapLine wrapLines exceeds fitting cutLine cut bordersOf cellsOf cellLongest longest numbers visible borders percentOf widthOf widthIf lower upper absolute covering evaluate noted first untargeted zeros taken start fix fixAt visit pass passes aboveAverage withinAverage fittingAverage trialParts cellParts longestPart shorterBy3 splitAtAverage step1 step2 step3 share shared widened step4 contents area visibleWidths wrapped cellLines height areaAt areas joinedMore joined lineOf ruled textLine shown headed ruledMore ruledRows rowText framed pageLines closed page lineAt lineCount byteCount countOf count put printOf printPage printLineOf printLine
+house-words = record {
+  reads = refl;
+  widths = refl;
+  lines = refl;
+  second-area = refl;
+  blank-area = refl;
+  text = refl;
+  letters-left = refl;
+}

@@ -1,0 +1,14 @@
+pub mod Text
+pub mod Sheet
+pub mod Field
+pub mod Format
+pub mod Limits
+pub mod Style
+pub mod Wrap
+pub mod Widths
+pub mod Page
+pub mod Calls
+pub mod Words
+pub mod Demand3
+pub mod Quote
+pub mod Examples
