@@ -5,5 +5,6 @@ pub mod Sizes
 pub mod Positions
 pub mod Fits
 pub mod Parts
+pub mod Accepted
 pub mod Settled
 pub mod Wrote
