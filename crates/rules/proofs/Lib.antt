@@ -1,5 +1,8 @@
 pub mod Text
 pub mod Lists
+pub mod Fuel
+pub mod Split
+pub mod Keeps
 pub mod Contents
 pub mod Sizes
 pub mod Positions

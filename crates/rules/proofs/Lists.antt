@@ -1,12 +1,12 @@
 -- Every entry of a list. Assumes nothing.
 use Prim.Native.Nat.{ℕ, zero, suc, _+_, _≤_, _<_}
-use mathlib.Core.Path.{_≡_, refl, ap, _∙_}
-use mathlib.Core.List.{List, [], _∷_, _++_, map, append-nil}
+use mathlib.Core.Path.{_≡_, refl, ap, sym, _∙_}
+use mathlib.Core.List.{List, [], _∷_, _++_, map, append-assoc, append-nil}
 use mathlib.Core.Bool.{Bool, true, false}
 use native.Mathlib.Nat.{not-suc-le-zero, le-of-suc-le-suc}
 use native.Mathlib.Omega.{arith}
-use lib.ListN.{length, getD}
-use Rattle.rules.specs.Text.{upFrom, keep, All}
+use lib.ListN.{length, getD, take, drop}
+use Rattle.rules.specs.Text.{upFrom, keep, flat, All}
 
 pub all-map : {A B : Type 0} (P : B → Type 0) (f : A → B) → ((x : A) → P (f x)) → (xs : List A) → All P (map f xs)
 all-map P f h [] = tt
@@ -16,6 +16,41 @@ pub all-getD : {A : Type 0} (P : A → Type 0) (xs : List A) (i : ℕ) (d : A) �
 all-getD P [] i d k h = absurd (not-suc-le-zero k)
 all-getD P (x ∷ xs) zero d k h = h .0
 all-getD P (x ∷ xs) (suc i) d k h = all-getD P xs i d (le-of-suc-le-suc k) (h .1)
+
+-- where the default has the property too, every place has it
+pub all-default : {A : Type 0} (P : A → Type 0) (xs : List A) (i : ℕ) (d : A) → P d → All P xs → P (getD xs i d)
+all-default P [] i d k h = k
+all-default P (x ∷ xs) zero d k h = h .0
+all-default P (x ∷ xs) (suc i) d k h = all-default P xs i d k (h .1)
+
+pub all-imp : {A : Type 0} (P Q : A → Type 0) → ((x : A) → P x → Q x) → (xs : List A) → All P xs → All Q xs
+all-imp P Q f [] h = tt
+all-imp P Q f (x ∷ xs) h = (f x (h .0), all-imp P Q f xs (h .1))
+
+pub all-append : {A : Type 0} (P : A → Type 0) (xs ys : List A) → All P xs → All P ys → All P (xs ++ ys)
+all-append P [] ys h k = k
+all-append P (x ∷ xs) ys h k = (h .0, all-append P xs ys (h .1) k)
+
+pub all-take : {A : Type 0} (P : A → Type 0) (n : ℕ) (xs : List A) → All P xs → All P (take n xs)
+all-take P zero xs h = tt
+all-take P (suc n) [] h = tt
+all-take P (suc n) (x ∷ xs) h = (h .0, all-take P n xs (h .1))
+
+pub all-drop : {A : Type 0} (P : A → Type 0) (n : ℕ) (xs : List A) → All P xs → All P (drop n xs)
+all-drop P zero xs h = h
+all-drop P (suc n) [] h = tt
+all-drop P (suc n) (x ∷ xs) h = all-drop P n xs (h .1)
+
+-- of lists that f makes of good entries, put one after another
+pub all-flat : {A B : Type 0} (P : A → Type 0) (Q : B → Type 0) (f : A → List B) → ((x : A) → P x → All Q (f x)) → (xs : List A) → All P xs → All Q (flat (map f xs))
+unfolding flat
+all-flat P Q f g [] h = tt
+all-flat P Q f g (x ∷ xs) h = all-append Q (f x) (flat (map f xs)) (g x (h .0)) (all-flat P Q f g xs (h .1))
+
+pub flat-append : {A : Type 0} (xs ys : List (List A)) → flat (xs ++ ys) ≡ flat xs ++ flat ys
+unfolding flat
+flat-append [] ys = refl
+flat-append (x ∷ xs) ys = rw (flat-append xs ys) (sym (append-assoc x (flat xs) (flat ys)))
 
 pub length-upFrom : (i n : ℕ) → length (upFrom i n) ≡ n
 unfolding upFrom
