@@ -10,3 +10,11 @@ pub mod Fits
 pub mod Parts
 pub mod Settled
 pub mod Wrote
+pub mod Cancel
+pub mod Rows
+pub mod Characters
+pub mod Drawn
+pub mod Areas
+pub mod CellText
+pub mod Accepted
+pub mod Readable
