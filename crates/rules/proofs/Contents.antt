@@ -64,7 +64,7 @@ pub length-step3 : (t : Table) (s : State) → length (step3 t s .widths) ≡ le
 unfolding step3
 length-step3 t s = length-passes (λ s. true) (splitAtAverage t) (length (t .columns)) (suc (length (t .columns))) s
 
-length-steps : (t : Table) → length (step3 t (step2 t (step1 t (start t))) .widths) ≡ length (t .columns)
+pub length-steps : (t : Table) → length (step3 t (step2 t (step1 t (start t))) .widths) ≡ length (t .columns)
 length-steps t = length-step3 t (step2 t (step1 t (start t))) ∙ length-step2 t (step1 t (start t)) ∙ length-step1 t (start t) ∙ length-start t
 
 length-step4 : (t : Table) (s : State) → length (s .widths) ≡ length (t .columns) → length (step4 t s) ≡ length (t .columns)

@@ -4,10 +4,13 @@ pub mod Fuel
 pub mod Split
 pub mod Keeps
 pub mod Contents
+pub mod Bounds
 pub mod Sizes
 pub mod Positions
 pub mod Fits
+pub mod Lines
 pub mod Parts
+pub mod Accepted
 pub mod Settled
 pub mod Wrote
 pub mod Cancel

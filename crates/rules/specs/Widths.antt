@@ -50,21 +50,31 @@ percentOf t p = elim (eqb (t .target) 0) [ true ↦ none | false ↦ some ((t .t
 unfoldable pub widthOf : Table → Width → Option ℕ
 widthOf t w = elim (eqb (w .unit) 0) [ true ↦ some (w .value) | false ↦ percentOf t (w .value) ]
 
-unfoldable pub widthIf : Bool → Table → Width → Option ℕ
-widthIf true t w = widthOf t w
-widthIf false t w = none
+-- the width that a constraint has for a purpose, if it has one
+unfoldable pub valueOf : Table → Option Width → Option ℕ
+valueOf t (some w) = widthOf t w
+valueOf t none = none
 
 -- `LowerBoundary` (4) and `Boundaries` (6) set a lower bound, their first width
-unfoldable pub lower : Table → Column → Option ℕ
-lower t c = widthIf (eqb (c .constraint) 4 || eqb (c .constraint) 6) t (c .first)
+unfoldable pub lowerWidth : Column → Option Width
+lowerWidth c = elim (eqb (c .constraint) 4 || eqb (c .constraint) 6) [ true ↦ some (c .first) | false ↦ none ]
 
--- `UpperBoundary` (5) sets an upper one, its first width, and `Boundaries` (6), its second
-unfoldable pub upper : Table → Column → Option ℕ
-upper t c = elim (eqb (c .constraint) 5) [ true ↦ widthOf t (c .first) | false ↦ widthIf (eqb (c .constraint) 6) t (c .second) ]
+-- `UpperBoundary` (5) sets an upper one, its first width, and so does `Boundaries` (6), its second
+unfoldable pub upperWidth : Column → Option Width
+upperWidth c = elim (eqb (c .constraint) 5) [ true ↦ some (c .first) | false ↦ elim (eqb (c .constraint) 6) [ true ↦ some (c .second) | false ↦ none ] ]
 
 -- `Absolute` (3) sets its width
+unfoldable pub absoluteWidth : Column → Option Width
+absoluteWidth c = elim (eqb (c .constraint) 3) [ true ↦ some (c .first) | false ↦ none ]
+
+unfoldable pub lower : Table → Column → Option ℕ
+lower t c = valueOf t (lowerWidth c)
+
+unfoldable pub upper : Table → Column → Option ℕ
+upper t c = valueOf t (upperWidth c)
+
 unfoldable pub absolute : Table → Column → Option ℕ
-absolute t c = widthIf (eqb (c .constraint) 3) t (c .first)
+absolute t c = valueOf t (absoluteWidth c)
 
 -- a lower bound fixes the column when longest plus padding is at most the bound
 unfoldable pub covering : Column → ℕ → ℕ → Option ℕ
