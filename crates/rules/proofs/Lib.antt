@@ -19,5 +19,4 @@ pub mod Characters
 pub mod Drawn
 pub mod Areas
 pub mod CellText
-pub mod Accepted
 pub mod Readable
