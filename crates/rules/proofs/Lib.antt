@@ -13,3 +13,10 @@ pub mod Parts
 pub mod Accepted
 pub mod Settled
 pub mod Wrote
+pub mod Cancel
+pub mod Rows
+pub mod Characters
+pub mod Drawn
+pub mod Areas
+pub mod CellText
+pub mod Readable

@@ -5,8 +5,8 @@ use mathlib.Core.List.{List, [], _∷_, _++_, map, append-assoc, append-nil}
 use mathlib.Core.Bool.{Bool, true, false}
 use native.Mathlib.Nat.{not-suc-le-zero, le-of-suc-le-suc}
 use native.Mathlib.Omega.{arith}
-use lib.ListN.{length, getD, take, drop}
-use Rattle.rules.specs.Text.{upFrom, keep, flat, All}
+use lib.ListN.{length, getD, take, drop, replicate}
+use Rattle.rules.specs.Text.{greatest, upFrom, keep, flat, All}
 
 pub all-map : {A B : Type 0} (P : B → Type 0) (f : A → B) → ((x : A) → P (f x)) → (xs : List A) → All P (map f xs)
 all-map P f h [] = tt
@@ -27,9 +27,22 @@ pub all-imp : {A : Type 0} (P Q : A → Type 0) → ((x : A) → P x → Q x) �
 all-imp P Q f [] h = tt
 all-imp P Q f (x ∷ xs) h = (f x (h .0), all-imp P Q f xs (h .1))
 
+pub all-map-imp : {A B : Type 0} (P : A → Type 0) (Q : B → Type 0) (f : A → B) → ((x : A) → P x → Q (f x)) → (xs : List A) → All P xs → All Q (map f xs)
+all-map-imp P Q f g [] h = tt
+all-map-imp P Q f g (x ∷ xs) h = (g x (h .0), all-map-imp P Q f g xs (h .1))
+
 pub all-append : {A : Type 0} (P : A → Type 0) (xs ys : List A) → All P xs → All P ys → All P (xs ++ ys)
 all-append P [] ys h k = k
 all-append P (x ∷ xs) ys h k = (h .0, all-append P xs ys (h .1) k)
+
+pub all-right : {A : Type 0} (P : A → Type 0) (xs ys : List A) → All P (xs ++ ys) → All P ys
+all-right P [] ys h = h
+all-right P (x ∷ xs) ys h = all-right P xs ys (h .1)
+
+-- from every place
+pub all-places : {A : Type 0} (P : A → Type 0) (xs : List A) (d : A) → ((i : ℕ) → i < length xs → P (getD xs i d)) → All P xs
+all-places P [] d h = tt
+all-places P (x ∷ xs) d h = (h 0 (omega arith), all-places P xs d (λ i l. h (suc i) (omega arith)))
 
 pub all-take : {A : Type 0} (P : A → Type 0) (n : ℕ) (xs : List A) → All P xs → All P (take n xs)
 all-take P zero xs h = tt
@@ -40,6 +53,10 @@ pub all-drop : {A : Type 0} (P : A → Type 0) (n : ℕ) (xs : List A) → All P
 all-drop P zero xs h = h
 all-drop P (suc n) [] h = tt
 all-drop P (suc n) (x ∷ xs) h = all-drop P n xs (h .1)
+
+pub all-replicate : {A : Type 0} (P : A → Type 0) (x : A) (n : ℕ) → P x → All P (replicate n x)
+all-replicate P x zero h = tt
+all-replicate P x (suc n) h = (h, all-replicate P x n h)
 
 -- of lists that f makes of good entries, put one after another
 pub all-flat : {A B : Type 0} (P : A → Type 0) (Q : B → Type 0) (f : A → List B) → ((x : A) → P x → All Q (f x)) → (xs : List A) → All P xs → All Q (flat (map f xs))
@@ -52,10 +69,67 @@ unfolding flat
 flat-append [] ys = refl
 flat-append (x ∷ xs) ys = rw (flat-append xs ys) (sym (append-assoc x (flat xs) (flat ys)))
 
+pub map-then : {A B C : Type 0} (f : B → C) (g : A → B) (h : A → C) → ((x : A) → f (g x) ≡ h x) → (xs : List A) → map f (map g xs) ≡ map h xs
+map-then f g h e [] = refl
+map-then f g h e (x ∷ xs) = let i = e x in let j = map-then f g h e xs in cc
+
+-- an entry that is there, whatever stands past the end
+pub getD-map : {A B : Type 0} (f : A → B) (xs : List A) (i : ℕ) (a : A) (b : B) → i < length xs → getD (map f xs) i b ≡ f (getD xs i a)
+getD-map f [] i a b h = absurd (not-suc-le-zero h)
+getD-map f (x ∷ xs) zero a b h = refl
+getD-map f (x ∷ xs) (suc i) a b h = getD-map f xs i a b (le-of-suc-le-suc h)
+
+pub map-append : {A B : Type 0} (f : A → B) (xs ys : List A) → map f (xs ++ ys) ≡ map f xs ++ map f ys
+map-append f [] ys = refl
+map-append f (x ∷ xs) ys = ap (λ l. f x ∷ l) (map-append f xs ys)
+
+-- no entry is above the greatest
+pub le-greatest : {A : Type 0} (f : A → ℕ) (xs : List A) (i : ℕ) (a : A) → i < length xs → f (getD xs i a) ≤ greatest (map f xs)
+unfolding greatest
+le-greatest f [] i a h = absurd (not-suc-le-zero h)
+le-greatest f (x ∷ xs) zero a h = omega arith
+le-greatest f (x ∷ xs) (suc i) a h = omega (arith, le-greatest f xs i a (le-of-suc-le-suc h))
+
+-- those that pass a test keep their properties
+pub all-keep : {A : Type 0} (P : A → Type 0) (p : A → Bool) (xs : List A) → All P xs → All P (keep p xs)
+unfolding keep
+all-keep P p [] h = tt
+all-keep {A} P p (x ∷ xs) h = go (p x) (all-keep P p xs (h .1))
+  where
+    go : (b : Bool) → All P (keep p xs) → All P (elim b as (λ c. List A) [ true ↦ x ∷ keep p xs | false ↦ keep p xs ])
+    go true i = (h .0, i)
+    go false i = i
+
 pub length-upFrom : (i n : ℕ) → length (upFrom i n) ≡ n
 unfolding upFrom
 length-upFrom i zero = refl
 length-upFrom i (suc n) = ap suc (length-upFrom (suc i) n)
+
+pub getD-upFrom : (i n k d : ℕ) → k < n → getD (upFrom i n) k d ≡ i + k
+unfolding upFrom
+getD-upFrom i zero k d h = absurd (not-suc-le-zero h)
+getD-upFrom i (suc n) zero d h = omega arith
+getD-upFrom i (suc n) (suc k) d h = getD-upFrom (suc i) n k d (le-of-suc-le-suc h) ∙ omega arith
+
+-- two functions that agree below m
+pub map-below : {B : Type 0} (f g : ℕ → B) (i n m : ℕ) → i + n ≤ m → ((k : ℕ) → k < m → f k ≡ g k) → map f (upFrom i n) ≡ map g (upFrom i n)
+unfolding upFrom
+map-below f g i zero m l h = refl
+map-below f g i (suc n) m l h =
+    let e = h i (omega arith) in
+    let r = map-below f g (suc i) n m (omega arith) h in
+    cc
+
+-- counting from one more
+pub map-shift : {B : Type 0} (f : ℕ → B) (i n : ℕ) → map f (upFrom (suc i) n) ≡ map (λ k. f (suc k)) (upFrom i n)
+unfolding upFrom
+map-shift f i zero = refl
+map-shift f i (suc n) = let r = map-shift f (suc i) n in cc
+
+pub below-upFrom : (i n m : ℕ) → i + n ≤ m → All (λ j. j < m) (upFrom i n)
+unfolding upFrom
+below-upFrom i zero m l = tt
+below-upFrom i (suc n) m l = (omega arith, below-upFrom (suc i) n m (omega arith))
 
 -- a property of i, i + 1, .. below i + n
 pub all-upFrom : {B : Type 0} (P : B → Type 0) (f : ℕ → B) (i n m : ℕ) → i + n ≤ m → ((j : ℕ) → j < m → P (f j)) → All P (map f (upFrom i n))
