@@ -6,5 +6,8 @@ pub mod Positions
 pub mod Fits
 pub mod Parts
 pub mod Accepted
+pub mod Places
+pub mod Stands
+pub mod Numbers
 pub mod Settled
 pub mod Wrote
