@@ -12,7 +12,7 @@ use Rattle.rules.specs.Sheet.{Column, Table, padding}
 use Rattle.rules.specs.Page.{area, before, closed, page, pageLines, byteCount}
 use Rattle.rules.specs.Calls.{put, over, turned, Written}
 
-before-le : (a n : ℕ) → before a n ≤ n
+pub before-le : (a n : ℕ) → before a n ≤ n
 before-le a n = go (eqb a 2) (eqb a 3)
   where
     go : (b c : Bool) → cond b n (cond c (n - n / 2) 0) ≤ n
