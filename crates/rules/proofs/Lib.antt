@@ -20,3 +20,4 @@ pub mod Drawn
 pub mod Areas
 pub mod CellText
 pub mod Readable
+pub mod Pairs
