@@ -1,6 +1,6 @@
 -- An accepted sheet's table keeps every limit. Assumes nothing.
 use Prim.Native.Nat.{ℕ, zero, suc, _+_, _≤_}
-use mathlib.Core.Path.{_≡_, refl, ap, sym, _∙_, subst}
+use mathlib.Core.Path.{_≡_, refl, ap, sym, subst}
 use mathlib.Core.Logic.{_⊎_, inl, inr}
 use mathlib.Core.List.{List, [], _∷_}
 use mathlib.Core.Bool.{Bool, true, false, cond, _&&_, _||_}
@@ -9,7 +9,7 @@ use lib.ListN.{length}
 use lib.Dec.{ltb, leb, eqb}
 use borrow.Author.Tests.{leb-true, eqb-true, eq-eqb}
 use Rattle.rules.specs.Text.{All}
-use Rattle.rules.specs.Sheet.{Width, Column, Cell, Row, Table, mostColumns}
+use Rattle.rules.specs.Sheet.{Table, mostColumns}
 use Rattle.rules.specs.Field.{Read, got, refused, Reader, onward, _>>=_, give, byte, word, only, between, printable, printableOrZero, code, within, wordTo, character, optional, zeroByte, zeroWord, several, listed, counted, ended}
 use Rattle.rules.specs.Format.{width, column, line, cell, row, table, sheet}
 use Rattle.rules.specs.Limits.{Printable, Optional, WidthLimits, ColumnLimits, LineLimits, CellLimits, RowLimits, TableLimits}

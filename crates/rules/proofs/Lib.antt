@@ -11,6 +11,9 @@ pub mod Fits
 pub mod Lines
 pub mod Parts
 pub mod Accepted
+pub mod Places
+pub mod Stands
+pub mod Numbers
 pub mod Settled
 pub mod Wrote
 pub mod Cancel

@@ -1,5 +1,5 @@
 -- Laws for each way out of the style crate's functions. Assumes nothing.
-use Prim.Native.Nat.{ℕ, zero, suc, _≤_, _<_}
+use Prim.Native.Nat.{ℕ, zero, suc, _-_, _≤_, _<_, max}
 use mathlib.Core.Path.{_≡_, refl, ap, _∙_}
 use mathlib.Core.Logic.{_⊎_, inl, inr}
 use mathlib.Core.Bool.{Bool, true, false, not, _||_}
@@ -9,9 +9,12 @@ use lib.Dec.{eqb}
 use borrow.Author.Tests.{eq-eqb, ne-eqb, eqb-true, eqb-false}
 use Rattle.rules.specs.declared.Width.{Width}
 use Rattle.rules.specs.declared.Column.{Column}
+use Rattle.rules.specs.Sheet.{padding}
 use Rattle.rules.specs.Style.{given}
 use Rattle.rules.specs.Widths.{lowerWidth, upperWidth, absoluteWidth}
-use Rattle.style.specs.Choice.{lastWidth}
+use Rattle.style.specs.Choice.{content, lastWidth}
+use Rattle.style.specs.declared.column.ContentWidth.{ContentWidth}
+use Rattle.style.specs.declared.column.ConstraintWidth.{ConstraintWidth}
 
 -- a character that isn't 0 is set
 pub given-set : (c : ℕ) → (c ≡ 0 → ⊥) → given c ≡ true
@@ -97,3 +100,7 @@ absolute-set c h = rw h
 pub absolute-unset : (c : Column) → (c .constraint ≡ 3 → ⊥) → none ≡ absoluteWidth c
 unfolding absoluteWidth
 absolute-unset c h = rw (ne-eqb (c .constraint) 3 h, absoluteWidth)
+
+-- padding taken off, and 0 lifted
+pub content-at : (c : Column) (w : ConstraintWidth) (p n : ℕ) {r : ContentWidth} → p ≡ padding c → n ≡ w .0 - p → r .0 ≡ max 1 n → r ≡ content c w
+content-at c w p n {r} e f g = ap {B = ContentWidth} (λ (x : ℕ). record { 0 = x }) (g ∙ rw (f, e))

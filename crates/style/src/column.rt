@@ -2,8 +2,8 @@
 ghost use mathlib.Core.Path.{_≡_};
 ghost use Prim.Native.Nat.{_-_, max};
 ghost use Rattle.rules.specs.Sheet.{padding};
-ghost use Rattle.rules.specs.Widths.{contentOf, lowerWidth, upperWidth, absoluteWidth};
-ghost use Rattle.style.specs.Choice.{chosen, lastWidth};
+ghost use Rattle.rules.specs.Widths.{lowerWidth, upperWidth, absoluteWidth};
+ghost use Rattle.style.specs.Choice.{content, chosen, lastWidth};
 use rules::Column;
 use rules::Width;
 
@@ -47,7 +47,7 @@ pub fn padding_width(c: Column) -> u16
 
 // From constraint to content, the one way between the two.
 pub fn absolute_width_with_padding(c: Column, w: ConstraintWidth) -> ContentWidth
-    ensures { λ r. ⌜ r .0 ≡ contentOf c (w .0) ⌝ }
+    ensures { λ r. ⌜ r ≡ content c w ⌝ }
 {
     let n = minus(w.0, padding_width(c));
     lift(ContentWidth(n))

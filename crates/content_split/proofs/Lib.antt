@@ -1,0 +1,4 @@
+pub mod Rules
+pub mod Text
+pub mod Steps
+pub mod Found

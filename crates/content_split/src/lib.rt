@@ -1,0 +1,143 @@
+// Where a line of a cell is split: comfy-table's `content_split`, by positions in the text. A wrapped line is always a part of the text,
+// whose own delimiters stand in it. A byte is a column.
+
+ghost use mathlib.Core.Path.{_≡_};
+ghost use Prim.Native.Nat.{ℕ, _+_, _-_, _≤_, _<_};
+ghost use lib.ListN.{length, drop};
+ghost use mathlib.Core.List.{map};
+ghost use Rattle.rules.specs.Text.{textWidth, greatest};
+ghost use Rattle.rules.specs.Wrap.{split};
+ghost use Rattle.content_split.specs.Cut.{Near, Start};
+ghost use Rattle.content_split.specs.Parts.{PartIs};
+
+// The next wrapped line, from `start` up to `end`, with the place where the search goes on; or that none is left.
+pub enum Part {
+    Line {
+        start: usize,
+        end: usize,
+        next: usize,
+    },
+    Nothing,
+}
+
+// The first delimiter of `text` at or after `from`, or the text's length. A piece is followed no further than just past `most` bytes, so
+// that a long word isn't gone through again for each of its lines.
+pub fn piece_end(text: &[u8], from: usize, delimiter: u8, most: usize) -> usize
+    requires { ⌜ from ≤ length (now text) ⌝ }
+    ensures { λ r. ⌜ Near delimiter (now (text .entry)) from most r ⌝ }
+{
+    let mut e = from;
+    while e < text.len() {
+        if text[e] == delimiter {
+            return e;
+        }
+        if most < e - from {
+            return e;
+        }
+        e += 1;
+    }
+    e
+}
+
+// The first byte of `text` at or after `from` that is no delimiter, or the text's length: empty pieces leave a line empty.
+pub fn line_start(text: &[u8], from: usize, delimiter: u8) -> usize
+    requires { ⌜ from ≤ length (now text) ⌝ }
+    ensures { λ r. ⌜ Start delimiter (now (text .entry)) from r ⌝ }
+{
+    let mut s = from;
+    while s < text.len() {
+        if text[s] != delimiter {
+            return s;
+        }
+        s += 1;
+    }
+    s
+}
+
+// The next line that `text` is split into, from `from` on.
+pub fn split_line(text: &[u8], from: usize, width: usize, delimiter: u8) -> Part
+    requires { ⌜ (from ≤ length (now text)) × (0 < width) ⌝ }
+    ensures { λ r. ⌜ PartIs width delimiter (now (text .entry)) from r ⌝ }
+{
+    let start = line_start(text, from, delimiter);
+    if text.len() <= start {
+        return Part::Nothing;
+    }
+    let mut end = piece_end(text, start, delimiter, width);
+    if width < end - start {
+        return Part::Line {
+            start,
+            end: start + width,
+            next: start + width,
+        };
+    }
+    while end < text.len() {
+        let next = end + 1;
+        if width < end - start + 2 {
+            return Part::Line { start, end, next };
+        }
+        let e = piece_end(text, next, delimiter, width);
+        if width < e - start {
+            if 2 < width - (next - start) {
+                if width < e - next {
+                    return Part::Line {
+                        start,
+                        end: start + width,
+                        next: start + width,
+                    };
+                }
+            }
+            return Part::Line { start, end, next };
+        }
+        end = e;
+    }
+    Part::Line {
+        start,
+        end,
+        next: end,
+    }
+}
+
+// How many lines `text` wraps into.
+pub fn count_parts(text: &[u8], width: usize, delimiter: u8) -> usize
+    requires { ⌜ 0 < width ⌝ }
+    ensures { λ r. ⌜ r ≡ length (split width delimiter (now (text .entry))) ⌝ }
+{
+    let mut n: usize = 0;
+    let mut at: usize = 0;
+    while at < text.len() {
+        match split_line(text, at, width, delimiter) {
+            Part::Line {
+                start: _,
+                end: _,
+                next,
+            } => {
+                n += 1;
+                at = next;
+            }
+            Part::Nothing => {
+                return n;
+            }
+        }
+    }
+    n
+}
+
+// The length of the longest wrapped line of `text`, or 0.
+pub fn longest_part(text: &[u8], width: usize, delimiter: u8) -> usize
+    requires { ⌜ 0 < width ⌝ }
+    ensures { λ r. ⌜ r ≡ greatest (map textWidth (split width delimiter (now (text .entry)))) ⌝ }
+{
+    let mut m: usize = 0;
+    let mut at: usize = 0;
+    while at < text.len() {
+        let Part::Line { start, end, next } = split_line(text, at, width, delimiter) else {
+            return m;
+        };
+        if m < end - start {
+            m = end - start;
+        }
+        at = next;
+    }
+    m
+}

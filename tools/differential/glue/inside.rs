@@ -1,0 +1,27 @@
+//! Set-up and answers that the public builders can't reach.
+
+use crate::utils::{arrangement::arrange_content, formatting::is_hidden};
+use crate::{Cell, Column, Row, Table};
+
+/// Columns are otherwise made by adding cells; a sheet may have columns without any.
+pub fn set_columns(table: &mut Table, columns: Vec<Column>) {
+    table.columns = columns;
+}
+
+/// A cell of exactly these lines.
+pub fn cell_of_lines(lines: Vec<String>) -> Cell {
+    let mut cell = Cell::new_owned(String::new());
+    cell.content = lines;
+    cell
+}
+
+/// The public call lifts 0 to 1.
+pub fn set_height(row: &mut Row, lines: usize) {
+    row.max_height = Some(lines);
+}
+
+/// Content width and hidden flag of each column.
+pub fn widths(table: &Table) -> Vec<(u16, bool)> {
+    let infos = arrange_content(table);
+    infos.iter().map(|info| (info.content_width, is_hidden(info))).collect()
+}

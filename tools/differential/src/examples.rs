@@ -1,0 +1,146 @@
+//! Document 01's trial desk sheet, its page, and its other examples.
+
+use crate::compare::agrees;
+use crate::oracle;
+use crate::sheet::{Cell, Column, Refusal, Row, STYLE_BYTES, Table, Width, decode, encode};
+
+const PAGE: &[u8] = b"\
++----+-------------+
+| ab | the quick   |
+|    | brown       |
++----+-------------+
+";
+
+/// The 81 bytes, spelled as in the document.
+pub fn trial_desk() -> Vec<u8> {
+    let mut sheet = vec![0x01, 0x01, 0x14, 0x00, 0x00, 0x00, 0x16];
+    sheet.extend(b"+-++|||+=++|||+-+++-++");
+    sheet.push(2);
+    for _ in 0..2 {
+        sheet.extend([1, 1, 0, 0, 0, 0, 0, 0, 0, 0, 0]);
+    }
+    sheet.extend([0x00, 0x01, 0x00, 0x02, 0x00, 0x00, 0x01, 0x02, 0x61, 0x62, 0x00, 0x00, 0x01, 0x0F]);
+    sheet.extend(b"the quick brown");
+    sheet
+}
+
+fn desk() -> Table {
+    decode(&trial_desk()).expect("the document's sheet is accepted")
+}
+
+fn bare(columns: Vec<Column>, rows: Vec<Row>) -> Table {
+    Table {
+        arrangement: 0,
+        target: 0,
+        delimiter: 0,
+        indicator: b"...".to_vec(),
+        style: [0; STYLE_BYTES],
+        columns,
+        header: None,
+        rows,
+    }
+}
+
+fn column(padding: u8, constraint: u8, unit: u8, value: u16) -> Column {
+    let widths = [Width { unit, value }, Width::default()];
+    Column { left: padding, right: padding, delimiter: 0, alignment: 0, constraint, widths }
+}
+
+fn row(height: u8, lines: &[&str]) -> Row {
+    let lines = lines.iter().map(|line| line.as_bytes().to_vec()).collect();
+    Row { height, cells: vec![Cell { delimiter: 0, alignment: 0, lines }] }
+}
+
+/// One text in one column of an absolute content width, without a style.
+fn narrow(width: u16, height: u8, lines: &[&str]) -> Table {
+    bare(vec![column(0, 3, 0, width)], vec![row(height, lines)])
+}
+
+fn prints(table: &Table, lines: &[&str]) -> bool {
+    let answer = oracle::answer(table);
+    let page: Vec<u8> = lines.iter().flat_map(|line| line.bytes().chain([b'\n'])).collect();
+    answer.page == page && answer.lines == lines.len() && agrees(table, &answer, None).0
+}
+
+fn has_widths(table: &Table, widths: &[u16]) -> bool {
+    let answer = oracle::answer(table);
+    let given: Vec<u16> = answer.widths.iter().map(|(width, _)| *width).collect();
+    given == widths && agrees(table, &answer, None).0
+}
+
+fn refused(sheet: &[u8], number: u8, place: usize) -> bool {
+    decode(sheet) == Err(Refusal { number, place })
+}
+
+fn wrapping() -> Vec<(&'static str, bool)> {
+    vec![
+        ("trial desk", oracle::answer(&desk()).page == PAGE && agrees(&desk(), &oracle::answer(&desk()), None).0),
+        ("the quick brown at 6", prints(&narrow(6, 0, &["the quick brown"]), &["the   ", "quick ", "brown "])),
+        ("a abcdefgh at 6", prints(&narrow(6, 0, &["a abcdefgh"]), &["a abcd", "efgh  "])),
+        ("abc d e at 4", prints(&narrow(4, 0, &["abc d e"]), &["abc ", "d e "])),
+        ("five spaces at 3", prints(&narrow(3, 0, &["     "]), &[])),
+        ("cut hello", prints(&narrow(5, 1, &["hello", "x"]), &["he..."])),
+        ("cut he", prints(&narrow(5, 1, &["he", "x"]), &["he..."])),
+        ("cut at width 2", prints(&narrow(2, 1, &["he", "x"]), &["he"])),
+        ("no style, header or rows", prints(&bare(vec![], vec![]), &[])),
+    ]
+}
+
+fn aimed(arrangement: u8, target: u16, columns: Vec<Column>, lines: &[&str]) -> Table {
+    let cells = lines.iter().map(|line| row(0, &[line]).cells.remove(0)).collect();
+    let mut table = bare(columns, vec![Row { height: 0, cells }]);
+    (table.arrangement, table.target) = (arrangement, target);
+    table
+}
+
+fn widths() -> Vec<(&'static str, bool)> {
+    let plain = || column(0, 0, 0, 0);
+    let long = "abcdefghijklmnopqrst";
+    let percent = |value: u16| {
+        let mut table = aimed(1, 21, vec![column(0, 3, 1, value), plain()], &["a", "b"]);
+        table.style = *b"+-++|||+=++|||+-+++-++";
+        table
+    };
+    let upper = |line: &str| aimed(0, 0, vec![column(1, 5, 0, 5)], &[line]);
+    vec![
+        ("11 shared by 3", has_widths(&aimed(1, 11, vec![plain(), plain(), plain()], &[long; 3]), &[4, 4, 3])),
+        ("average 11, part 9", has_widths(&aimed(1, 11, vec![plain()], &["abcdefghi abcdefghi"]), &[11])),
+        ("average 11, part 8", has_widths(&aimed(1, 11, vec![plain()], &["abcdefgh abcdefgh"]), &[8])),
+        ("`Disabled` upper 5, longest 5", has_widths(&upper("abcde"), &[5])),
+        ("`Disabled` upper 5, longest 6", has_widths(&upper("abcdef"), &[3])),
+        ("`Absolute` 3, padding 2+2", has_widths(&aimed(0, 0, vec![column(2, 3, 0, 3)], &["a"]), &[1])),
+        ("50 percent", has_widths(&percent(50), &[9, 1])),
+        ("150 percent", has_widths(&percent(150), &[18, 1])),
+    ]
+}
+
+fn limits() -> Vec<(&'static str, bool)> {
+    let twelve = encode(&bare(vec![Column::default(); 12], vec![])).bytes;
+    let thirteen = encode(&bare(vec![Column::default(); 13], vec![])).bytes;
+    let target = |target: u16| encode(&Table { target, ..bare(vec![], vec![]) }).bytes;
+    let desk = trial_desk();
+    let longer = [&desk[..], &[0]].concat();
+    vec![
+        ("12 columns", decode(&twelve).is_ok()),
+        ("13 columns", refused(&thirteen, 5, 32)),
+        ("target 400", decode(&target(400)).is_ok()),
+        ("target 401", refused(&target(401), 5, 2)),
+        ("empty sheet", refused(&[], 1, 0)),
+        ("sheet cut short", (0..desk.len()).all(|end| refused(&desk[..end], 1, end))),
+        ("sheet of 32,769 bytes", refused(&[0; 32_769], 2, 32_768)),
+        ("edition 0", refused(&[0; 32_768], 3, 0)),
+        ("byte after the last row", refused(&longer, 9, 81)),
+        ("81 bytes", desk.len() == 81 && encode(&decode(&desk).expect("accepted")).bytes == desk),
+    ]
+}
+
+/// True if every example comes out.
+pub fn all_pass() -> bool {
+    let examples = [wrapping(), widths(), limits()].concat();
+    for (words, _) in examples.iter().filter(|(_, passed)| !passed) {
+        println!("example fails: {words}");
+    }
+    let passed = examples.iter().filter(|(_, passed)| *passed).count();
+    println!("{passed} of {} examples of document 01 pass", examples.len());
+    passed == examples.len()
+}

@@ -1,0 +1,128 @@
+//! The differential tool: comfy-table as the oracle, document 01 read as a program, aimed sheets.
+
+mod beyond;
+mod compare;
+mod damage;
+mod examples;
+mod exhaustive;
+mod generate;
+mod marks;
+mod oracle;
+mod random;
+mod reading;
+mod record;
+mod sample;
+mod second;
+mod sheet;
+
+use std::io::{self, Read, Write};
+use std::process::ExitCode;
+
+const USAGE: &str = "run [--rust PATH] COMMAND
+  print                               sheet on standard input, page or `refused N at P` on standard output
+  compare --seed S --count N [--damaged]  the oracle against the reading
+  slips --seed S --most N             sheets until each planted mistake shows
+  sample --seed S                     writes the stored sample
+  check-sample                        the stored sample against the oracle, and the document's examples
+  self-test                           the document's examples, and what its limits shut out
+  exhaustive                          the oracle against the reading on small spaces of sheets, whole
+  emit --seed S --count N [--damaged] records of sheets and answers on standard output";
+
+fn main() -> ExitCode {
+    let arguments: Vec<String> = std::env::args().skip(1).collect();
+    let done = match arguments.first().map(String::as_str) {
+        Some("print") => print(),
+        Some("compare") => run_compare(&arguments),
+        Some("slips") => both(&arguments, "--most").map(|(seed, most)| compare::slips(seed, most)),
+        Some("sample") => number(&arguments, "--seed").and_then(write_sample),
+        Some("check-sample") => check_sample(),
+        Some("self-test") => Ok(examples::all_pass() && beyond::all_panic()),
+        Some("exhaustive") => Ok(exhaustive::all_agree()),
+        Some("emit") => emit(&arguments),
+        _ => Err(USAGE.to_string()),
+    };
+    match done {
+        Ok(true) => ExitCode::SUCCESS,
+        Ok(false) => ExitCode::FAILURE,
+        Err(words) => {
+            eprintln!("{words}");
+            ExitCode::from(2)
+        }
+    }
+}
+
+type Done = Result<bool, String>;
+
+fn words(error: io::Error) -> String {
+    error.to_string()
+}
+
+fn number(arguments: &[String], name: &str) -> Result<u64, String> {
+    let place = arguments.iter().position(|argument| argument == name);
+    let value = place.and_then(|place| arguments.get(place + 1));
+    value.and_then(|value| value.parse().ok()).ok_or_else(|| format!("{name} needs a number\n{USAGE}"))
+}
+
+fn both(arguments: &[String], count: &str) -> Result<(u64, u64), String> {
+    Ok((number(arguments, "--seed")?, number(arguments, count)?))
+}
+
+fn damaged(arguments: &[String]) -> bool {
+    arguments.iter().any(|argument| argument == "--damaged")
+}
+
+fn print() -> Done {
+    let mut bytes = Vec::new();
+    io::stdin().read_to_end(&mut bytes).map_err(words)?;
+    let out = match sheet::decode(&bytes) {
+        Ok(table) => oracle::answer(&table).page,
+        Err(refusal) => format!("refused {} at {}\n", refusal.number, refusal.place).into_bytes(),
+    };
+    io::stdout().write_all(&out).map_err(words)?;
+    Ok(true)
+}
+
+fn run_compare(arguments: &[String]) -> Done {
+    let (seed, count) = both(arguments, "--count")?;
+    Ok(if damaged(arguments) { compare::damaged(seed, count) } else { compare::accepted(seed, count) })
+}
+
+fn emit(arguments: &[String]) -> Done {
+    let (seed, count) = both(arguments, "--count")?;
+    let mut out = io::BufWriter::new(io::stdout().lock());
+    for index in 0..count {
+        let sheet = match damaged(arguments) {
+            true => damage::sheet(seed, index),
+            false => sheet::encode(&generate::table(seed, index)).bytes,
+        };
+        let mut bytes = Vec::new();
+        record::write(&record::answered(sheet), &mut bytes);
+        out.write_all(&bytes).map_err(words)?;
+    }
+    out.flush().map_err(words)?;
+    Ok(true)
+}
+
+fn sample_path() -> Result<String, String> {
+    std::env::var("DIFFERENTIAL_SAMPLE").map_err(|_| "start the tool by `run`".to_string())
+}
+
+fn write_sample(seed: u64) -> Done {
+    let records = sample::choose(seed);
+    let mut bytes = Vec::new();
+    for record in &records {
+        record::write(record, &mut bytes);
+    }
+    std::fs::write(sample_path()?, &bytes).map_err(words)?;
+    println!("{}\n{} bytes", sample::summary(&records), bytes.len());
+    Ok(true)
+}
+
+fn check_sample() -> Done {
+    let bytes = std::fs::read(sample_path()?).map_err(words)?;
+    let records = record::read_all(&bytes).ok_or("the sample ends within a record")?;
+    let wrong = records.iter().filter(|stored| record::answered(stored.sheet.clone()) != **stored).count();
+    let first = records.first().is_some_and(|record| record.sheet == examples::trial_desk());
+    println!("{}\n{wrong} stored answers differ from the oracle's", sample::summary(&records));
+    Ok(wrong == 0 && first && examples::all_pass())
+}

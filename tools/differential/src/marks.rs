@@ -1,0 +1,146 @@
+//! Named planted mistakes, and the named rules that a page can show.
+
+macro_rules! listed {
+    ($(#[$note:meta])* $name:ident { $($case:ident $words:literal)* }) => {
+        $(#[$note])*
+        #[derive(Clone, Copy, Debug, PartialEq)]
+        pub enum $name { $($case),* }
+
+        impl $name {
+            pub const ALL: &'static [$name] = &[$($name::$case),*];
+
+            pub fn words(self) -> &'static str {
+                match self { $($name::$case => $words),* }
+            }
+        }
+    };
+}
+
+listed! {
+    /// A plausible mistake that the reading makes on request. The first four are document 01's.
+    Slip {
+        ChargesOne "1 charged when a pass fixes a column without cells"
+        DisabledCountsPadding "padding counted in the `Disabled` upper test"
+        WrapsExact "a line of exactly the content width wrapped"
+        NoTopJunction "top junction dropped when none is set"
+        AverageHeld "average held through a pass"
+        LowerLessPadding "padding taken off a lower bound before it meets the average"
+        LowerWithoutPadding "first lower test without padding"
+        LowerStrict "first lower test strict"
+        UpperAnyLongest "upper bound fixed also where longest plus padding is below it"
+        UpperLessPadding "upper bound compared with the average alone"
+        LongestStrict "a longest equal to the average not fixed"
+        TwoSaved "split trial fixed at 2 saved"
+        FourSaved "split trial fixed at 4 saved only"
+        TrialAtLeastOne "a longest part of 0 charged 1"
+        OneLowerPass "lower bounds in one pass only"
+        OneFittingPass "step 2 in one pass only"
+        OneTrialPass "step 3 in one pass only"
+        PassAtZero "a pass of step 2 begun at average 0"
+        EatenFree "a bound eaten up by padding charged 0"
+        RemainingWraps "remaining width wraps below 0"
+        DecidedEmptyFree "a decided column without cells taken as 0 wide"
+        HiddenVisible "hidden columns counted in the borders"
+        HiddenCharged "hidden columns taken off the remaining width"
+        BoundsSwapped "upper bound of `Boundaries` read first"
+        PercentRounded "percent rounded up"
+        PercentUncapped "percent above 100 kept"
+        PercentOfTarget "percent of the whole target"
+        HeaderNotMeasured "header left out of the longest"
+        HeaderNotTried "header left out of the split trial"
+        ExcessLast "excess of a share given to the last columns"
+        FullSkipsAbsolute "full width leaves `Absolute` columns alone"
+        ColumnDelimiterFirst "column's delimiter before the cell's"
+        RetryAtOne "piece tried again at 1 column free only"
+        FullAtOne "line full at width less 1 only"
+        EmptyLastKept "empty last line kept"
+        EmptyPiecesDropped "empty pieces dropped"
+        FillsFresh "long piece begun on a fresh line"
+        CutAtLimit "a cell of exactly the limit's lines cut"
+        WideIndicatorKept "indicator kept though wider"
+        IndicatorIfShortened "indicator put only where the line was shortened"
+        HeaderUncut "header's height limit ignored"
+        CentreOddRight "odd space of centring on the right"
+        ColumnAlignmentFirst "column's alignment before the cell's"
+        PaddingsSwapped "left and right padding exchanged"
+        BlankAbove "blank lines put above"
+        MissingNoLine "missing cell has no line"
+        HeaderRuleBeforeRows "header rule only if rows follow"
+        RowRuleAfterHeader "row rule below the header too"
+        RuleJunctionAlways "junction in rules though none is set"
+        TextJunctionAlways "junction in text lines though none is set"
+        NoBottomJunction "bottom junction dropped when none is set"
+        OwnLeftOnly "a line's left printed only if its own is set"
+        EmptyRowLine "row without lines printed as a blank line"
+    }
+}
+
+listed! {
+    /// What decided a column, a wrapped line, a cell, an area or a line of the page.
+    Rule {
+        FirstContent "`ContentWidth`" FirstContentBare "`ContentWidth` without cells"
+        FirstHidden "`Hidden`" FirstHiddenBare "`Hidden` without cells"
+        FirstAbsolute "`Absolute`" FirstAbsoluteEaten "`Absolute` eaten by padding"
+        AbsoluteOpen "`Absolute` percent without target"
+        FirstLower "lower bound above longest" FirstLowerEqual "lower bound equal to longest plus padding"
+        PercentPlain "percent up to 100" PercentCapped "percent over 100" PercentNothing "percent of nothing left"
+        PercentNoTarget "percent bound without target"
+        PlainLongest "no target: longest" PlainUpper "no target: upper bound"
+        PlainUpperPadding "no target: bound below longest plus padding only"
+        PlainBare "no target: no cells" DisabledTarget "`Disabled` with a target"
+        StartStopped "start of remaining stopped at 0"
+        LowerFixed "step 1" LowerEaten "step 1, bound eaten" LowerEqual "step 1, bound equal to average"
+        LowerAgain "step 1 repeated with effect"
+        UpperFixed "step 2, upper bound" UpperEaten "step 2, bound eaten" UpperAtAverage "step 2, bound equal to average plus padding"
+        UpperAtLongest "step 2, bound equal to longest plus padding"
+        UpperOverAverage "step 2, bound over average" UpperOverLongest "step 2, bound over longest"
+        FitFixed "step 2, longest" FitEqual "step 2, longest equal to average" FitBare "step 2, no cells"
+        FitAgain "step 2 repeated with effect" FitBarred "step 2 barred by average 0"
+        TrialFixed "step 3" TrialThree "step 3 by exactly 3" TrialTwo "step 3 missed by 1"
+        TrialNothing "step 3, no part at all" TrialAgain "step 3 repeated with effect" TrialZero "step 3 at average 0"
+        RemainingStopped "remaining stopped at 0"
+        ShareEven "step 4 even" ShareExcess "step 4 with excess" ShareRaised "step 4 raised"
+        FullEven "full width even" FullExcess "full width with excess" FullNothing "full width, nothing left"
+        FullNoColumn "full width, no visible column"
+        LineExact "line of exactly the width" LineShorter "line shorter than the width"
+        JoinFirst "piece on an empty line" JoinMore "piece after a delimiter" JoinExact "piece ends on the width"
+        EmptyPiece "empty piece on an empty line" EmptyPieceMore "empty piece after a delimiter"
+        RetryOne "tried again at 1 free" RetryTwo "tried again at 2 free"
+        FillFresh "long piece on an empty line" FillMore "long piece after a delimiter" FillThree "long piece at 3 free"
+        BeginLine "piece begins another line" FullFlush "full line flushed" FullJust "full by 1" FullNotYet "not full by 1"
+        LastKept "last line kept" LastEmpty "nothing left at the end" NoLine "line of delimiters wraps to nothing"
+        DelimiterCell "cell's delimiter" DelimiterColumn "column's delimiter" DelimiterTable "table's delimiter" DelimiterSpace "space"
+        CutNot "limit not reached" CutEqual "exactly the limit" CutShort "cut and shortened" CutFits "cut, line and indicator fit"
+        CutFitsExactly "cut, fit exactly" CutEmpty "cut at an empty line" IndicatorDropped "indicator dropped"
+        IndicatorNone "no indicator set" IndicatorWhole "indicator as wide as the content" HeaderCut "header cut"
+        AlignLeft "left" AlignRight "right" AlignCentreOdd "centre, odd" AlignCentreEven "centre, even"
+        AlignByCell "cell's alignment" AlignByColumn "column's alignment" AlignByDefault "left by default"
+        MissingCell "missing cell" BlankBelow "blank line below" BareRow "row without cells" RowNoLine "row without lines"
+        NoColumn "no visible column" TopUnjoined "top border, no junction set" BottomUnjoined "bottom border, no junction set"
+        RuleUnjoined "rule, no junction set" TextUnjoined "text line, no junction set" UnsetSpace "unset character as space"
+        TopBorder "top border" NoTop "no top border" BottomBorder "bottom border" NoBottom "no bottom border"
+        NoHeader "no header" HeaderRule "header rule" HeaderRuleAlone "header rule, no rows"
+        NoHeaderRule "no header rule" RowRule "row rule" NoRowRule "no row rule" NoLeft "no left" NoRight "no right"
+        EmptyLine "empty line of the page" NoPage "page without lines"
+    }
+}
+
+/// A set of rules.
+#[derive(Clone, Copy, Debug, Default, PartialEq)]
+pub struct Rules(u128);
+
+const _: () = assert!(Rule::ALL.len() <= u128::BITS as usize);
+
+impl Rules {
+    pub fn add(&mut self, rule: Rule) {
+        self.0 |= 1 << rule as u32;
+    }
+
+    pub fn has(self, rule: Rule) -> bool {
+        self.0 >> rule as u32 & 1 == 1
+    }
+
+    pub fn iter(self) -> impl Iterator<Item = Rule> {
+        Rule::ALL.iter().copied().filter(move |rule| self.has(*rule))
+    }
+}

@@ -1,0 +1,215 @@
+//! Cutting, aligning, drawing.
+
+use super::{JUNCTIONS, LEFTS, RIGHTS, Reading};
+use crate::marks::{Rule, Slip};
+use crate::sheet::{Cell, Row};
+
+const TOP: usize = 0;
+const HEADER_LINES: usize = 4;
+const HEADER_RULE: usize = 7;
+const CONTENT_LINES: usize = 11;
+const ROW_RULE: usize = 14;
+const BOTTOM: usize = 18;
+
+impl Reading<'_> {
+    /// "A cell with more lines than the height limit keeps that many; the last is shortened until it
+    /// and the indicator fit."
+    fn cut(&self, mut lines: Vec<Vec<u8>>, height: usize, width: usize) -> Vec<Vec<u8>> {
+        self.fire_if(height > lines.len(), Rule::CutNot);
+        self.fire_if(height > 0 && height == lines.len(), Rule::CutEqual);
+        let reached = lines.len() == height && self.slips(Slip::CutAtLimit);
+        if height == 0 || (lines.len() <= height && !reached) {
+            return lines;
+        }
+        lines.truncate(height);
+        let last = lines.pop().expect("a limit is at least 1");
+        lines.push(self.shorten(last, width));
+        lines
+    }
+
+    /// "An indicator wider than the content is dropped."
+    fn shorten(&self, mut last: Vec<u8>, width: usize) -> Vec<u8> {
+        let mut indicator: &[u8] = &self.table.indicator;
+        self.fire_if(indicator.is_empty(), Rule::IndicatorNone);
+        self.fire_if(indicator.len() == width, Rule::IndicatorWhole);
+        if indicator.len() > width && !self.slips(Slip::WideIndicatorKept) {
+            self.fire(Rule::IndicatorDropped);
+            indicator = &[];
+        }
+        let room = width.saturating_sub(indicator.len());
+        self.fire(if last.len() > room { Rule::CutShort } else { Rule::CutFits });
+        self.fire_if(last.len() == room, Rule::CutFitsExactly);
+        self.fire_if(last.is_empty(), Rule::CutEmpty);
+        if last.len() <= room && self.slips(Slip::IndicatorIfShortened) {
+            return last;
+        }
+        last.truncate(room);
+        last.extend(indicator);
+        last
+    }
+
+    /// "Alignment: the cell's, else column's, else left."
+    fn alignment(&self, cell: &Cell, at: usize) -> u8 {
+        let (cell, column) = (cell.alignment, self.column(at).alignment);
+        if self.slips(Slip::ColumnAlignmentFirst) && column != 0 {
+            return column;
+        }
+        let choices = [(cell, Rule::AlignByCell), (column, Rule::AlignByColumn), (1, Rule::AlignByDefault)];
+        let (chosen, rule) = choices.into_iter().find(|(code, _)| *code != 0).expect("left is set");
+        self.fire(rule);
+        chosen
+    }
+
+    /// "Centre puts the odd space left." Paddings stand on both sides.
+    fn align(&self, line: &[u8], alignment: u8, at: usize, width: usize) -> Vec<u8> {
+        let free = width.saturating_sub(line.len());
+        let odd = usize::from(!self.slips(Slip::CentreOddRight));
+        let (before, rule) = match alignment {
+            2 => (free, Rule::AlignRight),
+            3 if free % 2 == 1 => ((free + odd) / 2, Rule::AlignCentreOdd),
+            3 => (free / 2, Rule::AlignCentreEven),
+            _ => (0, Rule::AlignLeft),
+        };
+        self.fire_if(free > 0, rule);
+        let mut sides = [self.column(at).left, self.column(at).right].map(usize::from);
+        if self.slips(Slip::PaddingsSwapped) {
+            sides.reverse();
+        }
+        let mut area = vec![b' '; sides[0] + before];
+        area.extend(line);
+        area.resize(area.len() + free - before + sides[1], b' ');
+        area
+    }
+
+    /// The areas of one cell. "A missing cell is one blank line"
+    fn areas(&self, row: &Row, is_header: bool, at: usize, width: usize) -> Vec<Vec<u8>> {
+        let Some(cell) = row.cells.get(at) else {
+            self.fire(Rule::MissingCell);
+            let lines = usize::from(!self.slips(Slip::MissingNoLine));
+            return vec![vec![b' '; width + self.padding(at)]; lines];
+        };
+        let height = if is_header && self.slips(Slip::HeaderUncut) { 0 } else { row.height };
+        let wrapped = self.wrap(cell, at, width);
+        self.fire_if(is_header && height > 0 && wrapped.len() > height.into(), Rule::HeaderCut);
+        let lines = self.cut(wrapped, height.into(), width);
+        let alignment = self.alignment(cell, at);
+        lines.iter().map(|line| self.align(line, alignment, at, width)).collect()
+    }
+
+    /// "a cell with fewer lines than its row gets blank ones below."
+    fn row_lines(&self, row: &Row, is_header: bool, widths: &[usize]) -> Vec<Vec<Vec<u8>>> {
+        let areas = |at: usize| (at, self.areas(row, is_header, at, widths[at]));
+        let cells: Vec<(usize, Vec<Vec<u8>>)> = self.visible().map(areas).collect();
+        let mut height = cells.iter().map(|(_, areas)| areas.len()).max().unwrap_or(0);
+        self.fire_if(row.cells.is_empty(), Rule::BareRow);
+        self.fire_if(height == 0 && !cells.is_empty(), Rule::RowNoLine);
+        if height == 0 && !cells.is_empty() && self.slips(Slip::EmptyRowLine) {
+            height = 1;
+        }
+        let area = |(at, areas): &(usize, Vec<Vec<u8>>), k: usize| {
+            self.fire_if(k >= areas.len(), Rule::BlankBelow);
+            let above = if self.slips(Slip::BlankAbove) { height - areas.len() } else { 0 };
+            k.checked_sub(above)
+                .and_then(|k| areas.get(k))
+                .cloned()
+                .unwrap_or_else(|| vec![b' '; widths[*at] + self.padding(*at)])
+        };
+        (0..height).map(|k| cells.iter().map(|cell| area(cell, k)).collect()).collect()
+    }
+
+    /// "Unset characters print as a space."
+    fn shown(&self, place: usize) -> u8 {
+        let byte = self.table.style[place];
+        self.fire_if(byte == 0, Rule::UnsetSpace);
+        if byte == 0 { b' ' } else { byte }
+    }
+
+    /// One line of the page out of its areas.
+    fn line(&self, areas: &[Vec<u8>], left: usize, junction: Option<usize>, right: usize) -> Vec<u8> {
+        let mut line = Vec::new();
+        let own = self.slips(Slip::OwnLeftOnly) && self.table.style[left] == 0;
+        if self.set(&LEFTS) && !own {
+            line.push(self.shown(left));
+        }
+        for (position, area) in areas.iter().enumerate() {
+            if let Some(junction) = junction.filter(|_| position > 0) {
+                line.push(self.shown(junction));
+            }
+            line.extend(area);
+        }
+        if self.set(&RIGHTS) {
+            line.push(self.shown(right));
+        }
+        self.fire_if(line.is_empty(), Rule::EmptyLine);
+        line
+    }
+
+    /// "Top and bottom borders always put a junction between columns; rules and text lines do so only
+    /// if some junction is set."
+    fn joined(&self, always: bool, slip: Slip, unjoined: Rule) -> bool {
+        let set = self.set(&JUNCTIONS);
+        self.fire_if(!set && self.visible().count() > 1, unjoined);
+        set || always != self.slips(slip)
+    }
+
+    /// A border or rule, its four characters standing from `style` on.
+    fn rule(&self, style: usize, widths: &[usize]) -> Vec<u8> {
+        let joined = match style {
+            TOP => self.joined(true, Slip::NoTopJunction, Rule::TopUnjoined),
+            BOTTOM => self.joined(true, Slip::NoBottomJunction, Rule::BottomUnjoined),
+            _ => self.joined(false, Slip::RuleJunctionAlways, Rule::RuleUnjoined),
+        };
+        let fill = |at: usize| vec![self.shown(style + 1); widths[at] + self.padding(at)];
+        let areas: Vec<Vec<u8>> = self.visible().map(fill).collect();
+        self.line(&areas, style, joined.then_some(style + 2), style + 3)
+    }
+
+    /// "A border or rule is visible if one of its characters is set."
+    fn push_rule(&self, page: &mut Vec<Vec<u8>>, style: usize, widths: &[usize], shown: Rule, not: Rule) {
+        let visible = self.set(&[style, style + 1, style + 2, style + 3]);
+        self.fire(if visible { shown } else { not });
+        if visible {
+            page.push(self.rule(style, widths));
+        }
+    }
+
+    fn push_row(&self, page: &mut Vec<Vec<u8>>, row: &Row, is_header: bool, widths: &[usize]) {
+        let style = if is_header { HEADER_LINES } else { CONTENT_LINES };
+        for areas in self.row_lines(row, is_header, widths) {
+            let joined = self.joined(false, Slip::TextJunctionAlways, Rule::TextUnjoined);
+            page.push(self.line(&areas, style, joined.then_some(style + 1), style + 2));
+        }
+    }
+
+    /// "The header rule follows the header, a row rule stands between two rows."
+    pub fn page(&self, widths: &[usize]) -> Vec<Vec<u8>> {
+        let mut page = Vec::new();
+        self.push_rule(&mut page, TOP, widths, Rule::TopBorder, Rule::NoTop);
+        if let Some(header) = &self.table.header {
+            self.push_row(&mut page, header, true, widths);
+            let alone = self.table.rows.is_empty();
+            if !(alone && self.slips(Slip::HeaderRuleBeforeRows)) {
+                let shown = if alone { Rule::HeaderRuleAlone } else { Rule::HeaderRule };
+                self.push_rule(&mut page, HEADER_RULE, widths, shown, Rule::NoHeaderRule);
+            }
+        }
+        for (position, row) in self.table.rows.iter().enumerate() {
+            let below_header = self.table.header.is_some() && self.slips(Slip::RowRuleAfterHeader);
+            if position > 0 || below_header {
+                self.push_rule(&mut page, ROW_RULE, widths, Rule::RowRule, Rule::NoRowRule);
+            }
+            self.push_row(&mut page, row, false, widths);
+        }
+        self.push_rule(&mut page, BOTTOM, widths, Rule::BottomBorder, Rule::NoBottom);
+        self.fire_page(&page);
+        page
+    }
+
+    fn fire_page(&self, page: &[Vec<u8>]) {
+        self.fire_if(page.is_empty(), Rule::NoPage);
+        self.fire_if(self.table.header.is_none(), Rule::NoHeader);
+        self.fire_if(self.visible().count() == 0, Rule::NoColumn);
+        self.fire_if(!self.set(&LEFTS), Rule::NoLeft);
+        self.fire_if(!self.set(&RIGHTS), Rule::NoRight);
+    }
+}

@@ -1,0 +1,363 @@
+//! Widths.
+
+use super::{HIDDEN, JUNCTIONS, LEFTS, RIGHTS, Reading};
+use crate::marks::{Rule, Slip};
+use crate::sheet::{PERCENT, Width};
+
+const ABSOLUTE: u8 = 3;
+
+struct State {
+    content: Vec<Option<usize>>,
+    remaining: usize,
+    /// The average at the start of the pass, for the slip that holds it.
+    held: usize,
+}
+
+impl Reading<'_> {
+    /// "A column's longest: greatest line length over header and rows, at least 1 per cell present;
+    /// 0 with no cell."
+    pub(super) fn longest(&self, at: usize) -> usize {
+        let left_out = usize::from(self.slips(Slip::HeaderNotMeasured) && self.table.header.is_some());
+        let lines = self.cells(at, left_out).flat_map(|cell| &cell.lines);
+        lines.map(|line| line.len().max(1)).max().unwrap_or(0)
+    }
+
+    /// "Borders drawn: left if any `left` is set, right likewise, and visible columns less one, not
+    /// below 0, if any `junction` is set."
+    fn borders(&self) -> usize {
+        let all = self.slips(Slip::HiddenVisible);
+        let columns = if all { self.table.columns.len() } else { self.visible().count() };
+        let between = if self.set(&JUNCTIONS) { columns.saturating_sub(1) } else { 0 };
+        usize::from(self.set(&LEFTS)) + usize::from(self.set(&RIGHTS)) + between
+    }
+
+    /// "Percent: at most 100, of target less borders (not below 0), rounded down; without a target
+    /// it gives no width."
+    fn constraint_width(&self, width: Width) -> Option<usize> {
+        let (value, target) = (usize::from(width.value), usize::from(self.table.target));
+        if width.unit != PERCENT {
+            return Some(value);
+        }
+        if target == 0 {
+            self.fire(Rule::PercentNoTarget);
+            return None;
+        }
+        let whole = if self.slips(Slip::PercentOfTarget) { target } else { target.saturating_sub(self.borders()) };
+        self.fire(if value > 100 { Rule::PercentCapped } else { Rule::PercentPlain });
+        self.fire_if(whole == 0, Rule::PercentNothing);
+        let percent = if self.slips(Slip::PercentUncapped) { value } else { value.min(100) };
+        let up = if self.slips(Slip::PercentRounded) { 99 } else { 0 };
+        Some((whole * percent + up) / 100)
+    }
+
+    /// "Going from constraint to content takes off both paddings, stops at 0, and makes 0 into 1."
+    fn content(&self, at: usize, width: usize) -> usize {
+        width.saturating_sub(self.padding(at)).max(1)
+    }
+
+    fn lower(&self, at: usize) -> Option<usize> {
+        let [first, second] = self.column(at).widths;
+        match self.column(at).constraint {
+            6 if self.slips(Slip::BoundsSwapped) => self.constraint_width(second),
+            4 | 6 => self.constraint_width(first),
+            _ => None,
+        }
+    }
+
+    fn upper(&self, at: usize) -> Option<usize> {
+        let [first, second] = self.column(at).widths;
+        match self.column(at).constraint {
+            6 if self.slips(Slip::BoundsSwapped) => self.constraint_width(first),
+            5 => self.constraint_width(first),
+            6 => self.constraint_width(second),
+            _ => None,
+        }
+    }
+
+    /// Content widths of all columns.
+    pub fn widths(&self) -> Vec<usize> {
+        let first: Vec<_> = (0..self.table.columns.len()).map(|at| self.first(at)).collect();
+        if self.table.target == 0 || self.table.arrangement == 0 {
+            self.fire_if(self.table.target > 0, Rule::DisabledTarget);
+            let open = first.into_iter().enumerate();
+            return open.map(|(at, width)| width.unwrap_or_else(|| self.undirected(at))).collect();
+        }
+        let mut state = State { remaining: self.start(&first), content: first, held: 0 };
+        self.fix_lower_bounds(&mut state);
+        self.fix_fitting(&mut state);
+        self.fix_after_trial(&mut state);
+        self.share_rest(&mut state);
+        state.content.into_iter().map(|width| width.expect("every column is decided")).collect()
+    }
+
+    /// "First (`evaluate`): `ContentWidth` and `Hidden` take the longest; `Absolute` its width; a lower
+    /// bound fixes the column when longest plus padding is at most the bound."
+    fn first(&self, at: usize) -> Option<usize> {
+        let column = self.column(at);
+        match column.constraint {
+            HIDDEN | 2 => Some(self.first_longest(at)),
+            ABSOLUTE => self.first_absolute(at, column.widths[0]),
+            4 | 6 => self.first_lower(at),
+            _ => None,
+        }
+    }
+
+    fn first_longest(&self, at: usize) -> usize {
+        self.fire(match (self.hidden(at), self.longest[at]) {
+            (true, 0) => Rule::FirstHiddenBare,
+            (true, _) => Rule::FirstHidden,
+            (false, 0) => Rule::FirstContentBare,
+            (false, _) => Rule::FirstContent,
+        });
+        self.longest[at].max(1)
+    }
+
+    fn first_absolute(&self, at: usize, width: Width) -> Option<usize> {
+        let width = self.constraint_width(width);
+        self.fire(match width {
+            None => Rule::AbsoluteOpen,
+            Some(width) if width <= self.padding(at) => Rule::FirstAbsoluteEaten,
+            Some(_) => Rule::FirstAbsolute,
+        });
+        width.map(|width| self.content(at, width))
+    }
+
+    fn first_lower(&self, at: usize) -> Option<usize> {
+        let bound = self.lower(at)?;
+        let padding = if self.slips(Slip::LowerWithoutPadding) { 0 } else { self.padding(at) };
+        let full = self.longest[at] + padding;
+        if full > bound || (full == bound && self.slips(Slip::LowerStrict)) {
+            return None;
+        }
+        self.fire(if full == bound { Rule::FirstLowerEqual } else { Rule::FirstLower });
+        Some(self.content(at, bound))
+    }
+
+    /// "No target, or `Disabled`: the longest; if an upper bound is below the longest (padding not
+    /// counted), the bound made content."
+    fn undirected(&self, at: usize) -> usize {
+        let longest = self.longest[at];
+        let counted = if self.slips(Slip::DisabledCountsPadding) { self.padding(at) } else { 0 };
+        let bound = self.upper(at);
+        if let Some(bound) = bound.filter(|bound| *bound < longest + counted) {
+            self.fire(Rule::PlainUpper);
+            return self.content(at, bound);
+        }
+        self.fire_if(bound.is_some_and(|bound| bound < longest + self.padding(at)), Rule::PlainUpperPadding);
+        self.fire(if longest == 0 { Rule::PlainBare } else { Rule::PlainLongest });
+        longest.max(1)
+    }
+
+    /// "the remaining width is target less borders, undecided paddings and decided visible full
+    /// widths, never below 0."
+    fn start(&self, first: &[Option<usize>]) -> usize {
+        let mut taken = self.borders();
+        for (at, content) in first.iter().enumerate() {
+            if self.hidden(at) && !self.slips(Slip::HiddenCharged) {
+                continue;
+            }
+            let bare = self.slips(Slip::DecidedEmptyFree) && self.column(at).constraint == 2;
+            let content = if bare { self.longest[at] } else { content.unwrap_or(0) };
+            taken += content + self.padding(at);
+        }
+        self.fire_if(taken > self.table.target.into(), Rule::StartStopped);
+        self.less(self.table.target.into(), taken)
+    }
+
+    fn less(&self, width: usize, taken: usize) -> usize {
+        if self.slips(Slip::RemainingWraps) {
+            return (width as u16).wrapping_sub(taken as u16).into();
+        }
+        width.saturating_sub(taken)
+    }
+
+    fn undecided(&self, state: &State) -> usize {
+        state.content.iter().filter(|content| content.is_none()).count()
+    }
+
+    /// "Average is remaining over undecided count, 0 if none."
+    fn average(&self, state: &State) -> usize {
+        state.remaining.checked_div(self.undecided(state)).unwrap_or(0)
+    }
+
+    fn average_in_pass(&self, state: &State) -> usize {
+        if self.slips(Slip::AverageHeld) { state.held } else { self.average(state) }
+    }
+
+    /// "Fixing takes off the width offered, before 0 becomes 1, and the remaining width stops at 0."
+    fn fix(&self, state: &mut State, at: usize, offered: usize, charged: usize) {
+        self.fire_if(charged > state.remaining, Rule::RemainingStopped);
+        state.remaining = self.less(state.remaining, charged);
+        state.content[at] = Some(offered.max(1));
+    }
+
+    /// "Column order; a pass that fixed a column is repeated." True if it fixed one.
+    fn pass(&self, state: &mut State, offer: impl Fn(&State, usize) -> Option<(usize, usize)>) -> bool {
+        let before = self.undecided(state);
+        state.held = self.average(state);
+        for at in 0..state.content.len() {
+            if state.content[at].is_some() {
+                continue;
+            }
+            if let Some((offered, charged)) = offer(state, at) {
+                self.fix(state, at, offered, charged);
+            }
+        }
+        self.undecided(state) < before
+    }
+
+    /// A bound is made content before it is offered, so one eaten up by padding is charged 1.
+    fn offer_bound(&self, at: usize, bound: usize, eaten: Rule) -> (usize, usize) {
+        let content = self.content(at, bound);
+        self.fire_if(bound <= self.padding(at), eaten);
+        let free = self.slips(Slip::EatenFree) && bound <= self.padding(at);
+        (content, if free { 0 } else { content })
+    }
+
+    /// "1. Lower bounds above the average are fixed."
+    fn fix_lower_bounds(&self, state: &mut State) {
+        let offer = |state: &State, at: usize| self.offer_lower(at, self.average_in_pass(state));
+        if !self.pass(state, offer) || self.slips(Slip::OneLowerPass) {
+            return;
+        }
+        while self.pass(state, offer) {
+            self.fire(Rule::LowerAgain);
+        }
+    }
+
+    fn offer_lower(&self, at: usize, average: usize) -> Option<(usize, usize)> {
+        let bound = self.lower(at)?;
+        let compared = if self.slips(Slip::LowerLessPadding) { self.content(at, bound) } else { bound };
+        self.fire_if(compared == average, Rule::LowerEqual);
+        if compared <= average {
+            return None;
+        }
+        self.fire(Rule::LowerFixed);
+        Some(self.offer_bound(at, bound, Rule::LowerEaten))
+    }
+
+    /// "2. A pass begins only if the average isn't 0"
+    fn fix_fitting(&self, state: &mut State) {
+        let offer = |state: &State, at: usize| self.offer_fitting(at, self.average_in_pass(state));
+        let mut again = false;
+        while self.undecided(state) > 0 {
+            let barred = self.average(state) == 0;
+            self.fire_if(barred, Rule::FitBarred);
+            if barred && !self.slips(Slip::PassAtZero) || !self.pass(state, offer) {
+                return;
+            }
+            self.fire_if(again, Rule::FitAgain);
+            if self.slips(Slip::OneFittingPass) {
+                return;
+            }
+            again = true;
+        }
+    }
+
+    /// "fix at an upper bound that is at most average plus padding and at most longest plus padding;
+    /// else at the longest if at most the average."
+    fn offer_fitting(&self, at: usize, average: usize) -> Option<(usize, usize)> {
+        if let Some(bound) = self.upper(at).filter(|bound| self.upper_fits(at, *bound, average)) {
+            self.fire(Rule::UpperFixed);
+            return Some(self.offer_bound(at, bound, Rule::UpperEaten));
+        }
+        let longest = self.longest[at];
+        if longest > average || (longest == average && self.slips(Slip::LongestStrict)) {
+            return None;
+        }
+        self.fire_if(longest == average, Rule::FitEqual);
+        self.fire(if longest == 0 { Rule::FitBare } else { Rule::FitFixed });
+        let charged = if self.slips(Slip::ChargesOne) { longest.max(1) } else { longest };
+        Some((longest, charged))
+    }
+
+    fn upper_fits(&self, at: usize, bound: usize, average: usize) -> bool {
+        let padding = self.padding(at);
+        let room = if self.slips(Slip::UpperLessPadding) { average } else { average + padding };
+        let full = self.longest[at] + padding;
+        self.fire_if(bound > room, Rule::UpperOverAverage);
+        self.fire_if(bound > full, Rule::UpperOverLongest);
+        let fits = bound <= room && (bound <= full || self.slips(Slip::UpperAnyLongest));
+        self.fire_if(fits && bound == room, Rule::UpperAtAverage);
+        self.fire_if(fits && bound == full, Rule::UpperAtLongest);
+        fits
+    }
+
+    /// "3. Split the column's lines at the average; fix at the longest part if it is shorter by 3 or
+    /// more."
+    fn fix_after_trial(&self, state: &mut State) {
+        let offer = |state: &State, at: usize| self.offer_trial(at, self.average_in_pass(state));
+        if !self.pass(state, offer) || self.slips(Slip::OneTrialPass) {
+            return;
+        }
+        while self.pass(state, offer) {
+            self.fire(Rule::TrialAgain);
+        }
+    }
+
+    fn offer_trial(&self, at: usize, average: usize) -> Option<(usize, usize)> {
+        let part = self.longest_part(at, average);
+        let saved = average.saturating_sub(part);
+        self.fire_if(average == 0, Rule::TrialZero);
+        self.fire_if(saved == 2, Rule::TrialTwo);
+        let enough = match self.slip {
+            Some(Slip::TwoSaved) => 2,
+            Some(Slip::FourSaved) => 4,
+            _ => 3,
+        };
+        if saved < enough {
+            return None;
+        }
+        self.fire_if(saved == 3, Rule::TrialThree);
+        self.fire(if part == 0 { Rule::TrialNothing } else { Rule::TrialFixed });
+        let charged = if self.slips(Slip::TrialAtLeastOne) { part.max(1) } else { part };
+        Some((part, charged))
+    }
+
+    fn longest_part(&self, at: usize, average: usize) -> usize {
+        self.trial.set(true);
+        let left_out = usize::from(self.slips(Slip::HeaderNotTried) && self.table.header.is_some());
+        let parts = self.cells(at, left_out).flat_map(|cell| self.wrap(cell, at, average.max(1)));
+        let longest = parts.map(|part| part.len()).max().unwrap_or(0);
+        self.trial.set(false);
+        longest
+    }
+
+    /// "4. If columns are left, raise remaining to their number, share evenly, the first ones taking
+    /// the excess. If none is left and arrangement is 2, the remainder is shared so among visible
+    /// columns."
+    fn share_rest(&self, state: &mut State) {
+        let left = self.undecided(state);
+        if left > 0 {
+            self.fire_if(state.remaining < left, Rule::ShareRaised);
+            let total = state.remaining.max(left);
+            self.fire(if total % left == 0 { Rule::ShareEven } else { Rule::ShareExcess });
+            let mut shares = self.share(total, left).into_iter();
+            for content in state.content.iter_mut().filter(|content| content.is_none()) {
+                *content = shares.next().map(|share| share.max(1));
+            }
+        } else if self.table.arrangement == 2 {
+            self.widen(state);
+        }
+    }
+
+    fn widen(&self, state: &mut State) {
+        let skips = |at: &usize| self.slips(Slip::FullSkipsAbsolute) && self.column(*at).constraint == ABSOLUTE;
+        let widened: Vec<usize> = self.visible().filter(|at| !skips(at)).collect();
+        self.fire(match (widened.len(), state.remaining) {
+            (0, _) => Rule::FullNoColumn,
+            (_, 0) => Rule::FullNothing,
+            (count, rest) if rest % count == 0 => Rule::FullEven,
+            _ => Rule::FullExcess,
+        });
+        for (at, share) in widened.iter().zip(self.share(state.remaining, widened.len())) {
+            state.content[*at] = state.content[*at].map(|content| content + share);
+        }
+    }
+
+    fn share(&self, total: usize, count: usize) -> Vec<usize> {
+        let last = self.slips(Slip::ExcessLast);
+        let extra = |at: usize| usize::from(if last { at >= count - total % count } else { at < total % count });
+        (0..count).map(|at| total / count + extra(at)).collect()
+    }
+}
