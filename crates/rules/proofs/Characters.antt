@@ -31,6 +31,7 @@ unfolding joined
 all-joined P j h [] k = tt
 all-joined P j h (p ∷ ps) k = all-append P p (joinedMore j ps) (k .0) (all-joinedMore P j h ps (k .1))
 
+-- and so of the whole line
 pub all-lineOf : (P : ℕ → Type 0) (l j r : List ℕ) → All P l → All P j → All P r → (ps : List (List ℕ)) → All (All P) ps → All P (lineOf l j r ps)
 unfolding lineOf
 all-lineOf P l j r hl hj hr ps k = all-append P l (joined j ps ++ r) hl (all-append P (joined j ps) r (all-joined P j hj ps k) hr)
@@ -70,10 +71,12 @@ module _ (S : List ℕ) (chars : All Optional S) where
       go true = (printable-ruled always k vs, tt)
       go false = tt
 
+  -- a text line, of printable areas
   pub printable-textLine : (k : ℕ) (ps : List (List ℕ)) → All (All Printable) ps → All Printable (textLine S k ps)
   unfolding textLine
   printable-textLine k ps h = search (all-lineOf, printable-edge)
 
+-- an area's characters
 pub printable-area : (c : Column) (w a : ℕ) (l : List ℕ) → All Printable l → All Printable (area c w a l)
 unfolding area
 printable-area c w a l h = let space : Printable 32 = omega arith in search (all-append, all-replicate)
@@ -98,6 +101,7 @@ module _ (t : Table) (T : TableLimits t) (ws : List ℕ) where
     plain-at : (j : ℕ) → Plain (cellAt r j)
     plain-at j = all-default Plain (r .cells) j noCell (inl refl, (tt, tt)) (all-imp CellLimits Plain plain (r .cells) R)
 
+    -- the delimiter chosen, the cell's lines, its areas
     pub printable-delimiter : (j : ℕ) → Printable (delimiterOf t (columnAt t j) (cellAt r j))
     printable-delimiter j =
         let space : Printable 32 = omega arith in

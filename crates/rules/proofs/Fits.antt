@@ -34,10 +34,12 @@ fitting-le w i = go (leb (textWidth i) w) refl
     go true e = leb-true (textWidth i) w e
     go false e = rw width-nil (omega arith)
 
+-- a line that is cut fits
 pub short-cutLine : (w : ℕ) (i l : List ℕ) → Short w (cutLine w i l)
 unfolding cutLine
 short-cutLine w i l = simp (width-append, width-first) (omega (arith, fitting-le w i))
 
+-- so do all lines of a cell that is cut
 pub short-cut : (w : ℕ) (i : List ℕ) (h : ℕ) (ls : List (List ℕ)) → All (Short w) ls → All (Short w) (cut w i h ls)
 short-cut w i h ls k = all-cut (Short w) w i h ls (rw width-nil (omega arith)) (λ l s. short-cutLine w i l) k
 

@@ -44,7 +44,7 @@ fill-lengths : (c : ℕ) (vs : List ℕ) → map length (map (λ v. replicate v 
 fill-lengths c [] = refl
 fill-lengths c (v ∷ vs) = let e = length-replicate v c in let i = fill-lengths c vs in cc
 
-area-lengths : (t : Table) (ws : List ℕ) (r : Row) (k : ℕ) (js : List ℕ) → map length (map (areaAt t ws r k) js) ≡ map (visibleWidth t ws) js
+pub area-lengths : (t : Table) (ws : List ℕ) (r : Row) (k : ℕ) (js : List ℕ) → map length (map (areaAt t ws r k) js) ≡ map (visibleWidth t ws) js
 area-lengths t ws r k [] = refl
 area-lengths t ws r k (j ∷ js) = let e = length-areaAt t ws r k j in let i = area-lengths t ws r k js in cc
 

@@ -7,6 +7,7 @@ use mathlib.Core.Bool.{Bool, true, false, not, _||_}
 use native.Mathlib.Omega.{arith}
 use lib.ListN.{length, replicate}
 use lib.Dec.{eqb}
+use borrow.Author.Tests.{eqb-false, not-true}
 use Rattle.rules.specs.Quote.{ascii}
 use Rattle.rules.specs.Text.{greatest, sum, upFrom, keep, flat, textWidth, firstOf, restOf}
 use Rattle.rules.specs.Sheet.{Column, Cell, Row, Table, noWidth, allRows}
@@ -34,6 +35,7 @@ cellBytes x = x .delimiter ∷ x .alignment ∷ length (x .lines) ∷ flat (map 
 abbrev rowBytes : Row → List ℕ
 rowBytes r = r .limit ∷ length (r .cells) ∷ flat (map cellBytes (r .cells))
 
+-- the whole sheet
 abbrev pub sheetOf : Table → List ℕ
 sheetOf t =
     (t .edition ∷ t .arrangement ∷ twoBytes (t .target)) ++ (t .delimiter ∷ length (t .indicator) ∷ t .indicator) ++ (length (t .style) ∷ t .style)
@@ -72,6 +74,26 @@ conditions S =
     ∷ not (eqb (glyph (glyphAt S contentLines)) (glyph (glyphAt S headerRule)))
     ∷ not (eqb (glyph (glyphAt S contentLines)) (glyph (glyphAt S rowRule)))
     ∷ []
+
+unlike : (a b : ℕ) → not (eqb a b) ≡ true → a ≢ b
+unlike a b h = eqb-false a b (not-true (eqb a b) h)
+
+-- a style that meets them all is readable
+pub conditions-readable : (S : List ℕ) → conditions S ≡ replicate 12 true → Readable S
+conditions-readable S e = record {
+  top-left = unlike (glyphAt S topBorder) 0 (cc);
+  top-fill = unlike (glyphAt S (topBorder + 1)) 0 (cc);
+  top-junction = unlike (glyphAt S (topBorder + 2)) 0 (cc);
+  top-right = unlike (glyphAt S (topBorder + 3)) 0 (cc);
+  top = unlike (glyph (glyphAt S (topBorder + 2))) (glyph (glyphAt S (topBorder + 1))) (cc);
+  header-rule = cc;
+  row-rule = cc;
+  fills = unlike (glyph (glyphAt S (headerRule + 1))) (glyph (glyphAt S (rowRule + 1))) (cc);
+  header-header = unlike (glyph (glyphAt S headerLines)) (glyph (glyphAt S headerRule)) (cc);
+  header-row = unlike (glyph (glyphAt S headerLines)) (glyph (glyphAt S rowRule)) (cc);
+  content-header = unlike (glyph (glyphAt S contentLines)) (glyph (glyphAt S headerRule)) (cc);
+  content-row = unlike (glyph (glyphAt S contentLines)) (glyph (glyphAt S rowRule)) (cc);
+}
 
 -- two accepted sheets with one style that meets the conditions cs, a visible column each, rows of hs and ks lines, and one page
 pub record Pair (t u : Table) (cs : List Bool) (hs ks : List ℕ) : Type 0 where
@@ -171,7 +193,7 @@ a = one 0 0 (ascii "a" ∷ [])
 abbrev b : Row
 b = one 0 0 (ascii "b" ∷ [])
 
--- what stands in for each premise in turn, the others being met: the pages are equal, and the conclusion fails
+-- in each pair the premise named fails and the others hold; the pages are equal, and the conclusion fails
 pub record Needed : Type 0 where
   pub top-junction : Pair (topAlike (3 ∷ 5 ∷ [])) (topAlike (5 ∷ 3 ∷ [])) (replicate 4 true ++ (false ∷ replicate 7 true)) [] []
   pub top-junction-breaks : ¬ Agree (topAlike (3 ∷ 5 ∷ [])) (topAlike (5 ∷ 3 ∷ []))
