@@ -14,7 +14,7 @@ use Rattle.rules.specs.Page.{visibleWidth, visibleWidths, height, areaAt
 use Rattle.rules.specs.Words.{Readable}
 use Rattle.rules.proofs.Lists.{all-map}
 use Rattle.rules.proofs.Cancel.{line-cancel, border-cancel, runs}
-use Rattle.rules.proofs.Lines.{area-lengths}
+use Rattle.rules.proofs.Fits.{area-lengths}
 use Rattle.rules.proofs.Rows.{Tells, apart, headed-same, rows-same}
 
 given-set : (c : ℕ) → c ≢ 0 → given c ≡ true

@@ -1,7 +1,7 @@
 -- Every line of a cell fits its content width, so every area has its visible width. Assumes nothing.
 use Prim.Native.Nat.{ℕ, _+_, _-_, _≤_}
 use mathlib.Core.Path.{_≡_, refl}
-use mathlib.Core.List.{List, [], _∷_, _++_}
+use mathlib.Core.List.{List, [], _∷_, _++_, map}
 use mathlib.Core.Bool.{Bool, true, false}
 use native.Mathlib.Omega.{arith}
 use lib.ListN.{length, getD, take}
@@ -56,3 +56,8 @@ unfolding areaAt
 length-areaAt t ws r k j =
     length-area (columnAt t j) (getD ws j 0) (alignmentOf (columnAt t j) (cellAt r j)) (getD (cellLines t ws r j) k [])
     (all-default (Short (getD ws j 0)) (cellLines t ws r j) k [] (rw width-nil (omega arith)) (short-cell t ws r j))
+
+-- so have the areas of a line, each its own
+pub area-lengths : (t : Table) (ws : List ℕ) (r : Row) (k : ℕ) (js : List ℕ) → map length (map (areaAt t ws r k) js) ≡ map (visibleWidth t ws) js
+area-lengths t ws r k [] = refl
+area-lengths t ws r k (j ∷ js) = let e = length-areaAt t ws r k j in let i = area-lengths t ws r k js in cc
