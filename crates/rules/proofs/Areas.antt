@@ -20,6 +20,7 @@ pub visible-below : (t : Table) → All (λ j. j < length (t .columns)) (visible
 unfolding visible numbers
 visible-below t = all-keep (λ j. j < length (t .columns)) _ (upFrom 0 (length (t .columns))) (below-upFrom 0 (length (t .columns)) (length (t .columns)) (omega arith))
 
+-- its content width is at least 1
 pub content-some : (t : Table) (j : ℕ) → j < length (t .columns) → 1 ≤ getD (contents t) j 0
 content-some t j h = all-getD (λ w. 1 ≤ w) (contents t) j 0 (omega (arith, length-contents t)) (contents-some t)
 
@@ -28,11 +29,13 @@ pub widths-some : (t : Table) → All (λ v. 1 ≤ v) (widthsOf t)
 unfolding visibleWidths
 widths-some t = all-map-imp (λ j. j < length (t .columns)) (λ v. 1 ≤ v) (visibleWidth t (contents t)) (λ j h. omega (arith, content-some t j h)) (visible t) (visible-below t)
 
+-- as many visible widths as visible columns
 pub length-widths : (t : Table) (ws : List ℕ) → length (visibleWidths t ws) ≡ length (visible t)
 unfolding visibleWidths
 length-widths t ws = length-map (visible t) (visibleWidth t ws)
 
 module _ (t : Table) (ws : List ℕ) (r : Row) where
+  -- a row has as many lines of areas as it has lines
   pub length-areas : length (areas t ws r) ≡ height t ws r
   unfolding areas
   length-areas = length-map (upFrom 0 (height t ws r)) (λ k. map (areaAt t ws r k) (visible t)) ∙ length-upFrom 0 (height t ws r)

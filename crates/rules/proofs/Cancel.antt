@@ -55,7 +55,7 @@ line-joined : (l j r : List ℕ) (ps qs : List (List ℕ)) → lineOf l j r ps �
 unfolding lineOf
 line-joined l j r ps qs e = append-cancel-right (joined j ps) (joined j qs) r (append-cancel-left l _ _ e)
 
--- a line whose parts have known lengths
+-- parts of known lengths
 more-cancel : (j : List ℕ) (ps qs : List (List ℕ)) → map length ps ≡ map length qs → joinedMore j ps ≡ joinedMore j qs → ps ≡ qs
 unfolding joinedMore
 more-cancel j [] [] n e = refl
@@ -76,6 +76,7 @@ joined-cancel j (p ∷ ps) (q ∷ qs) n e =
     let s : ps ≡ qs = more-cancel j ps qs (cc) (r .1) in
     cc
 
+-- a line whose parts have known lengths tells them
 pub line-cancel : (l j r : List ℕ) (ps qs : List (List ℕ)) → map length ps ≡ map length qs → lineOf l j r ps ≡ lineOf l j r qs → ps ≡ qs
 line-cancel l j r ps qs n e = joined-cancel j ps qs n (line-joined l j r ps qs e)
 

@@ -3,17 +3,17 @@ use Prim.Native.Nat.{ℕ, zero, suc, _+_, _-_}
 use mathlib.Core.Logic.{inl, inr}
 use mathlib.Core.Path.{refl}
 use mathlib.Core.List.{List, [], _∷_, _++_, map}
-use mathlib.Core.Bool.{Bool, true, false, _||_}
+use mathlib.Core.Bool.{Bool, true, false}
 use native.Mathlib.Omega.{arith}
 use lib.ListN.{getD, replicate}
 use lib.Dec.{leb}
-use Rattle.rules.specs.Text.{textWidth, firstOf, blank, orElse, upFrom, All}
+use Rattle.rules.specs.Text.{textWidth, firstOf, orElse, upFrom, All}
 use Rattle.rules.specs.Sheet.{Column, Cell, Row, Table, noCell, noColumn, columnAt, cellAt}
 use Rattle.rules.specs.Limits.{Printable, Optional, ColumnLimits, LineLimits, CellLimits, RowLimits, TableLimits}
-use Rattle.rules.specs.Style.{topBorder, headerLines, headerRule, contentLines, rowRule, bottomBorder, glyphAt, glyph, anyLeft, anyRight, anyJunction, isVisible}
+use Rattle.rules.specs.Style.{glyphAt, glyph, isVisible}
 use Rattle.rules.specs.Wrap.{delimiterOf, fitting, cutLine}
 use Rattle.rules.specs.Widths.{visible, contents}
-use Rattle.rules.specs.Page.{alignmentOf, before, area, wrapped, cellLines, height, areaAt, areas, joinedMore, joined, lineOf, edge, ruled, textLine, shown, headed, ruledRows, rowText, visibleWidths, framed, pageLines}
+use Rattle.rules.specs.Page.{alignmentOf, area, wrapped, cellLines, height, areaAt, areas, joinedMore, joined, lineOf, edge, ruled, textLine, shown, rowText, framed, pageLines}
 use Rattle.rules.proofs.Lists.{all-imp, all-append, all-map, all-map-imp, all-replicate, all-default}
 use Rattle.rules.proofs.Text.{all-first}
 use Rattle.rules.proofs.Split.{all-wrapLines}
@@ -31,6 +31,7 @@ unfolding joined
 all-joined P j h [] k = tt
 all-joined P j h (p ∷ ps) k = all-append P p (joinedMore j ps) (k .0) (all-joinedMore P j h ps (k .1))
 
+-- and so of the whole line
 pub all-lineOf : (P : ℕ → Type 0) (l j r : List ℕ) → All P l → All P j → All P r → (ps : List (List ℕ)) → All (All P) ps → All P (lineOf l j r ps)
 unfolding lineOf
 all-lineOf P l j r hl hj hr ps k = all-append P l (joined j ps ++ r) hl (all-append P (joined j ps) r (all-joined P j hj ps k) hr)
@@ -55,13 +56,12 @@ module _ (S : List ℕ) (chars : All Optional S) where
   printable-edge true k = (printable-at k, tt)
   printable-edge false k = tt
 
+  printable-runs : (k : ℕ) (vs : List ℕ) → All (All Printable) (map (λ v. replicate v (glyph (glyphAt S k))) vs)
+  printable-runs k vs = all-map (All Printable) (λ v. replicate v (glyph (glyphAt S k))) (λ v. all-replicate Printable (glyph (glyphAt S k)) v (printable-at k)) vs
+
   pub printable-ruled : (always : Bool) (k : ℕ) (vs : List ℕ) → All Printable (ruled S always k vs)
   unfolding ruled
-  printable-ruled always k vs =
-      all-lineOf Printable (edge (anyLeft S) (glyphAt S k)) (edge (always || anyJunction S) (glyphAt S (k + 2))) (edge (anyRight S) (glyphAt S (k + 3)))
-      (printable-edge (anyLeft S) k) (printable-edge (always || anyJunction S) (k + 2)) (printable-edge (anyRight S) (k + 3))
-      (map (λ v. replicate v (glyph (glyphAt S (k + 1)))) vs)
-      (all-map (All Printable) (λ v. replicate v (glyph (glyphAt S (k + 1)))) (λ v. all-replicate Printable (glyph (glyphAt S (k + 1))) v (printable-at (k + 1))) vs)
+  printable-ruled always k vs = search (all-lineOf, printable-edge, printable-runs)
 
   pub printable-shown : (always : Bool) (k : ℕ) (vs : List ℕ) → All (All Printable) (shown S always k vs)
   unfolding shown
@@ -71,19 +71,15 @@ module _ (S : List ℕ) (chars : All Optional S) where
       go true = (printable-ruled always k vs, tt)
       go false = tt
 
+  -- a text line, of printable areas
   pub printable-textLine : (k : ℕ) (ps : List (List ℕ)) → All (All Printable) ps → All Printable (textLine S k ps)
   unfolding textLine
-  printable-textLine k ps h =
-      all-lineOf Printable (edge (anyLeft S) (glyphAt S k)) (edge (anyJunction S) (glyphAt S (k + 1))) (edge (anyRight S) (glyphAt S (k + 2)))
-      (printable-edge (anyLeft S) k) (printable-edge (anyJunction S) (k + 1)) (printable-edge (anyRight S) (k + 2)) ps h
+  printable-textLine k ps h = search (all-lineOf, printable-edge)
 
+-- an area's characters
 pub printable-area : (c : Column) (w a : ℕ) (l : List ℕ) → All Printable l → All Printable (area c w a l)
 unfolding area
-printable-area c w a l h =
-    let n = c .left + before a (w - textWidth l) in
-    let m = (w - textWidth l - before a (w - textWidth l)) + c .right in
-    let space : Printable 32 = omega arith in
-    all-append Printable (blank n) (l ++ blank m) (all-replicate Printable 32 n space) (all-append Printable l (blank m) h (all-replicate Printable 32 m space))
+printable-area c w a l h = let space : Printable 32 = omega arith in search (all-append, all-replicate)
 
 printable-cutLine : (w : ℕ) (i l : List ℕ) → All Printable i → All Printable l → All Printable (cutLine w i l)
 unfolding cutLine fitting
@@ -105,6 +101,7 @@ module _ (t : Table) (T : TableLimits t) (ws : List ℕ) where
     plain-at : (j : ℕ) → Plain (cellAt r j)
     plain-at j = all-default Plain (r .cells) j noCell (inl refl, (tt, tt)) (all-imp CellLimits Plain plain (r .cells) R)
 
+    -- the delimiter chosen, the cell's lines, its areas
     pub printable-delimiter : (j : ℕ) → Printable (delimiterOf t (columnAt t j) (cellAt r j))
     printable-delimiter j =
         let space : Printable 32 = omega arith in
@@ -136,17 +133,10 @@ module _ (t : Table) (T : TableLimits t) (ws : List ℕ) where
   pub printable-framed : (rs : List Row) → All (λ r. All CellLimits (r .cells)) rs → All (All Printable) (framed t ws rs)
   unfolding framed
   printable-framed rs h =
-      let S = t .style in
-      let vs = visibleWidths t ws in
-      let shows = printable-shown S (T .style-characters) in
-      let text : (k : ℕ) (qs : List Row) → All (λ r. All CellLimits (r .cells)) qs → All (λ r. All (All Printable) (rowText t ws k r)) qs
-      = λ k qs g. all-imp (λ r. All CellLimits (r .cells)) (λ r. All (All Printable) (rowText t ws k r)) (λ r c. printable-rowText r c k) qs g in
-      all-append (All Printable) (shown S true topBorder vs) _ (shows true topBorder vs)
-      (all-append (All Printable) (headed (rowText t ws headerLines) (shown S false headerRule vs) (t .header)) _
-      (all-headed (All Printable) (rowText t ws headerLines) (shown S false headerRule vs) (shows false headerRule vs) (t .header) (text headerLines (t .header) (rows-cells (t .header) _ (T .header-row))))
-      (all-append (All Printable) (ruledRows (rowText t ws contentLines) (shown S false rowRule vs) rs) _
-      (all-ruledRows (All Printable) (rowText t ws contentLines) (shown S false rowRule vs) (shows false rowRule vs) rs (text contentLines rs h))
-      (shows true bottomBorder vs)))
+      let shows = printable-shown (t .style) (T .style-characters) in
+      let text : (k : ℕ) (qs : List Row) → All (λ r. All CellLimits (r .cells)) qs → All (λ r. All (All Printable) (rowText t ws k r)) qs = λ k qs g. all-imp (λ r. All CellLimits (r .cells)) (λ r. All (All Printable) (rowText t ws k r)) (λ r c. printable-rowText r c k) qs g in
+      let header = rows-cells (t .header) _ (T .header-row) in
+      search (all-append, all-headed, all-ruledRows, shows, text, header)
 
 -- the page's lines are printable
 pub printable-page : (t : Table) → TableLimits t → All (All Printable) (pageLines t)

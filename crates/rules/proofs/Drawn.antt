@@ -12,15 +12,16 @@ use Rattle.rules.specs.Style.{topBorder, headerLines, headerRule, conten
 use Rattle.rules.specs.Widths.{visible}
 use Rattle.rules.specs.Page.{visibleWidth, visibleWidths, height, areaAt, areas, lineOf, joined, edge, ruled, textLine, shown, headed, ruledRows, rowText, framed}
 use Rattle.rules.specs.Words.{Readable}
-use Rattle.rules.proofs.Lists.{all-map, map-then}
+use Rattle.rules.proofs.Lists.{all-map}
 use Rattle.rules.proofs.Cancel.{line-cancel, border-cancel, runs}
-use Rattle.rules.proofs.Fits.{length-areaAt}
+use Rattle.rules.proofs.Fits.{area-lengths}
 use Rattle.rules.proofs.Rows.{Tells, apart, headed-same, rows-same}
 
 given-set : (c : ℕ) → c ≢ 0 → given c ≡ true
 given-set zero h = absurd (h refl)
 given-set (suc n) h = refl
 
+-- a visible border or rule is one line
 pub shown-visible : (S : List ℕ) (always : Bool) (k : ℕ) (vs : List ℕ) → isVisible S k ≡ true → shown S always k vs ≡ ruled S always k vs ∷ []
 unfolding shown
 shown-visible S always k vs h = rw (h, shown)
@@ -41,17 +42,20 @@ unfolding lineOf joined
 fill-of x y f g v vs j k r s e = cc
 
 module _ (S : List ℕ) (R : Readable S) where
+  -- its lefts are drawn, and its top border
   left-drawn : anyLeft S ≡ true
   left-drawn = rw (given-set (glyphAt S topBorder) (R .top-left))
 
   top-visible : isVisible S topBorder ≡ true
   top-visible = rw (given-set (glyphAt S topBorder) (R .top-left))
 
+  -- the top border tells the widths
   top-tells : (vs ws : List ℕ) → 0 < length vs → 0 < length ws → ruled S true topBorder vs ≡ ruled S true topBorder ws → vs ≡ ws
   unfolding ruled
   top-tells vs ws h k e =
       border-cancel (edge (anyLeft S) (glyphAt S topBorder)) (edge (anyRight S) (glyphAt S (topBorder + 3))) (glyph (glyphAt S (topBorder + 2))) (glyph (glyphAt S (topBorder + 1))) (R .top) vs ws h k e
 
+  -- a rule begins like no text line
   abbrev Rule : List ℕ → Type 0
   Rule l = Unlike (glyph (glyphAt S headerLines)) (glyph (glyphAt S contentLines)) l
 
@@ -71,6 +75,7 @@ module _ (S : List ℕ) (R : Readable S) where
   unfolding ruled lineOf
   row-rule vs = rw left-drawn ((λ e. R .header-row (sym e)), (λ e. R .content-row (sym e)))
 
+  -- the two rules differ
   rules-differ : (vs : List ℕ) → 0 < length vs → All (λ v. 1 ≤ v) vs → ruled S false headerRule vs ≢ ruled S false rowRule vs
   unfolding ruled
   rules-differ [] h k e = not-suc-le-zero h
@@ -85,7 +90,7 @@ pub areas-fit : (t : Table) (ws : List ℕ) (r : Row) → All (λ x. map length 
 unfolding areas visibleWidths
 areas-fit t ws r =
     all-map (λ x. map length x ≡ map (visibleWidth t ws) (visible t)) (λ k. map (areaAt t ws r k) (visible t))
-    (λ k. map-then length (areaAt t ws r k) (visibleWidth t ws) (length-areaAt t ws r k) (visible t)) (upFrom 0 (height t ws r))
+    (λ k. area-lengths t ws r k (visible t)) (upFrom 0 (height t ws r))
 
 -- the lines drawn in a style S, for visible widths vs and what each row shows
 unfoldable pub drawn : List ℕ → List ℕ → (Row → List (List (List ℕ))) → List Row → List Row → List (List ℕ)
@@ -95,6 +100,7 @@ drawn S vs a hs rs =
     ++ (ruledRows (λ r. map (textLine S contentLines) (a r)) (shown S false rowRule vs) rs
     ++ shown S true bottomBorder vs))
 
+-- so a table is drawn
 pub framed-drawn : (t : Table) (ws : List ℕ) (rs : List Row) → framed t ws rs ≡ drawn (t .style) (visibleWidths t ws) (areas t ws) (t .header) rs
 unfolding framed rowText drawn
 framed-drawn t ws rs = refl

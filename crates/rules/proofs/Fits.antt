@@ -1,7 +1,7 @@
 -- Every line of a cell fits its content width, so every area has its visible width. Assumes nothing.
 use Prim.Native.Nat.{ℕ, _+_, _-_, _≤_}
 use mathlib.Core.Path.{_≡_, refl}
-use mathlib.Core.List.{List, [], _∷_, _++_}
+use mathlib.Core.List.{List, [], _∷_, _++_, map}
 use mathlib.Core.Bool.{Bool, true, false}
 use native.Mathlib.Omega.{arith}
 use lib.ListN.{length, getD, take}
@@ -34,10 +34,12 @@ fitting-le w i = go (leb (textWidth i) w) refl
     go true e = leb-true (textWidth i) w e
     go false e = rw width-nil (omega arith)
 
+-- a line that is cut fits
 pub short-cutLine : (w : ℕ) (i l : List ℕ) → Short w (cutLine w i l)
 unfolding cutLine
 short-cutLine w i l = simp (width-append, width-first) (omega (arith, fitting-le w i))
 
+-- so do all lines of a cell that is cut
 pub short-cut : (w : ℕ) (i : List ℕ) (h : ℕ) (ls : List (List ℕ)) → All (Short w) ls → All (Short w) (cut w i h ls)
 short-cut w i h ls k = all-cut (Short w) w i h ls (rw width-nil (omega arith)) (λ l s. short-cutLine w i l) k
 
@@ -54,3 +56,8 @@ unfolding areaAt
 length-areaAt t ws r k j =
     length-area (columnAt t j) (getD ws j 0) (alignmentOf (columnAt t j) (cellAt r j)) (getD (cellLines t ws r j) k [])
     (all-default (Short (getD ws j 0)) (cellLines t ws r j) k [] (rw width-nil (omega arith)) (short-cell t ws r j))
+
+-- so have the areas of a line, each its own
+pub area-lengths : (t : Table) (ws : List ℕ) (r : Row) (k : ℕ) (js : List ℕ) → map length (map (areaAt t ws r k) js) ≡ map (visibleWidth t ws) js
+area-lengths t ws r k [] = refl
+area-lengths t ws r k (j ∷ js) = let e = length-areaAt t ws r k j in let i = area-lengths t ws r k js in cc

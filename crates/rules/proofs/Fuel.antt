@@ -19,6 +19,7 @@ pub data View (w d : ℕ) (l p : List ℕ) : Act → Type 0 where
   fills : w < textWidth (glue d l p) → tight w l ≡ false → w < textWidth p → View w d l p fill
   begins : w < textWidth (glue d l p) → tight w l ≡ false → textWidth p ≤ w → View w d l p begin
 
+-- and each choice tells it
 pub view : (w d : ℕ) (l p : List ℕ) → View w d l p (act w d l p)
 unfolding act
 view w d l p = go (leb (textWidth (glue d l p)) w) (tight w l) (ltb w (textWidth p)) refl refl refl
@@ -35,16 +36,19 @@ unfoldable pub held : List ℕ → ℕ
 held [] = 0
 held (x ∷ xs) = 1
 
+-- at most one step
 pub held-le : (l : List ℕ) → held l ≤ 1
 unfolding held
 held-le [] = omega arith
 held-le (x ∷ xs) = omega arith
 
+-- there is always the step that ends
 pub weight-some : (ps : List (List ℕ)) → 0 < weight ps
 unfolding weight
 weight-some [] = omega arith
 weight-some (p ∷ ps) = omega (arith, weight-some ps)
 
+-- a line that is tight isn't empty
 pub tight-held : (w : ℕ) (l : List ℕ) → tight w l ≡ true → held l ≡ 1
 unfolding tight held
 tight-held w [] e = let z : _≡_ {A = ℕ} 0 1 = cc in absurd (omega arith)

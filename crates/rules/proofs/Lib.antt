@@ -23,3 +23,4 @@ pub mod Drawn
 pub mod Areas
 pub mod CellText
 pub mod Readable
+pub mod Pairs

@@ -1,7 +1,7 @@
 -- How long the lines of a page are: text lines and rules have one length, borders another. Assumes nothing.
-use Prim.Native.Nat.{ℕ, zero, suc, _+_, _-_, _*_, _≤_}
-use mathlib.Core.Path.{_≡_, refl, ap, sym, _∙_}
-use mathlib.Core.List.{List, [], _∷_, _++_, map}
+use Prim.Native.Nat.{ℕ, _+_, _-_}
+use mathlib.Core.Path.{_≡_, refl, _∙_}
+use mathlib.Core.List.{List, [], _∷_, map}
 use mathlib.Core.Bool.{Bool, true, false, _||_, cond}
 use native.Mathlib.Omega.{arith}
 use lib.ListN.{length, replicate, length-append, length-replicate, length-map}
@@ -9,8 +9,8 @@ use Rattle.rules.specs.Text.{sum, oneIf}
 use Rattle.rules.specs.Sheet.{Row, Table}
 use Rattle.rules.specs.Style.{glyphAt, glyph, anyLeft, anyRight, anyJunction, bordersOf}
 use Rattle.rules.specs.Widths.{visible, borders}
-use Rattle.rules.specs.Page.{edge, joinedMore, joined, lineOf, ruled, textLine, areaAt, visibleWidth, visibleWidths}
-use Rattle.rules.proofs.Fits.{length-areaAt}
+use Rattle.rules.specs.Page.{edge, joinedMore, joined, lineOf, ruled, textLine, areaAt, visibleWidths}
+use Rattle.rules.proofs.Fits.{area-lengths}
 
 length-edge : (b : Bool) (c : ℕ) → length (edge b c) ≡ oneIf b
 length-edge true c = refl
@@ -39,14 +39,10 @@ unfolding lineOf
 length-lineOf a b d l c r ps =
     simp (length-append, length-edge) (omega (arith, length-joined b c ps))
 
--- the parts of a border or rule have the widths, and so have a text line's areas
+-- the parts of a border or rule have the widths
 fill-lengths : (c : ℕ) (vs : List ℕ) → map length (map (λ v. replicate v c) vs) ≡ vs
 fill-lengths c [] = refl
 fill-lengths c (v ∷ vs) = let e = length-replicate v c in let i = fill-lengths c vs in cc
-
-area-lengths : (t : Table) (ws : List ℕ) (r : Row) (k : ℕ) (js : List ℕ) → map length (map (areaAt t ws r k) js) ≡ map (visibleWidth t ws) js
-area-lengths t ws r k [] = refl
-area-lengths t ws r k (j ∷ js) = let e = length-areaAt t ws r k j in let i = area-lengths t ws r k js in cc
 
 pub length-ruled : (S : List ℕ) (always : Bool) (k : ℕ) (vs : List ℕ)
     → length (ruled S always k vs) ≡ oneIf (anyLeft S) + oneIf (anyRight S) + cond (always || anyJunction S) (length vs - 1) 0 + sum vs

@@ -8,10 +8,12 @@ use native.Mathlib.Omega.{arith}
 use lib.ListN.{length, getD, take, drop, replicate}
 use Rattle.rules.specs.Text.{greatest, upFrom, keep, flat, All}
 
+-- of all that f makes
 pub all-map : {A B : Type 0} (P : B → Type 0) (f : A → B) → ((x : A) → P (f x)) → (xs : List A) → All P (map f xs)
 all-map P f h [] = tt
 all-map P f h (x ∷ xs) = (h x, all-map P f h xs)
 
+-- an entry that is there has it
 pub all-getD : {A : Type 0} (P : A → Type 0) (xs : List A) (i : ℕ) (d : A) → i < length xs → All P xs → P (getD xs i d)
 all-getD P [] i d k h = absurd (not-suc-le-zero k)
 all-getD P (x ∷ xs) zero d k h = h .0
@@ -23,18 +25,22 @@ all-default P [] i d k h = k
 all-default P (x ∷ xs) zero d k h = h .0
 all-default P (x ∷ xs) (suc i) d k h = all-default P xs i d k (h .1)
 
+-- a property that follows from another
 pub all-imp : {A : Type 0} (P Q : A → Type 0) → ((x : A) → P x → Q x) → (xs : List A) → All P xs → All Q xs
 all-imp P Q f [] h = tt
 all-imp P Q f (x ∷ xs) h = (f x (h .0), all-imp P Q f xs (h .1))
 
+-- of what f makes of good entries
 pub all-map-imp : {A B : Type 0} (P : A → Type 0) (Q : B → Type 0) (f : A → B) → ((x : A) → P x → Q (f x)) → (xs : List A) → All P xs → All Q (map f xs)
 all-map-imp P Q f g [] h = tt
 all-map-imp P Q f g (x ∷ xs) h = (g x (h .0), all-map-imp P Q f g xs (h .1))
 
+-- of two lists, one after the other
 pub all-append : {A : Type 0} (P : A → Type 0) (xs ys : List A) → All P xs → All P ys → All P (xs ++ ys)
 all-append P [] ys h k = k
 all-append P (x ∷ xs) ys h k = (h .0, all-append P xs ys (h .1) k)
 
+-- and of the second of them
 pub all-right : {A : Type 0} (P : A → Type 0) (xs ys : List A) → All P (xs ++ ys) → All P ys
 all-right P [] ys h = h
 all-right P (x ∷ xs) ys h = all-right P xs ys (h .1)
@@ -44,16 +50,19 @@ pub all-places : {A : Type 0} (P : A → Type 0) (xs : List A) (d : A) → ((i :
 all-places P [] d h = tt
 all-places P (x ∷ xs) d h = (h 0 (omega arith), all-places P xs d (λ i l. h (suc i) (omega arith)))
 
+-- of a first part
 pub all-take : {A : Type 0} (P : A → Type 0) (n : ℕ) (xs : List A) → All P xs → All P (take n xs)
 all-take P zero xs h = tt
 all-take P (suc n) [] h = tt
 all-take P (suc n) (x ∷ xs) h = (h .0, all-take P n xs (h .1))
 
+-- of a last part
 pub all-drop : {A : Type 0} (P : A → Type 0) (n : ℕ) (xs : List A) → All P xs → All P (drop n xs)
 all-drop P zero xs h = h
 all-drop P (suc n) [] h = tt
 all-drop P (suc n) (x ∷ xs) h = all-drop P n xs (h .1)
 
+-- of one entry, many times
 pub all-replicate : {A : Type 0} (P : A → Type 0) (x : A) (n : ℕ) → P x → All P (replicate n x)
 all-replicate P x zero h = tt
 all-replicate P x (suc n) h = (h, all-replicate P x n h)
@@ -64,14 +73,11 @@ unfolding flat
 all-flat P Q f g [] h = tt
 all-flat P Q f g (x ∷ xs) h = all-append Q (f x) (flat (map f xs)) (g x (h .0)) (all-flat P Q f g xs (h .1))
 
+-- lists of lists, one after the other
 pub flat-append : {A : Type 0} (xs ys : List (List A)) → flat (xs ++ ys) ≡ flat xs ++ flat ys
 unfolding flat
 flat-append [] ys = refl
 flat-append (x ∷ xs) ys = rw (flat-append xs ys) (sym (append-assoc x (flat xs) (flat ys)))
-
-pub map-then : {A B C : Type 0} (f : B → C) (g : A → B) (h : A → C) → ((x : A) → f (g x) ≡ h x) → (xs : List A) → map f (map g xs) ≡ map h xs
-map-then f g h e [] = refl
-map-then f g h e (x ∷ xs) = let i = e x in let j = map-then f g h e xs in cc
 
 -- an entry that is there, whatever stands past the end
 pub getD-map : {A B : Type 0} (f : A → B) (xs : List A) (i : ℕ) (a : A) (b : B) → i < length xs → getD (map f xs) i b ≡ f (getD xs i a)
@@ -79,6 +85,7 @@ getD-map f [] i a b h = absurd (not-suc-le-zero h)
 getD-map f (x ∷ xs) zero a b h = refl
 getD-map f (x ∷ xs) (suc i) a b h = getD-map f xs i a b (le-of-suc-le-suc h)
 
+-- f on two lists, one after the other
 pub map-append : {A B : Type 0} (f : A → B) (xs ys : List A) → map f (xs ++ ys) ≡ map f xs ++ map f ys
 map-append f [] ys = refl
 map-append f (x ∷ xs) ys = ap (λ l. f x ∷ l) (map-append f xs ys)
@@ -100,11 +107,13 @@ all-keep {A} P p (x ∷ xs) h = go (p x) (all-keep P p xs (h .1))
     go true i = (h .0, i)
     go false i = i
 
+-- as many numbers as asked for
 pub length-upFrom : (i n : ℕ) → length (upFrom i n) ≡ n
 unfolding upFrom
 length-upFrom i zero = refl
 length-upFrom i (suc n) = ap suc (length-upFrom (suc i) n)
 
+-- number k of them
 pub getD-upFrom : (i n k d : ℕ) → k < n → getD (upFrom i n) k d ≡ i + k
 unfolding upFrom
 getD-upFrom i zero k d h = absurd (not-suc-le-zero h)
@@ -126,6 +135,7 @@ unfolding upFrom
 map-shift f i zero = refl
 map-shift f i (suc n) = let r = map-shift f (suc i) n in cc
 
+-- all below m
 pub below-upFrom : (i n m : ℕ) → i + n ≤ m → All (λ j. j < m) (upFrom i n)
 unfolding upFrom
 below-upFrom i zero m l = tt
@@ -143,6 +153,7 @@ unfolding upFrom
 upFrom-last i zero = let e : i + 0 ≡ i = omega arith in rw e
 upFrom-last i (suc n) = let e : i + suc n ≡ suc i + n = omega arith in ap (λ l. i ∷ l) (upFrom-last (suc i) n ∙ rw e)
 
+-- what passes of two lists
 pub keep-append : {A : Type 0} (p : A → Bool) (xs ys : List A) → keep p (xs ++ ys) ≡ keep p xs ++ keep p ys
 unfolding keep
 keep-append p [] ys = refl
@@ -165,5 +176,6 @@ one-no p n h = rw (h, keep)
 pub keep-yes : (p : ℕ → Bool) (n : ℕ) → p n ≡ true → keep p (upFrom 0 (suc n)) ≡ keep p (upFrom 0 n) ++ (n ∷ [])
 keep-yes p n h = let e : 0 + n ≡ n = omega arith in rw (upFrom-last 0 n, e) (keep-append p (upFrom 0 n) (n ∷ []) ∙ rw (one-yes p n h))
 
+-- and column n stays out where it fails
 pub keep-no : (p : ℕ → Bool) (n : ℕ) → p n ≡ false → keep p (upFrom 0 (suc n)) ≡ keep p (upFrom 0 n)
 keep-no p n h = let e : 0 + n ≡ n = omega arith in rw (upFrom-last 0 n, e) (keep-append p (upFrom 0 n) (n ∷ []) ∙ rw (one-no p n h, append-nil))

@@ -66,6 +66,7 @@ module _ (t u : Table) (one : t .style ≡ u .style) where
         (areas-fit t (contents t)) (λ r. all-imp _ _ (λ x f. f ∙ sym w) (shownIn u r) (areas-fit u (contents u) r)) (lined t t-lines) (lined u u-lines) n in
         record { widths = w; header = s .0; rows = s .1 }
 
+    -- so pages are equal exactly where the tables agree
     pub pages-on-tables : (page t ≡ page u) ↔ Agree t u
     pages-on-tables = ((λ e. alike-agree t u (page-alike e)), (λ a. alike-page (agree-alike t u a)))
 

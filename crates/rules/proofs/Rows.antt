@@ -24,6 +24,7 @@ module _ (Q : List ℕ → Type 0) (text : Row → List (List ℕ)) (rule : List
   all-ruledMore [] h = tt
   all-ruledMore (r ∷ rs) h = all-append Q rule (text r ++ ruledMore text rule rs) ruled (all-append Q (text r) (ruledMore text rule rs) (h .0) (all-ruledMore rs (h .1)))
 
+  -- of the rows with rules between them
   pub all-ruledRows : (rs : List Row) → All (λ r. All Q (text r)) rs → All Q (ruledRows text rule rs)
   unfolding ruledRows
   all-ruledRows [] h = tt

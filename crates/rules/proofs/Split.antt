@@ -98,6 +98,7 @@ pub wrap-short : (w d : ℕ) (l : List ℕ) → textWidth l ≤ w → wrapLine w
 unfolding wrapLine
 wrap-short w d l h = rw (le-ltb w (textWidth l) h, wrapLine)
 
+-- and those are
 pub wrap-long : (w d : ℕ) (l : List ℕ) → w < textWidth l → wrapLine w d l ≡ split w d l
 unfolding wrapLine
 wrap-long w d l h = rw (lt-ltb w (textWidth l) h, wrapLine)
@@ -111,6 +112,7 @@ short-line w d l = go (ltb w (textWidth l)) refl
     go true e = all-imp (Whole w) (Short w) (λ m k. k .1) (split w d l) (whole-split w d l)
     go false e = (ltb-false w (textWidth l) e, tt)
 
+-- the same of a cell
 pub short-lines : (w d : ℕ) (ls : List (List ℕ)) → All (Short w) (wrapLines w d ls)
 unfolding wrapLines
 short-lines w d ls = all-flat (λ l. Unit {0}) (Short w) (wrapLine w d) (λ l u. short-line w d l) ls (all-unit ls)
@@ -147,6 +149,7 @@ module _ (P : ℕ → Type 0) (d : ℕ) (delimiter : P d) where
     begun = λ l p h k i j. (h, k);
   }
 
+  -- of one line
   pub all-wrapLine : (w : ℕ) (l : List ℕ) → All P l → All (All P) (wrapLine w d l)
   unfolding wrapLine split
   all-wrapLine w l h = go (ltb w (textWidth l))
@@ -155,6 +158,7 @@ module _ (P : ℕ → Type 0) (d : ℕ) (delimiter : P d) where
       go true = all-place w d (All P) (All P) (All P) (all-kept w) (weight (pieces d l)) [] (pieces d l) tt (all-pieces l h)
       go false = (h, tt)
 
+  -- of a cell's lines
   pub all-wrapLines : (w : ℕ) (ls : List (List ℕ)) → All (All P) ls → All (All P) (wrapLines w d ls)
   unfolding wrapLines
   all-wrapLines w ls h = all-flat (All P) (All P) (wrapLine w d) (all-wrapLine w) ls h

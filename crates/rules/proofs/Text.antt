@@ -12,26 +12,32 @@ pub width-length : (l : List ℕ) → textWidth l ≡ length l
 unfolding textWidth
 width-length l = refl
 
+-- two texts, one after the other
 pub width-append : (l m : List ℕ) → textWidth (l ++ m) ≡ textWidth l + textWidth m
 unfolding textWidth
 width-append l m = length-append l m
 
+-- a cut at n keeps n columns, or all
 pub width-first : (n : ℕ) (l : List ℕ) → textWidth (firstOf n l) ≡ min n (textWidth l)
 unfolding textWidth firstOf
 width-first n l = rw length-take
 
+-- and leaves the others
 pub width-rest : (n : ℕ) (l : List ℕ) → textWidth (restOf n l) ≡ textWidth l - n
 unfolding textWidth restOf
 width-rest n l = length-drop n l
 
+-- and loses nothing
 pub first-rest : (n : ℕ) (l : List ℕ) → firstOf n l ++ restOf n l ≡ l
 unfolding firstOf restOf
 first-rest n l = take-append-drop n l
 
+-- n spaces take n columns
 pub width-blank : (n : ℕ) → textWidth (blank n) ≡ n
 unfolding textWidth
 width-blank n = length-replicate n 32
 
+-- no text takes no column
 pub width-nil : textWidth [] ≡ 0
 unfolding textWidth
 width-nil = refl
@@ -51,6 +57,7 @@ pub all-first : (P : ℕ → Type 0) (n : ℕ) (l : List ℕ) → All P l → Al
 unfolding firstOf
 all-first P n l h = all-take P n l h
 
+-- nor does what follows it
 pub all-rest : (P : ℕ → Type 0) (n : ℕ) (l : List ℕ) → All P l → All P (restOf n l)
 unfolding restOf
 all-rest P n l h = all-drop P n l h

@@ -1,21 +1,17 @@
 -- A printed page is the page that the rules draw; the house grid is readable. Assumes nothing.
-use Prim.Native.Nat.{ℕ, zero, suc, _≤_}
-use mathlib.Core.Path.{_≡_, refl, ap, sym, _∙_}
-use mathlib.Core.List.{List, [], _∷_, _++_}
+use Prim.Native.Nat.{ℕ}
+use mathlib.Core.Path.{_≡_, refl}
+use mathlib.Core.List.{List}
 use mathlib.Core.Bool.{Bool, true, false}
 use native.Mathlib.Omega.{arith}
 use lib.ListN.{length, take, drop}
+use lib.Seq.{take-append-seam}
 use lib.Dec.{leb}
 use Rattle.rules.specs.Sheet.{Table}
-use Rattle.rules.specs.Format.{sheet}
 use Rattle.rules.specs.Page.{page}
 use Rattle.rules.specs.Calls.{put, printOf, printPage, over, turned, Written}
 use Rattle.rules.specs.Words.{Accepted, wrote, Answered, Readable}
 use Rattle.rules.specs.Examples.{grid}
-
-take-over : (l b : List ℕ) → take (length l) (l ++ b) ≡ l
-take-over [] b = refl
-take-over (x ∷ l) b = ap (λ m. x ∷ m) (take-over l b)
 
 put-wrote : (l b : List ℕ) → put l b .answer .number ≡ 0 → take (put l b .answer .written) (put l b .buffer) ≡ l
 unfolding put
@@ -25,7 +21,7 @@ put-wrote l b = go (leb (length l) (length b))
     done x = elim x [ true ↦ record { answer = record { number = 0; place = 0; written = length l }; buffer = over l b } | false ↦ turned 20 (length l) b ]
 
     go : (x : Bool) → done x .answer .number ≡ 0 → take (done x .answer .written) (done x .buffer) ≡ l
-    go true e = take-over l (drop (length l) b)
+    go true e = take-append-seam l (drop (length l) b)
     go false e = absurd (omega arith)
 
 pub wrote-page : (s b : List ℕ) (t : Table) → Accepted s t → Answered s b → wrote s b ≡ page t
