@@ -1,0 +1,117 @@
+-- Pieces written one after another, areas, and a cell's line as it is shown. Assumes nothing.
+use Prim.Native.Nat.{ℕ, zero, suc, _+_, _-_, _≤_, _<_, min, zero-le, suc-le-suc}
+use mathlib.Core.Path.{_≡_, refl, sym, ap, _∙_}
+use mathlib.Core.List.{List, [], _++_, append-assoc, append-nil}
+use mathlib.Core.Logic.{_⊎_, inl, inr, ⊎-elim}
+use mathlib.Core.Bool.{Bool, true, false, cond, _&&_}
+use native.Mathlib.Omega.{arith}
+use lib.ListN.{length, take, drop, length-append, length-replicate, length-take}
+use lib.Seq.{take-all, take-length, length-take-le, take-take}
+use lib.Dec.{leb}
+use borrow.Author.Tests.{le-leb, lt-leb}
+use Rattle.rules.specs.Text.{textWidth, firstOf, blank}
+use Rattle.rules.specs.Wrap.{fitting, cutLine}
+use Rattle.rules.specs.Page.{before}
+use Rattle.rules.proofs.Text.{width-length}
+use Rattle.rules.proofs.Sizes.{before-le}
+use Rattle.buffer.specs.Put.{putAt}
+use Rattle.buffer.proofs.Laws.{put-put}
+use Rattle.cells.specs.Cell.{part}
+use Rattle.cells.proofs.Laws.{part-length}
+use Rattle.formatting.specs.Area.{areaIn, marksShown, shownText, InSheet, After, columnPiece}
+use Rattle.formatting.specs.declared.content_format.Shown.{Shown}
+use Rattle.formatting.specs.declared.content_format.Standing.{Standing}
+
+-- two pieces, one after the other
+pub two : (d : List ℕ) (at : ℕ) (a b d₁ d₂ : List ℕ) (p : ℕ) → d₁ ≡ putAt d at a → d₂ ≡ putAt d₁ p b → at + length a ≡ p → at ≤ length d → d₂ ≡ putAt d at (a ++ b)
+two d at a b d₁ d₂ p e₁ e₂ x h = e₂ ∙ ap (λ (t : List ℕ). putAt t p b) e₁ ∙ put-put d at a b p x h
+
+-- four pieces
+pub four : (d : List ℕ) (at : ℕ) (a b c e d₁ d₂ d₃ d₄ : List ℕ) (p q r : ℕ) → d₁ ≡ putAt d at a → d₂ ≡ putAt d₁ p b → d₃ ≡ putAt d₂ q c → d₄ ≡ putAt d₃ r e
+    → at + length a ≡ p → p + length b ≡ q → q + length c ≡ r → at ≤ length d → d₄ ≡ putAt d at (a ++ (b ++ (c ++ e)))
+four d at a b c e d₁ d₂ d₃ d₄ p q r e₁ e₂ e₃ e₄ x y z h =
+    let f : d₂ ≡ putAt d at (a ++ b) = two d at a b d₁ d₂ p e₁ e₂ x h in
+    let g : d₃ ≡ putAt d at ((a ++ b) ++ c) = two d at (a ++ b) c d₂ d₃ q f e₃ (omega (arith, length-append a b)) h in
+    let i : d₄ ≡ putAt d at (((a ++ b) ++ c) ++ e) = two d at ((a ++ b) ++ c) e d₃ d₄ r g e₄ (omega (arith, length-append a b, length-append (a ++ b) c)) h in
+    i ∙ ap (putAt d at) (simp append-assoc)
+
+-- an area as it is drawn: blanks, a text, what follows it, blanks
+pub area-is : (v : Shown) (a : ℕ) (text marks : List ℕ) (spare b : ℕ) → spare ≡ v .width - length text - length marks → b ≡ before a spare
+    → blank (v .left + b) ++ (text ++ (marks ++ blank (spare - b + v .right))) ≡ areaIn v a (text ++ marks)
+unfolding areaIn
+area-is v a text marks spare b e q =
+    let z : v .width - textWidth (text ++ marks) ≡ spare = omega (arith, length-append text marks, width-length (text ++ marks)) in
+    rw (z, q, append-assoc)
+
+pub area-length : (v : Shown) (a : ℕ) (text : List ℕ) → length text ≤ v .width → length (areaIn v a text) ≡ v .left + (v .width + v .right)
+unfolding areaIn
+area-length v a text h =
+    simp (length-append, length-replicate) (omega (arith, before-le a (v .width - textWidth text), width-length text))
+
+-- the indicator's bytes, exit by exit
+pub marks-whole : (cut : Bool) (n w : ℕ) → cut ≡ true → n ≤ w → n ≡ marksShown cut n w
+marks-whole cut n w e h = rw (e, le-leb n w h)
+
+pub marks-wide : (cut : Bool) (n w : ℕ) → cut ≡ true → w < n → 0 ≡ marksShown cut n w
+marks-wide cut n w e h = rw (e, lt-leb n w h)
+
+pub marks-none : (cut : Bool) (n w : ℕ) → cut ≡ false → 0 ≡ marksShown cut n w
+marks-none cut n w e = rw e
+
+le-or-lt : (a b : ℕ) → (a ≤ b) ⊎ (b < a)
+le-or-lt zero b = inl zero-le
+le-or-lt (suc a) zero = inr (suc-le-suc zero-le)
+le-or-lt (suc a) (suc b) = ⊎-elim (λ p. inl (suc-le-suc p)) (λ q. inr (suc-le-suc q)) (le-or-lt a b)
+
+take-min : (a b : ℕ) (l : List ℕ) → take a (take b l) ≡ take (min b a) l
+take-min a b l =
+    ⊎-elim
+    (λ (h : a ≤ b). let z : min b a ≡ a = omega arith in rw (z, take-take a b l h))
+    (λ (h : b < a). let z : min b a ≡ b = omega arith in rw (z, take-all a (take b l) (omega (arith, length-take b l))))
+    (le-or-lt a b)
+
+fitting-whole : (w : ℕ) (ind : List ℕ) → leb (length ind) w ≡ true → fitting w ind ≡ ind
+unfolding fitting
+fitting-whole w ind e = rw (width-length ind, e, fitting)
+
+fitting-none : (w : ℕ) (ind : List ℕ) → leb (length ind) w ≡ false → fitting w ind ≡ []
+unfolding fitting
+fitting-none w ind e = rw (width-length ind, e, fitting)
+
+-- a cut line: its first bytes, and the indicator's
+cut-line : (b : Bool) (w : ℕ) (ind l : List ℕ) → leb (length ind) w ≡ b
+    → cutLine w ind l ≡ take (w - cond b (length ind) 0) l ++ take (cond b (length ind) 0) ind
+unfolding cutLine firstOf
+cut-line true w ind l e = rw (fitting-whole w ind e, width-length ind, take-length)
+cut-line false w ind l e = rw (fitting-none w ind e, width-length [])
+
+-- the part of the sheet and of the indicator that are shown
+pub shown-is : (s : List ℕ) (w : ℕ) (bytes : List ℕ) (n : ℕ) (cut : Bool) (t : Standing) (m stop : ℕ) → InSheet s w t → n ≤ length bytes
+    → m ≡ marksShown cut n w → m ≤ n → stop ≡ t .start + min (t .end - t .start) (w - m)
+    → part s (t .start) stop ++ take m bytes ≡ shownText s w (take n bytes) cut t
+unfolding shownText
+shown-is s w bytes n true t m stop h k e l q =
+    let i = length-take-le n bytes k in
+    let z : stop - t .start ≡ min (t .end - t .start) (w - m) = omega arith in
+    let b : take m (take n bytes) ≡ take m bytes = take-take m n bytes l in
+    let y : cond (leb (length (take n bytes)) w) (length (take n bytes)) 0 ≡ m = rw i (sym e) in
+    sym (cut-line (leb (length (take n bytes)) w) w (take n bytes) (part s (t .start) (t .end)) refl
+    ∙ rw (y, b, z, take-min (w - m) (t .end - t .start) (drop (t .start) s)))
+shown-is s w bytes n false t m stop h k e l q =
+    let f = h .fits in
+    let z : stop - t .start ≡ t .end - t .start = omega arith in
+    rw (e, append-nil, z)
+
+-- how much of the column it takes
+pub shown-fits : (s : List ℕ) (w : ℕ) (bytes : List ℕ) (n : ℕ) (t : Standing) (m stop : ℕ) → InSheet s w t → n ≤ length bytes → m ≤ n → m ≤ w
+    → stop ≡ t .start + min (t .end - t .start) (w - m) → length (part s (t .start) stop) + length (take m bytes) ≤ w
+shown-fits s w bytes n t m stop h k l x q =
+    let i = h .within in
+    let o = h .order in
+    omega (arith, part-length s (t .start) stop (omega arith), length-take-le m bytes (omega arith))
+
+-- whether the line is cut is told by the line after it
+pub piece-is : (s : List ℕ) (v : Shown) (t r : Standing) (ind : List ℕ) (last cut : Bool) → cut ≡ (last && r .found) → After s (v .width) t r
+    → areaIn v (t .alignment) (shownText s (v .width) ind cut t) ≡ columnPiece s v t ind last
+unfolding columnPiece
+piece-is s v t r ind last cut e a = rw (e, a .found)

@@ -1,0 +1,3 @@
+pub mod Area
+pub mod Line
+pub mod Rule

@@ -1,0 +1,84 @@
+-- The loop over a border's visible columns. Assumes nothing.
+use Prim.Native.Nat.{ℕ, _+_, _-_, _≤_, _<_}
+use mathlib.Core.Path.{_≡_, refl, sym, ap, _∙_}
+use mathlib.Core.List.{List, [], _∷_, _++_, append-assoc}
+use native.Mathlib.Omega.{arith}
+use lib.ListN.{length, set, length-append, length-replicate}
+use Rattle.buffer.specs.Put.{over, putAt, build, edge}
+use Rattle.buffer.proofs.Laws.{put-nil, put-one, over-put-zero, build-room, build-more}
+use Rattle.formatting.specs.Line.{shownAt, lead}
+use Rattle.formatting.specs.Rule.{ruleArea, rulePiece, ruleBytes}
+use Rattle.formatting.specs.declared.content_format.View.{View}
+use Rattle.formatting.specs.declared.borders.RuleStyle.{RuleStyle}
+use Rattle.formatting.proofs.Area.{two}
+
+module _ (view : View) (style : RuleStyle) where
+  pub rule-is : ruleBytes view style ≡ edge (style .opens) (style .left) ++ (build (rulePiece view style) (view .count) ++ (edge (style .closes) (style .right) ++ (10 ∷ [])))
+  unfolding ruleBytes
+  rule-is = refl
+
+  pub rule-length : length (ruleBytes view style)
+      ≡ length (edge (style .opens) (style .left)) + length (build (rulePiece view style) (view .count)) + length (edge (style .closes) (style .right)) + 1
+  unfolding ruleBytes
+  rule-length =
+      let l = edge (style .opens) (style .left) in
+      let b = build (rulePiece view style) (view .count) in
+      let r = edge (style .closes) (style .right) in
+      omega (arith, length-append l (b ++ (r ++ (10 ∷ []))), length-append b (r ++ (10 ∷ [])), length-append r (10 ∷ []))
+
+  -- the whole, once its last byte is stored
+  pub rule-whole : (d d₁ d₂ d₃ : List ℕ) (p q e : ℕ) → d₁ ≡ putAt d 0 (edge (style .opens) (style .left)) → d₂ ≡ putAt d₁ p (build (rulePiece view style) (view .count))
+      → d₃ ≡ putAt d₂ q (edge (style .closes) (style .right)) → length (edge (style .opens) (style .left)) ≡ p → p + length (build (rulePiece view style) (view .count)) ≡ q
+      → q + length (edge (style .closes) (style .right)) ≡ e → e < length d₃ → set d₃ e 10 ≡ over (ruleBytes view style) d
+  rule-whole d d₁ d₂ d₃ p q e e₁ e₂ e₃ x y z h =
+      let l = edge (style .opens) (style .left) in
+      let b = build (rulePiece view style) (view .count) in
+      let r = edge (style .closes) (style .right) in
+      let f : d₂ ≡ putAt d 0 (l ++ b) = two d 0 l b d₁ d₂ p e₁ e₂ (omega arith) (omega arith) in
+      let g : d₃ ≡ putAt d 0 ((l ++ b) ++ r) = two d 0 (l ++ b) r d₂ d₃ q f e₃ (omega (arith, length-append l b)) (omega arith) in
+      let i : set d₃ e 10 ≡ putAt d 0 (((l ++ b) ++ r) ++ (10 ∷ [])) =
+      two d 0 ((l ++ b) ++ r) (10 ∷ []) d₃ (set d₃ e 10) e g (put-one d₃ e 10 h) (omega (arith, length-append l b, length-append (l ++ b) r)) (omega arith) in
+      i ∙ ap (putAt d 0) ((simp append-assoc) ∙ sym rule-is) ∙ sym (over-put-zero (ruleBytes view style) d)
+
+-- columns before i are drawn
+pub record Ruling (view : View) (style : RuleStyle) (page₀ : List ℕ) (at₀ : ℕ) (page : List ℕ) (at i : ℕ) : Type 0 where
+  pub within : i ≤ view .count
+  pub place : at ≡ at₀ + length (build (rulePiece view style) i)
+  pub text : page ≡ putAt page₀ at₀ (build (rulePiece view style) i)
+  pub size : length page ≡ length page₀
+
+module _ (view : View) (style : RuleStyle) (page₀ : List ℕ) (at₀ : ℕ) where
+  pub ruling-begins : Ruling view style page₀ at₀ page₀ at₀ 0
+  ruling-begins = record { within = omega arith; place = omega arith; text = sym (put-nil page₀ at₀); size = refl }
+
+  module _ (page : List ℕ) (at i : ℕ) (D : Ruling view style page₀ at₀ page at i) (h : i < view .count) where
+    here-length : length (rulePiece view style i) ≡ length (edge (lead i (style .joined)) (style .junction)) + (shownAt view i .left + (shownAt view i .width + shownAt view i .right))
+    unfolding rulePiece
+    here-length =
+        length-append (edge (lead i (style .joined)) (style .junction)) (ruleArea (shownAt view i) (style .fill))
+        ∙ ap (λ n. length (edge (lead i (style .joined)) (style .junction)) + n) (length-replicate (shownAt view i .left + (shownAt view i .width + shownAt view i .right)) (style .fill))
+
+    pub ruling-room : at₀ + length (build (rulePiece view style) (view .count)) ≤ length page₀
+        → at + (length (edge (lead i (style .joined)) (style .junction)) + (shownAt view i .left + (shownAt view i .width + shownAt view i .right))) ≤ length page
+    ruling-room r = omega (arith, D .place, D .size, here-length, build-room (rulePiece view style) i (view .count) h)
+
+    pub ruling-on : (page₁ : List ℕ) (at₁ : ℕ) → at₀ + length (build (rulePiece view style) (view .count)) ≤ length page₀
+        → at₁ ≡ at + (length (edge (lead i (style .joined)) (style .junction)) + (shownAt view i .left + (shownAt view i .width + shownAt view i .right)))
+        → page₁ ≡ putAt page at (edge (lead i (style .joined)) (style .junction) ++ ruleArea (shownAt view i) (style .fill))
+        → length page₁ ≡ length page → Ruling view style page₀ at₀ page₁ at₁ (i + 1)
+    unfolding rulePiece
+    ruling-on page₁ at₁ r e w l =
+        let g = rulePiece view style in
+        let b = build-more g i in
+        record {
+          within = omega arith;
+          place = omega (arith, D .place, here-length, ap length b, length-append (build g i) (g i));
+          text = two page₀ at₀ (build g i) (g i) page page₁ at (D .text) w (sym (D .place)) (omega arith) ∙ ap (putAt page₀ at₀) b;
+          size = l ∙ D .size;
+        }
+
+  pub ruling-done : (page : List ℕ) (at i : ℕ) → Ruling view style page₀ at₀ page at i → view .count ≤ i → Ruling view style page₀ at₀ page at (view .count)
+  ruling-done page at i D h =
+      let w = D .within in
+      let e : i ≡ view .count = omega arith in
+      rw e at D

@@ -1,0 +1,31 @@
+use native.Mathlib.Omega.{arith}
+use mathlib.Core.Path.{sym, ap, _∙_}
+use denote.Ref.{now}
+use lib.ListN.{take}
+use Rattle.buffer.specs.Put.{putAt, edge}
+use Rattle.formatting.specs.Area.{columnPiece}
+use Rattle.formatting.proofs.Area.{two, piece-is}
+use borrow.Author.Needs.{needs}
+use Rattle.formatting.proofs.content_format.draw_column.Statement.{statement}
+use Rattle.formatting.proofs.content_format.draw_column.Tie as tie
+
+pub draw-column-spec : {M : Type 1} → statement M
+draw-column-spec =
+    tie.close
+    (tie.spec
+    (λ c κs. search needs)
+    (λ c κs. search needs)
+    (λ c κs. search needs)
+    (λ c κs. search needs)
+    (λ c. search needs)
+    (λ c. let s = c .before .before .before .before .before .before .before .before .before .before .before .before in
+    let a = s .args in
+    let n = c .before .before .before .before .before .before .before .before .before .advance in
+    let e = c .before .before .before .before .before .before .draw-edge in
+    let d = c .before .before .draw-cell in (
+      (omega (arith, d .ensures .0, e .ensures .0), n .ensures),
+      two (now (a .page)) (a .at) (edge (a .joins) (a .junction)) (columnPiece (now (a .sheet)) (a .v) (a .t) (take (a .indicator .count) (a .indicator .bytes)) (a .last))
+          (e .last .0) (d .last .0) (e .result) (e .ensures .1)
+          (d .ensures .1 ∙ ap (putAt (e .last .0) (e .result)) (piece-is (now (a .sheet)) (a .v) (a .t) (n .result) (take (a .indicator .count) (a .indicator .bytes)) (a .last) (c .before .before .before .before .before .before .before .before .both .result) (c .before .before .before .before .before .before .before .before .both .ensures) (n .ensures)))
+          (sym (e .ensures .0)) (omega (arith, s .pre .1)),
+    )))

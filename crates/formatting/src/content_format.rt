@@ -1,0 +1,289 @@
+// The text lines of a row, drawn one after another. A cell's next wrapped line is found one line ahead, so that each is found once.
+ghost use mathlib.Core.Path.{_≡_};
+ghost use mathlib.Core.List.{_++_};
+ghost use mathlib.Core.Bool.{_&&_, _||_};
+ghost use Prim.Native.Nat.{ℕ, _+_, _-_, _≤_, _<_, min};
+ghost use lib.ListN.{length, take};
+ghost use lib.Dec.{ltb};
+ghost use Rattle.rules.specs.Page.{before};
+ghost use Rattle.buffer.specs.Put.{over, putAt, edge};
+ghost use Rattle.cells.specs.Cell.{rest, Inside};
+ghost use Rattle.formatting.specs.Area.{areaIn, marksShown, shownText, InSheet, After, columnPiece};
+ghost use Rattle.formatting.specs.Line.{lead, lineBytes, ReadyAll, AfterAll, anyFound};
+use cells::CellCursor;
+
+// A visible column as it is drawn: its number in the sheet, its content width and paddings, and what a cell takes that chooses nothing.
+pub struct Shown {
+    pub number: usize,
+    pub width: usize,
+    pub left: usize,
+    pub right: usize,
+    pub delimiter: u8,
+    pub alignment: u8,
+}
+
+// A cell's line that is drawn next, a part of the sheet, if there is one, and where the line after it is looked for.
+pub struct Standing {
+    pub found: bool,
+    pub start: usize,
+    pub end: usize,
+    pub cursor: CellCursor,
+    pub delimiter: u8,
+    pub alignment: u8,
+}
+
+// The indicator and how many of its bytes are used.
+pub struct Indicator {
+    pub bytes: [u8; 8],
+    pub count: usize,
+}
+
+// The spaces left of a text that leaves some columns free.
+fn spaces_before(alignment: u8, spare: usize) -> usize
+    ensures { λ r. ⌜ (r ≡ before alignment spare) × (r ≤ spare) ⌝ }
+{
+    match alignment {
+        2 => spare,
+        3 => spare - spare / 2,
+        _ => 0,
+    }
+}
+
+// A column's area: padding, a part of the sheet and of the indicator, aligned, padding.
+fn align_line(
+    page: &mut [u8],
+    at: usize,
+    text: &[u8],
+    marks: &[u8],
+    v: Shown,
+    alignment: u8,
+) -> usize
+    requires { ⌜ length (now text) + length (now marks) ≤ v .width ⌝ }
+    requires { ⌜ at + (v .left + (v .width + v .right)) ≤ length (now page) ⌝ }
+    ensures { λ r. ⌜ r ≡ at + (v .left + (v .width + v .right)) ⌝ }
+    ensures { λ _. ⌜ now (page .exit) ≡ putAt (now (page .entry)) at (areaIn v alignment (now (text .entry) ++ now (marks .entry))) ⌝ }
+{
+    let spare = v.width - text.len() - marks.len();
+    let b = spaces_before(alignment, spare);
+    let p = buffer::fill(page, at, v.left + b, 32);
+    let q = buffer::copy(page, p, text);
+    let m = buffer::copy(page, q, marks);
+    buffer::fill(page, m, spare - b + v.right, 32)
+}
+
+// An indicator wider than the content is dropped.
+fn marks_shown(cut: bool, count: usize, width: usize) -> usize
+    ensures { λ r. ⌜ (r ≡ marksShown cut count width) × ((r ≤ count) × (r ≤ width)) ⌝ }
+{
+    if cut {
+        if count <= width {
+            return count;
+        }
+    }
+    0
+}
+
+fn shorter(a: usize, b: usize) -> usize
+    ensures { λ r. ⌜ r ≡ min a b ⌝ }
+{
+    if a < b { a } else { b }
+}
+
+// The area of a cell's line; where the cell is cut, the line is shortened until it and the indicator fit.
+fn draw_cell(
+    page: &mut [u8],
+    at: usize,
+    sheet: &[u8],
+    v: Shown,
+    t: Standing,
+    indicator: Indicator,
+    cut: bool,
+) -> usize
+    requires { ⌜ InSheet (now sheet) (v .width) t × (indicator .count ≤ length (indicator .bytes)) ⌝ }
+    requires { ⌜ at + (v .left + (v .width + v .right)) ≤ length (now page) ⌝ }
+    ensures { λ r. ⌜ r ≡ at + (v .left + (v .width + v .right)) ⌝ }
+    ensures { λ _. ⌜ now (page .exit) ≡ putAt (now (page .entry)) at (areaIn v (t .alignment) (shownText (now (sheet .entry)) (v .width) (take (indicator .count) (indicator .bytes)) cut t)) ⌝ }
+{
+    let width = v.width;
+    let m = marks_shown(cut, indicator.count, width);
+    let start = t.start;
+    let stop = start + shorter(t.end - start, width - m);
+    let bytes = indicator.bytes;
+    align_line(page, at, &sheet[start..stop], &bytes[..m], v, t.alignment)
+}
+
+// The cell's next line.
+pub fn advance(sheet: &[u8], width: usize, t: Standing) -> Standing
+    requires { ⌜ Inside (now sheet) (t .cursor) × (0 < width) ⌝ }
+    ensures { λ r. ⌜ After (now (sheet .entry)) width t r ⌝ }
+{
+    let from = t.cursor;
+    let n = cells::next_line(sheet, from, width, t.delimiter);
+    let cursor = n.cursor;
+    Standing {
+        found: n.found,
+        start: n.start,
+        end: n.end,
+        cursor,
+        delimiter: t.delimiter,
+        alignment: t.alignment,
+    }
+}
+
+// Where a column's area ends, and the cell's next line.
+pub struct Drawn {
+    pub at: usize,
+    pub standing: Standing,
+}
+
+fn both(a: bool, b: bool) -> bool
+    ensures { λ r. ⌜ r ≡ (a && b) ⌝ }
+{
+    if a { b } else { false }
+}
+
+// What a column adds to a line: a junction, if one stands before it, and its area. The last line that the limit leaves is cut if another follows.
+fn draw_column(
+    page: &mut [u8],
+    at: usize,
+    sheet: &[u8],
+    v: Shown,
+    t: Standing,
+    indicator: Indicator,
+    last: bool,
+    joins: bool,
+    junction: u8,
+) -> Drawn
+    requires { ⌜ InSheet (now sheet) (v .width) t × (Inside (now sheet) (t .cursor) × ((0 < v .width) × (indicator .count ≤ length (indicator .bytes)))) ⌝ }
+    requires { ⌜ at + (length (edge joins junction) + (v .left + (v .width + v .right))) ≤ length (now page) ⌝ }
+    ensures { λ r. ⌜ (r .at ≡ at + (length (edge joins junction) + (v .left + (v .width + v .right)))) × After (now (sheet .entry)) (v .width) t (r .standing) ⌝ }
+    ensures { λ _. ⌜ now (page .exit) ≡ putAt (now (page .entry)) at (edge joins junction ++ columnPiece (now (sheet .entry)) v t (take (indicator .count) (indicator .bytes)) last) ⌝ }
+{
+    let next = advance(sheet, v.width, t);
+    let cut = both(last, next.found);
+    let p = buffer::draw_edge(page, at, joins, junction);
+    let q = draw_cell(page, p, sheet, v, t, indicator, cut);
+    Drawn {
+        at: q,
+        standing: next,
+    }
+}
+
+// What drawing needs of a table: its visible columns, from left to right, and the indicator.
+pub struct View {
+    pub count: usize,
+    pub columns: [Shown; 12],
+    pub indicator: Indicator,
+}
+
+// The characters of a text line, and which of them are drawn.
+pub struct TextStyle {
+    pub left: u8,
+    pub junction: u8,
+    pub right: u8,
+    pub opens: bool,
+    pub joined: bool,
+    pub closes: bool,
+}
+
+// What was written, every cell's next line, and whether there is one.
+pub struct Lined {
+    pub written: usize,
+    pub standings: [Standing; 12],
+    pub more: bool,
+}
+
+// A junction stands before every visible column but the first.
+pub fn joins_before(i: usize, joined: bool) -> bool
+    ensures { λ r. ⌜ r ≡ lead i joined ⌝ }
+{
+    if i == 0 {
+        return false;
+    }
+    joined
+}
+
+fn either(a: bool, b: bool) -> bool
+    ensures { λ r. ⌜ r ≡ (a || b) ⌝ }
+{
+    if a { true } else { b }
+}
+
+// A text line at the start of the page.
+pub fn draw_text_line(
+    page: &mut [u8],
+    sheet: &[u8],
+    view: View,
+    style: TextStyle,
+    last: bool,
+    standings: [Standing; 12],
+) -> Lined
+    requires { ⌜ ReadyAll (now sheet) view standings ⌝ }
+    requires { ⌜ length (lineBytes (now sheet) view style standings last) ≤ length (now page) ⌝ }
+    ensures { λ r. ⌜ r .written ≡ length (lineBytes (now (sheet .entry)) view style standings last) ⌝ }
+    ensures { λ r. ⌜ AfterAll (now (sheet .entry)) view standings (r .standings) × (r .more ≡ anyFound (r .standings) (view .count)) ⌝ }
+    ensures { λ _. ⌜ now (page .exit) ≡ over (lineBytes (now (sheet .entry)) view style standings last) (now (page .entry)) ⌝ }
+{
+    let indicator = view.indicator;
+    let n = view.count;
+    let mut ts = standings;
+    let mut more = false;
+    let mut at = buffer::draw_edge(page, 0, style.opens, style.left);
+    let mut i: usize = 0;
+    while i < n {
+        let v = view.columns[i];
+        let t = ts[i];
+        let joins = joins_before(i, style.joined);
+        let d = draw_column(
+            page,
+            at,
+            sheet,
+            v,
+            t,
+            indicator,
+            last,
+            joins,
+            style.junction,
+        );
+        at = d.at;
+        let u = d.standing;
+        more = either(more, u.found);
+        ts[i] = u;
+        i += 1;
+    }
+    let e = buffer::draw_edge(page, at, style.closes, style.right);
+    page[e] = 10;
+    Lined {
+        written: e + 1,
+        standings: ts,
+        more,
+    }
+}
+
+// The next lines of a row's cells, with nothing drawn.
+pub struct Skipped {
+    pub standings: [Standing; 12],
+    pub more: bool,
+}
+
+pub fn skip_text_line(sheet: &[u8], view: View, standings: [Standing; 12]) -> Skipped
+    requires { ⌜ ReadyAll (now sheet) view standings ⌝ }
+    ensures { λ r. ⌜ AfterAll (now (sheet .entry)) view standings (r .standings) × (r .more ≡ anyFound (r .standings) (view .count)) ⌝ }
+{
+    let n = view.count;
+    let mut ts = standings;
+    let mut more = false;
+    let mut i: usize = 0;
+    while i < n {
+        let v = view.columns[i];
+        let t = ts[i];
+        let u = advance(sheet, v.width, t);
+        more = either(more, u.found);
+        ts[i] = u;
+        i += 1;
+    }
+    Skipped {
+        standings: ts,
+        more,
+    }
+}

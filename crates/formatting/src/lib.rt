@@ -1,0 +1,3 @@
+// The lines of a page: comfy-table's `utils/formatting`.
+pub mod borders;
+pub mod content_format;
