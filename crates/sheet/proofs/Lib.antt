@@ -1,0 +1,4 @@
+pub mod Fields
+pub mod Loops
+pub mod Sections
+pub mod Cases
