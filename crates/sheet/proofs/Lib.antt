@@ -2,3 +2,5 @@ pub mod Fields
 pub mod Loops
 pub mod Sections
 pub mod Cases
+pub mod Held
+pub mod Copies

@@ -114,10 +114,11 @@ pub fn word(sheet: &[u8], from: Step, most: u16) -> Step
             place: sheet.len(),
         };
     }
-    if sheet.len() - at < 2 {
+    let end = sheet.len();
+    if end - at < 2 {
         return Step::Refused {
             number: 1,
-            place: sheet.len(),
+            place: end,
         };
     }
     let low = wide(sheet[at]);

@@ -1,7 +1,9 @@
 // Sheet, edition 1: checks a sheet, and hands out what it holds.
 pub mod columns;
 pub mod field;
+pub mod records;
 pub mod rows;
+pub mod settings;
 pub mod text;
 
 ghost use mathlib.Core.Path.{_≡_};
