@@ -1,3 +1,5 @@
 pub mod Area
 pub mod Line
 pub mod Rule
+pub mod Stand
+pub mod Whole

@@ -1,3 +1,4 @@
 pub mod Area
 pub mod Line
 pub mod Rule
+pub mod Stand

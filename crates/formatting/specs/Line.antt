@@ -31,7 +31,7 @@ lead zero joined = false
 lead (suc i) joined = joined
 
 abbrev pub indicatorOf : View → List ℕ
-indicatorOf view = take (view .indicator .count) (view .indicator .bytes)
+indicatorOf view = take (view .indicator .count) (view .indicator .characters)
 
 -- what visible column i adds
 unfoldable pub linePiece : List ℕ → View → TextStyle → List Standing → Bool → ℕ → List ℕ
@@ -51,7 +51,7 @@ pub record Ready (s : List ℕ) (v : Shown) (t : Standing) : Type 0 where
 pub record ReadyAll (s : List ℕ) (view : View) (ts : List Standing) : Type 0 where
   pub size : length ts ≡ 12
   pub most : view .count ≤ 12
-  pub indicator : view .indicator .count ≤ length (view .indicator .bytes)
+  pub indicator : view .indicator .count ≤ length (view .indicator .characters)
   pub each : (i : ℕ) → i < view .count → Ready s (shownAt view i) (standingAt ts i)
 
 -- every visible column's cell at its next line

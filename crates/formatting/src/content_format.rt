@@ -11,6 +11,7 @@ ghost use Rattle.cells.specs.Cell.{rest, Inside};
 ghost use Rattle.formatting.specs.Area.{areaIn, marksShown, shownText, InSheet, After, columnPiece};
 ghost use Rattle.formatting.specs.Line.{lead, lineBytes, ReadyAll, AfterAll, anyFound};
 use cells::CellCursor;
+use sheet::records::Indicator;
 
 // A visible column as it is drawn: its number in the sheet, its content width and paddings, and what a cell takes that chooses nothing.
 pub struct Shown {
@@ -30,12 +31,6 @@ pub struct Standing {
     pub cursor: CellCursor,
     pub delimiter: u8,
     pub alignment: u8,
-}
-
-// The indicator and how many of its bytes are used.
-pub struct Indicator {
-    pub bytes: [u8; 8],
-    pub count: usize,
 }
 
 // The spaces left of a text that leaves some columns free.
@@ -99,17 +94,24 @@ fn draw_cell(
     indicator: Indicator,
     cut: bool,
 ) -> usize
-    requires { ⌜ InSheet (now sheet) (v .width) t × (indicator .count ≤ length (indicator .bytes)) ⌝ }
+    requires { ⌜ InSheet (now sheet) (v .width) t × (indicator .count ≤ length (indicator .characters)) ⌝ }
     requires { ⌜ at + (v .left + (v .width + v .right)) ≤ length (now page) ⌝ }
     ensures { λ r. ⌜ r ≡ at + (v .left + (v .width + v .right)) ⌝ }
-    ensures { λ _. ⌜ now (page .exit) ≡ putAt (now (page .entry)) at (areaIn v (t .alignment) (shownText (now (sheet .entry)) (v .width) (take (indicator .count) (indicator .bytes)) cut t)) ⌝ }
+    ensures { λ _. ⌜ now (page .exit) ≡ putAt (now (page .entry)) at (areaIn v (t .alignment) (shownText (now (sheet .entry)) (v .width) (take (indicator .count) (indicator .characters)) cut t)) ⌝ }
 {
     let width = v.width;
     let m = marks_shown(cut, indicator.count, width);
     let start = t.start;
     let stop = start + shorter(t.end - start, width - m);
-    let bytes = indicator.bytes;
-    align_line(page, at, &sheet[start..stop], &bytes[..m], v, t.alignment)
+    let characters = indicator.characters;
+    align_line(
+        page,
+        at,
+        &sheet[start..stop],
+        &characters[..m],
+        v,
+        t.alignment,
+    )
 }
 
 // The cell's next line.
@@ -154,10 +156,10 @@ fn draw_column(
     joins: bool,
     junction: u8,
 ) -> Drawn
-    requires { ⌜ InSheet (now sheet) (v .width) t × (Inside (now sheet) (t .cursor) × ((0 < v .width) × (indicator .count ≤ length (indicator .bytes)))) ⌝ }
+    requires { ⌜ InSheet (now sheet) (v .width) t × (Inside (now sheet) (t .cursor) × ((0 < v .width) × (indicator .count ≤ length (indicator .characters)))) ⌝ }
     requires { ⌜ at + (length (edge joins junction) + (v .left + (v .width + v .right))) ≤ length (now page) ⌝ }
     ensures { λ r. ⌜ (r .at ≡ at + (length (edge joins junction) + (v .left + (v .width + v .right)))) × After (now (sheet .entry)) (v .width) t (r .standing) ⌝ }
-    ensures { λ _. ⌜ now (page .exit) ≡ putAt (now (page .entry)) at (edge joins junction ++ columnPiece (now (sheet .entry)) v t (take (indicator .count) (indicator .bytes)) last) ⌝ }
+    ensures { λ _. ⌜ now (page .exit) ≡ putAt (now (page .entry)) at (edge joins junction ++ columnPiece (now (sheet .entry)) v t (take (indicator .count) (indicator .characters)) last) ⌝ }
 {
     let next = advance(sheet, v.width, t);
     let cut = both(last, next.found);

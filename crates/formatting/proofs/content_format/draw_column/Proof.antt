@@ -24,8 +24,8 @@ draw-column-spec =
     let e = c .before .before .before .before .before .before .draw-edge in
     let d = c .before .before .draw-cell in (
       (omega (arith, d .ensures .0, e .ensures .0), n .ensures),
-      two (now (a .page)) (a .at) (edge (a .joins) (a .junction)) (columnPiece (now (a .sheet)) (a .v) (a .t) (take (a .indicator .count) (a .indicator .bytes)) (a .last))
+      two (now (a .page)) (a .at) (edge (a .joins) (a .junction)) (columnPiece (now (a .sheet)) (a .v) (a .t) (take (a .indicator .count) (a .indicator .characters)) (a .last))
           (e .last .0) (d .last .0) (e .result) (e .ensures .1)
-          (d .ensures .1 ∙ ap (putAt (e .last .0) (e .result)) (piece-is (now (a .sheet)) (a .v) (a .t) (n .result) (take (a .indicator .count) (a .indicator .bytes)) (a .last) (c .before .before .before .before .before .before .before .before .both .result) (c .before .before .before .before .before .before .before .before .both .ensures) (n .ensures)))
+          (d .ensures .1 ∙ ap (putAt (e .last .0) (e .result)) (piece-is (now (a .sheet)) (a .v) (a .t) (n .result) (take (a .indicator .count) (a .indicator .characters)) (a .last) (c .before .before .before .before .before .before .before .before .both .result) (c .before .before .before .before .before .before .before .before .both .ensures) (n .ensures)))
           (sym (e .ensures .0)) (omega (arith, s .pre .1)),
     )))
