@@ -27,7 +27,7 @@ use Rattle.formatting.proofs.Area.{two, area-length}
 
 -- ---- every visible column's cell at its next line
 
-same-below : (ts : List Standing) (i n : ℕ) (u : Standing) → n ≤ i → anyFound (set ts i u) n ≡ anyFound ts n
+pub same-below : (ts : List Standing) (i n : ℕ) (u : Standing) → n ≤ i → anyFound (set ts i u) n ≡ anyFound ts n
 unfolding anyFound
 same-below ts i zero u h = refl
 same-below ts i (suc n) u h = rw (same-below ts i n u (omega arith), getD-set-other ts i n u noStanding (λ e. omega arith))

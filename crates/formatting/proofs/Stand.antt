@@ -21,6 +21,30 @@ use Rattle.formatting.specs.declared.content_format.View.{View}
 
 -- ---- one cell
 
+-- a cell whose following lines are known, at the next of them
+pub stands-next : (s : List ℕ) (v : Shown) (ls : List (List ℕ)) (j : ℕ) (t r : Standing) → 0 < v .width → following s (v .width) t ≡ drop j ls → After s (v .width) t r → Stands s v ls j r
+unfolding remaining
+stands-next s v ls j t r wide next a = go (following s (v .width) t) refl
+  where
+    ready : Ready s v r
+    ready = record { wide = wide; line = a .ready; inside = a .inside }
+
+    go : (f : List (List ℕ)) → following s (v .width) t ≡ f → Stands s v ls j r
+    go [] e =
+        let n : r .found ≡ false = a .found ∙ rw e in
+        let p : part s (r .start) (r .end) ≡ [] = sym (a .first) ∙ rw e in
+        let q : following s (v .width) r ≡ [] = sym (a .others) ∙ rw e in
+        record { lines = rw (n, remaining) (sym (sym next ∙ e)); none = λ x. (q, p); ready = ready }
+    go (x ∷ f) e =
+        let n : r .found ≡ true = a .found ∙ rw (e, lt-ltb 0 (suc (length f)) (omega arith)) in
+        let p : x ≡ part s (r .start) (r .end) = sym (rw e) ∙ a .first in
+        let q : following s (v .width) r ≡ f = sym (a .others) ∙ rw e in
+        record {
+          lines = rw (n, remaining) (sym (sym next ∙ e ∙ rw (p, q)));
+          none = λ y. let z : _≡_ {A = ℕ} 0 1 = cc in absurd (omega arith);
+          ready = ready;
+        }
+
 module _ (s : List ℕ) (v : Shown) (ls : List (List ℕ)) (j : ℕ) (t : Standing) (S : Stands s v ls j t) where
   remains-found : t .found ≡ true → drop j ls ≡ part s (t .start) (t .end) ∷ following s (v .width) t
   unfolding remaining
@@ -65,34 +89,11 @@ module _ (s : List ℕ) (v : Shown) (ls : List (List ℕ)) (j : ℕ) (t : Standi
 
   -- the next line
   pub stands-on : (r : Standing) → After s (v .width) t r → Stands s v ls (j + 1) r
-  unfolding remaining
-  stands-on r a = go (following s (v .width) t) refl
+  stands-on r a = stands-next s v ls (j + 1) t r (S .ready .wide) (by (t .found) refl) a
     where
-      next : following s (v .width) t ≡ drop (j + 1) ls
-      next = by (t .found) refl
-        where
-          by : (b : Bool) → t .found ≡ b → following s (v .width) t ≡ drop (j + 1) ls
-          by true e = sym (rw (← drop-drop 1 j ls, remains-found e))
-          by false e = S .none e .0 ∙ sym (rw (← drop-drop 1 j ls, remains-none e))
-
-      ready : Ready s v r
-      ready = record { wide = S .ready .wide; line = a .ready; inside = a .inside }
-
-      go : (f : List (List ℕ)) → following s (v .width) t ≡ f → Stands s v ls (j + 1) r
-      go [] e =
-          let n : r .found ≡ false = a .found ∙ rw e in
-          let p : part s (r .start) (r .end) ≡ [] = sym (a .first) ∙ rw e in
-          let q : following s (v .width) r ≡ [] = sym (a .others) ∙ rw e in
-          record { lines = rw (n, remaining) (sym (sym next ∙ e)); none = λ x. (q, p); ready = ready }
-      go (x ∷ f) e =
-          let n : r .found ≡ true = a .found ∙ rw (e, lt-ltb 0 (suc (length f)) (omega arith)) in
-          let p : x ≡ part s (r .start) (r .end) = sym (rw e) ∙ a .first in
-          let q : following s (v .width) r ≡ f = sym (a .others) ∙ rw e in
-          record {
-            lines = rw (n, remaining) (sym (sym next ∙ e ∙ rw (p, q)));
-            none = λ y. let z : _≡_ {A = ℕ} 0 1 = cc in absurd (omega arith);
-            ready = ready;
-          }
+      by : (b : Bool) → t .found ≡ b → following s (v .width) t ≡ drop (j + 1) ls
+      by true e = sym (rw (← drop-drop 1 j ls, remains-found e))
+      by false e = S .none e .0 ∙ sym (rw (← drop-drop 1 j ls, remains-none e))
 
 -- ---- cutting
 

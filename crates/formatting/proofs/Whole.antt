@@ -7,8 +7,8 @@ use native.Mathlib.Omega.{arith}
 use lib.ListN.{length, getD, replicate, length-map}
 use lib.Dec.{ltb}
 use borrow.Author.Tests.{lt-ltb, le-ltb, ltb-true, ltb-false}
-use Rattle.rules.specs.Text.{greatest, upFrom}
-use Rattle.rules.specs.Sheet.{Row, Table, columnAt}
+use Rattle.rules.specs.Text.{greatest, upFrom, orElse}
+use Rattle.rules.specs.Sheet.{Row, Table, columnAt, cellAt, noCell}
 use Rattle.rules.specs.Style.{glyphAt, glyph, anyLeft, anyRight, anyJunction}
 use Rattle.rules.specs.Widths.{visible}
 use Rattle.rules.specs.Page as page
@@ -16,13 +16,14 @@ use Rattle.rules.specs.Page.{areaAt, cellLines, wrapped, height, joined, joined
 use Rattle.rules.proofs.Lists.{upFrom-last, length-upFrom}
 use Rattle.buffer.specs.Put.{build, edge}
 use Rattle.formatting.specs.Area.{columnPiece}
-use Rattle.formatting.specs.Line.{lead, shownAt, standingAt, indicatorOf, linePiece, lineBytes, anyFound}
+use Rattle.formatting.specs.Line.{lead, shownAt, standingAt, indicatorOf, linePiece, lineBytes, anyFound, AfterAll, ReadyAll}
 use Rattle.formatting.specs.Rule.{ruleArea, rulePiece, ruleBytes}
-use Rattle.formatting.specs.Stand.{shownOf, numberOf, Views, StandsRow, inLimit, lastOf, textStyleOf, ruleStyleOf}
+use Rattle.formatting.specs.Open.{OpenedAt, OpenedRow}
+use Rattle.formatting.specs.Stand.{shownOf, numberOf, Views, StandsCell, StandsRow, inLimit, lastOf, textStyleOf, ruleStyleOf}
 use Rattle.formatting.specs.declared.content_format.Shown.{Shown}
 use Rattle.formatting.specs.declared.content_format.Standing.{Standing}
 use Rattle.formatting.specs.declared.content_format.View.{View}
-use Rattle.formatting.proofs.Stand.{piece-area, stands-found, cut-has}
+use Rattle.formatting.proofs.Stand.{piece-area, stands-found, cut-has, stands-on}
 
 -- ---- parts one after another, with a junction between each two
 
@@ -174,3 +175,42 @@ module _ (s : List ℕ) (t : Table) (ws : List ℕ) (r : Row) (view : View) (W :
   height-has =
       ap (λ l. ltb j (greatest l)) (map-numbered (λ c. length (cellLines t ws r c)) 0 (visible t) ∙ ap (λ n. map lines-of (upFrom 0 n)) (sym (W .count)))
       ∙ up-to (view .count) (omega arith)
+
+-- ---- a row opened
+
+opened-cell : (s : List ℕ) (t : Table) (ws : List ℕ) (r : Row) (i : ℕ) (v : Shown) (st : Standing) → v ≡ shownOf t ws (numberOf t i) → OpenedAt s (getD (r .cells) (v .number) noCell) v st
+    → StandsCell s t ws r v i 0 st
+unfolding shownOf wrapped
+opened-cell s t ws r i v st e o =
+    let n : v .number ≡ numberOf t i = ap (λ (u : Shown). u .number) e in
+    let w : v .width ≡ getD ws (numberOf t i) 0 = ap (λ (u : Shown). u .width) e in
+    let d : v .delimiter ≡ orElse (columnAt t (numberOf t i) .delimiter) (orElse (t .delimiter) 32) = ap (λ (u : Shown). u .delimiter) e in
+    let a : v .alignment ≡ orElse (columnAt t (numberOf t i) .alignment) 1 = ap (λ (u : Shown). u .alignment) e in
+    let x = cellAt r (numberOf t i) in
+    let y : getD (r .cells) (v .number) noCell ≡ x = ap (λ k. getD (r .cells) k noCell) n in
+    record {
+      stands = rw (← w, ← d, ← y) (o .stands);
+      delimiter = o .delimiter ∙ rw (d, y);
+      alignment = o .alignment ∙ rw (a, y);
+    }
+
+pub opened-stands : (s : List ℕ) (t : Table) (ws : List ℕ) (r : Row) (view : View) (ts : List Standing) → Views t ws view → OpenedRow s (r .cells) view ts → StandsRow s t ws r view 0 ts
+opened-stands s t ws r view ts W o = record { size = o .size; each = λ i h. opened-cell s t ws r i (shownAt view i) (standingAt ts i) (W .each i h) (o .each i h) }
+
+-- the next line of a row
+pub stands-after : (s : List ℕ) (t : Table) (ws : List ℕ) (r : Row) (view : View) (j : ℕ) (ts us : List Standing) → StandsRow s t ws r view j ts → AfterAll s view ts us → StandsRow s t ws r view (j + 1) us
+stands-after s t ws r view j ts us R A = record {
+  size = A .size;
+  each = λ i h.
+      let c = R .each i h in
+      let a = A .each i h in
+      record {
+        stands = stands-on s (shownAt view i) (wrapped t ws r (numberOf t i)) j (standingAt ts i) (c .stands) (standingAt us i) a;
+        delimiter = a .delimiter ∙ c .delimiter;
+        alignment = a .alignment ∙ c .alignment;
+      };
+}
+
+-- what stands ready can be drawn
+pub stands-ready : (s : List ℕ) (t : Table) (ws : List ℕ) (r : Row) (view : View) (j : ℕ) (ts : List Standing) → Views t ws view → StandsRow s t ws r view j ts → ReadyAll s view ts
+stands-ready s t ws r view j ts W R = record { size = R .size; most = W .most; indicator = W .marks; each = λ i h. R .each i h .stands .ready }

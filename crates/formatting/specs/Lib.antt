@@ -2,3 +2,4 @@ pub mod Area
 pub mod Line
 pub mod Rule
 pub mod Stand
+pub mod Open

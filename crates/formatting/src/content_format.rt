@@ -205,7 +205,7 @@ pub fn joins_before(i: usize, joined: bool) -> bool
     joined
 }
 
-fn either(a: bool, b: bool) -> bool
+pub fn either(a: bool, b: bool) -> bool
     ensures { λ r. ⌜ r ≡ (a || b) ⌝ }
 {
     if a { true } else { b }

@@ -1,3 +1,4 @@
 // The lines of a page: comfy-table's `utils/formatting`.
 pub mod borders;
 pub mod content_format;
+pub mod row;
