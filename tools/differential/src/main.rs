@@ -1,10 +1,14 @@
 //! The differential tool: comfy-table as the oracle, document 01 read as a program, aimed sheets.
 
+#[cfg(gateway)]
+mod archive;
 mod beyond;
 mod compare;
 mod damage;
 mod examples;
 mod exhaustive;
+#[cfg(gateway)]
+mod gateway;
 mod generate;
 mod marks;
 mod oracle;
@@ -18,7 +22,7 @@ mod sheet;
 use std::io::{self, Read, Write};
 use std::process::ExitCode;
 
-const USAGE: &str = "run [--rust PATH] COMMAND
+const USAGE: &str = "run [--rust PATH] [--archive PATH] COMMAND
   print                               sheet on standard input, page or `refused N at P` on standard output
   compare --seed S --count N [--damaged]  the oracle against the reading
   slips --seed S --most N             sheets until each planted mistake shows
@@ -26,7 +30,8 @@ const USAGE: &str = "run [--rust PATH] COMMAND
   check-sample                        the stored sample against the oracle, and the document's examples
   self-test                           the document's examples, and what its limits shut out
   exhaustive                          the oracle against the reading on small spaces of sheets, whole
-  emit --seed S --count N [--damaged] records of sheets and answers on standard output";
+  emit --seed S --count N [--damaged] records of sheets and answers on standard output
+  gateway --seed S --count N [--damaged]  every call of the archive against the oracle; needs --archive";
 
 fn main() -> ExitCode {
     let arguments: Vec<String> = std::env::args().skip(1).collect();
@@ -39,6 +44,7 @@ fn main() -> ExitCode {
         Some("self-test") => Ok(examples::all_pass() && beyond::all_panic()),
         Some("exhaustive") => Ok(exhaustive::all_agree()),
         Some("emit") => emit(&arguments),
+        Some("gateway") => run_gateway(&arguments),
         _ => Err(USAGE.to_string()),
     };
     match done {
@@ -85,6 +91,17 @@ fn print() -> Done {
 fn run_compare(arguments: &[String]) -> Done {
     let (seed, count) = both(arguments, "--count")?;
     Ok(if damaged(arguments) { compare::damaged(seed, count) } else { compare::accepted(seed, count) })
+}
+
+#[cfg(gateway)]
+fn run_gateway(arguments: &[String]) -> Done {
+    let (seed, count) = both(arguments, "--count")?;
+    Ok(gateway::agrees(seed, count, damaged(arguments)))
+}
+
+#[cfg(not(gateway))]
+fn run_gateway(_: &[String]) -> Done {
+    Err(format!("gateway needs --archive PATH\n{USAGE}"))
 }
 
 fn emit(arguments: &[String]) -> Done {
