@@ -23,7 +23,7 @@ use std::io::{self, Read, Write};
 use std::process::ExitCode;
 
 const USAGE: &str = "run [--rust PATH] [--archive PATH] COMMAND
-  print                               sheet on standard input, page or `refused N at P` on standard output
+  print [--by-reading]                sheet on standard input, page or `refused N at P` on standard output
   compare --seed S --count N [--damaged]  the oracle against the reading
   slips --seed S --most N             sheets until each planted mistake shows
   sample --seed S                     writes the stored sample
@@ -36,7 +36,7 @@ const USAGE: &str = "run [--rust PATH] [--archive PATH] COMMAND
 fn main() -> ExitCode {
     let arguments: Vec<String> = std::env::args().skip(1).collect();
     let done = match arguments.first().map(String::as_str) {
-        Some("print") => print(),
+        Some("print") => print(arguments.get(1).is_some_and(|word| word == "--by-reading")),
         Some("compare") => run_compare(&arguments),
         Some("slips") => both(&arguments, "--most").map(|(seed, most)| compare::slips(seed, most)),
         Some("sample") => number(&arguments, "--seed").and_then(write_sample),
@@ -77,10 +77,19 @@ fn damaged(arguments: &[String]) -> bool {
     arguments.iter().any(|argument| argument == "--damaged")
 }
 
-fn print() -> Done {
+/// By the oracle, or by the readings of the document.
+fn print(by_reading: bool) -> Done {
     let mut bytes = Vec::new();
     io::stdin().read_to_end(&mut bytes).map_err(words)?;
-    let out = match sheet::decode(&bytes) {
+    let read = match second::refusal(&bytes) {
+        Some(refusal) if by_reading => Err(refusal),
+        _ => sheet::decode(&bytes),
+    };
+    let out = match read {
+        Ok(table) if by_reading => {
+            let reading = reading::Reading::new(&table, None);
+            reading.page(&reading.widths()).iter().flat_map(|line| line.iter().chain(b"\n")).copied().collect()
+        }
         Ok(table) => oracle::answer(&table).page,
         Err(refusal) => format!("refused {} at {}\n", refusal.number, refusal.place).into_bytes(),
     };
