@@ -161,6 +161,40 @@ fn print_growth(rows: &[Measured]) {
     );
 }
 
+/// The whole page by as many lines as a buffer holds, each call going on where the last one ended.
+fn print_in_parts(calls: &Calls, buffer: &mut [u8]) -> u64 {
+    let (mut line, mut bytes) = (0, 0);
+    loop {
+        let part = calls.lines(line as usize, buffer);
+        if part.number != 0 {
+            return bytes;
+        }
+        (line, bytes) = (part.next, bytes + part.written);
+    }
+}
+
+/// Once each: the Rust isn't asked for a page of this size.
+fn print_huge() {
+    let named = sheets::huge();
+    let calls = Calls { sheet: &named.sheet };
+    let counted = calls.count();
+    let mut page = vec![0; counted.bytes as usize];
+    let start = now();
+    assert!(calls.page(&mut page).number == 0, "the page has room");
+    let whole = (now() - start) as f64 / counted.bytes as f64;
+    println!(
+        "huge: {} bytes, {} lines, page of {} bytes: {whole:.2} a byte",
+        named.sheet.len(),
+        counted.lines,
+        counted.bytes
+    );
+    for size in [65_536, 1 << 20] {
+        let start = now();
+        assert!(print_in_parts(&calls, &mut page[..size]) == counted.bytes, "every line was printed");
+        println!("huge by parts of {size} bytes: {:.2} a byte", (now() - start) as f64 / counted.bytes as f64);
+    }
+}
+
 fn bench() {
     print_head();
     for named in [sheets::small(), sheets::typical()] {
@@ -171,12 +205,13 @@ fn bench() {
         rows.iter().for_each(print_row);
         print_growth(&rows);
     }
+    print_huge();
 }
 
 /// Writes the sheets, for programs that measure something else.
 fn write(folder: &str) {
     let grown = sheets::KINDS.into_iter().map(|kind| sheets::grown(kind, sheets::SIZES[3]));
-    for named in [sheets::small(), sheets::typical()].into_iter().chain(grown) {
+    for named in [sheets::small(), sheets::typical(), sheets::huge()].into_iter().chain(grown) {
         let path = format!("{folder}/{}.sheet", named.name.replace(' ', "-"));
         std::fs::write(path, named.sheet).expect("the folder can be written to");
     }

@@ -1,7 +1,7 @@
 //! The measured sheets, the same in each run.
 
 use crate::random::Random;
-use crate::sheet::{Cell, Column, LONGEST_SHEET, Row, Table, Width, encode};
+use crate::sheet::{Cell, Column, LONGEST_SHEET, Row, Table, Width, decode, encode};
 
 const GRID: [u8; 22] = *b"+-++|||+=++|||+-+++-++";
 const ABSOLUTE: u8 = 3;
@@ -84,13 +84,15 @@ pub fn typical() -> Named {
     Named { name: "typical".to_string(), sheet: encode(&table).bytes }
 }
 
+fn absolute(value: u16) -> Column {
+    Column { constraint: ABSOLUTE, widths: [Width { unit: 0, value }, Width::default()], ..Column::default() }
+}
+
 fn setting(kind: Kind) -> (&'static str, Table) {
-    let narrow =
-        Column { constraint: ABSOLUTE, widths: [Width { unit: 0, value: 1 }, Width::default()], ..Column::default() };
     match kind {
         Kind::Large => ("large", table(200, columns(12))),
         Kind::LongTexts => ("long texts", table(160, columns(2))),
-        Kind::Wrap => ("wrap heavy", table(80, vec![narrow])),
+        Kind::Wrap => ("wrap heavy", table(80, vec![absolute(1)])),
     }
 }
 
@@ -100,6 +102,15 @@ fn one_row(kind: Kind, random: &mut Random) -> Row {
         Kind::LongTexts => row((0..2).map(|_| cell(random, 8, 200, 200)).collect()),
         Kind::Wrap => row(vec![cell(random, 8, 200, 200)]),
     }
+}
+
+/// One column 1 wide, and eleven without cells at the greatest width: a page of over 100 MB.
+pub fn huge() -> Named {
+    // Each further column takes 11 bytes of the sheet.
+    let narrow = grown(Kind::Wrap, SIZES[3] - 11 * 11).sheet;
+    let mut table = decode(&narrow).expect("the sheet is accepted");
+    table.columns.resize(12, absolute(400));
+    Named { name: "huge".to_string(), sheet: encode(&table).bytes }
 }
 
 /// As many rows as the size takes.

@@ -56,9 +56,9 @@ enum {
 enum {
     CAGWONI_LONGEST_SHEET = 32768,
     CAGWONI_MOST_COLUMNS = 12,
-    /* Twelve columns of content width 401 and padding 20+20, a border between each two and at both ends, 0A: no line
-     * has more bytes, so a buffer of this size takes any line. */
-    CAGWONI_LONGEST_LINE = 12 * (401 + 40) + 13 + 1
+    /* A buffer of this size takes any line: twelve columns of content width 801, the bound that is proved, with padding
+     * 20+20, a border between each two and at both ends, and 0A. */
+    CAGWONI_LONGEST_LINE = 12 * (801 + 40) + 13 + 1
 };
 
 typedef struct {
