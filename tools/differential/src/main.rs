@@ -1,10 +1,14 @@
 //! The differential tool: comfy-table as the oracle, document 01 read as a program, aimed sheets.
 
+#[cfg(gateway)]
+mod archive;
 mod beyond;
 mod compare;
 mod damage;
 mod examples;
 mod exhaustive;
+#[cfg(gateway)]
+mod gateway;
 mod generate;
 mod marks;
 mod oracle;
@@ -18,20 +22,21 @@ mod sheet;
 use std::io::{self, Read, Write};
 use std::process::ExitCode;
 
-const USAGE: &str = "run [--rust PATH] COMMAND
-  print                               sheet on standard input, page or `refused N at P` on standard output
+const USAGE: &str = "run [--rust PATH] [--archive PATH] COMMAND
+  print [--by-reading]                sheet on standard input, page or `refused N at P` on standard output
   compare --seed S --count N [--damaged]  the oracle against the reading
   slips --seed S --most N             sheets until each planted mistake shows
   sample --seed S                     writes the stored sample
   check-sample                        the stored sample against the oracle, and the document's examples
   self-test                           the document's examples, and what its limits shut out
   exhaustive                          the oracle against the reading on small spaces of sheets, whole
-  emit --seed S --count N [--damaged] records of sheets and answers on standard output";
+  emit --seed S --count N [--damaged] records of sheets and answers on standard output
+  gateway --seed S --count N [--damaged]  every call of the archive against the oracle; needs --archive";
 
 fn main() -> ExitCode {
     let arguments: Vec<String> = std::env::args().skip(1).collect();
     let done = match arguments.first().map(String::as_str) {
-        Some("print") => print(),
+        Some("print") => print(arguments.get(1).is_some_and(|word| word == "--by-reading")),
         Some("compare") => run_compare(&arguments),
         Some("slips") => both(&arguments, "--most").map(|(seed, most)| compare::slips(seed, most)),
         Some("sample") => number(&arguments, "--seed").and_then(write_sample),
@@ -39,6 +44,7 @@ fn main() -> ExitCode {
         Some("self-test") => Ok(examples::all_pass() && beyond::all_panic()),
         Some("exhaustive") => Ok(exhaustive::all_agree()),
         Some("emit") => emit(&arguments),
+        Some("gateway") => run_gateway(&arguments),
         _ => Err(USAGE.to_string()),
     };
     match done {
@@ -71,10 +77,19 @@ fn damaged(arguments: &[String]) -> bool {
     arguments.iter().any(|argument| argument == "--damaged")
 }
 
-fn print() -> Done {
+/// By the oracle, or by the readings of the document.
+fn print(by_reading: bool) -> Done {
     let mut bytes = Vec::new();
     io::stdin().read_to_end(&mut bytes).map_err(words)?;
-    let out = match sheet::decode(&bytes) {
+    let read = match second::refusal(&bytes) {
+        Some(refusal) if by_reading => Err(refusal),
+        _ => sheet::decode(&bytes),
+    };
+    let out = match read {
+        Ok(table) if by_reading => {
+            let reading = reading::Reading::new(&table, None);
+            reading.page(&reading.widths()).iter().flat_map(|line| line.iter().chain(b"\n")).copied().collect()
+        }
         Ok(table) => oracle::answer(&table).page,
         Err(refusal) => format!("refused {} at {}\n", refusal.number, refusal.place).into_bytes(),
     };
@@ -85,6 +100,17 @@ fn print() -> Done {
 fn run_compare(arguments: &[String]) -> Done {
     let (seed, count) = both(arguments, "--count")?;
     Ok(if damaged(arguments) { compare::damaged(seed, count) } else { compare::accepted(seed, count) })
+}
+
+#[cfg(gateway)]
+fn run_gateway(arguments: &[String]) -> Done {
+    let (seed, count) = both(arguments, "--count")?;
+    Ok(gateway::agrees(seed, count, damaged(arguments)))
+}
+
+#[cfg(not(gateway))]
+fn run_gateway(_: &[String]) -> Done {
+    Err(format!("gateway needs --archive PATH\n{USAGE}"))
 }
 
 fn emit(arguments: &[String]) -> Done {

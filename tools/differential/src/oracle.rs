@@ -27,7 +27,7 @@ pub fn answer(table: &sheet::Table) -> Answer {
     Answer { page, lines, widths: inside::widths(&built) }
 }
 
-fn build(table: &sheet::Table) -> comfy_table::Table {
+pub fn build(table: &sheet::Table) -> comfy_table::Table {
     let mut built = comfy_table::Table::new();
     built.set_content_arrangement(match table.arrangement {
         0 => ContentArrangement::Disabled,

@@ -1,0 +1,118 @@
+/* Cagwoni: a sheet becomes a page of printable ASCII, or is refused with a number and a place.
+ *
+ * A sheet is `sheet_len` bytes from `sheet` on; a page buffer is `page_len` bytes from `page` on. A pointer may be
+ * null if its length is 0. Sheet and buffer must not overlap. No call reads a byte outside the sheet, or reads or
+ * writes one outside the buffer. No call keeps a pointer, allocates, or has state of its own: calls may run in several
+ * threads at once. Every call returns, whatever the bytes, lengths and positions are.
+ *
+ * A page is lines of bytes 20 to 7E (hexadecimal), each closed by byte 0A. Lines are counted from 0, and a line's
+ * bytes include its 0A.
+ *
+ * A refused call answers a number other than 0, a place and a written count of 0; its other counts and widths are 0,
+ * no column is marked hidden, and the page buffer keeps every byte. Otherwise number and place are 0, and the bytes of
+ * the buffer after the written count are untouched.
+ *
+ * From the input; every call gives these, and they come before 21 and 20. 2 is tested first, then fields left to
+ * right, 1 before any other at a field, then 9. The place is the field's first byte unless said; each character is a
+ * field of its own.
+ *   CAGWONI_ENDS_EARLY        1  sheet ends before a field is whole, an empty sheet included (place: its length)
+ *   CAGWONI_TOO_LONG          2  sheet over 32,768 bytes (place 32,768)
+ *   CAGWONI_EDITION           3  edition not 1
+ *   CAGWONI_UNKNOWN_CODE      4  unknown code (arrangement, alignment, constraint, used unit)
+ *   CAGWONI_BEYOND_LIMITS     5  count, length or value beyond its limits
+ *   CAGWONI_NOT_PRINTABLE     6  byte neither printable nor an allowed 0
+ *   CAGWONI_MORE_CELLS        7  more cells than columns (cell count at most 12)
+ *   CAGWONI_UNUSED_NOT_ZERO   8  unused width byte not zero (place: that byte)
+ *   CAGWONI_BYTES_AFTER       9  bytes after the last row (place: the first of them)
+ * From the state of the call; 21 is tested before 20.
+ *   CAGWONI_BUFFER_SHORT     20  buffer shorter than the page or line (place: bytes needed)
+ *   CAGWONI_PAST_END         21  position at or past the line count (place: that count)
+ */
+#ifndef CAGWONI_H
+#define CAGWONI_H
+
+#include <stdbool.h>
+#include <stddef.h>
+#include <stdint.h>
+
+#ifdef __cplusplus
+extern "C" {
+#endif
+
+enum {
+    CAGWONI_ENDS_EARLY = 1,
+    CAGWONI_TOO_LONG = 2,
+    CAGWONI_EDITION = 3,
+    CAGWONI_UNKNOWN_CODE = 4,
+    CAGWONI_BEYOND_LIMITS = 5,
+    CAGWONI_NOT_PRINTABLE = 6,
+    CAGWONI_MORE_CELLS = 7,
+    CAGWONI_UNUSED_NOT_ZERO = 8,
+    CAGWONI_BYTES_AFTER = 9,
+    CAGWONI_BUFFER_SHORT = 20,
+    CAGWONI_PAST_END = 21
+};
+
+enum {
+    CAGWONI_LONGEST_SHEET = 32768,
+    CAGWONI_MOST_COLUMNS = 12,
+    /* A buffer of this size takes any line: twelve columns of content width 801, the bound that is proved, with padding
+     * 20+20, a border between each two and at both ends, and 0A. */
+    CAGWONI_LONGEST_LINE = 12 * (801 + 40) + 13 + 1
+};
+
+typedef struct {
+    uint64_t number, place;
+} cagwoni_checked;
+
+typedef struct {
+    uint64_t number, place, lines, bytes;
+} cagwoni_counted;
+
+typedef struct {
+    uint64_t number, place, columns;
+    uint16_t content[12];
+    bool hidden[12];
+} cagwoni_measured;
+
+typedef struct {
+    uint64_t number, place, written;
+} cagwoni_printed;
+
+typedef struct {
+    uint64_t number, place, written, next;
+} cagwoni_printed_lines;
+
+/* Checks a sheet. It is accepted (number 0) when none of the numbers 1 to 9 applies to it; each call below refuses
+ * the same sheets with the same number and place. */
+cagwoni_checked cagwoni_check(const uint8_t *sheet, size_t sheet_len);
+
+/* The page's line count and byte count, the closing bytes 0A included. */
+cagwoni_counted cagwoni_count(const uint8_t *sheet, size_t sheet_len);
+
+/* The count of columns, and for each of them the content width, which leaves padding out, and whether the column is
+ * hidden. Entries past the columns are 0 and not hidden. */
+cagwoni_measured cagwoni_widths(const uint8_t *sheet, size_t sheet_len);
+
+/* Prints the page. Number 0: the first `written` bytes of the buffer are the page, and those after them are
+ * untouched. Number 20, place the page's byte count, if `page_len` is below that; the buffer keeps every byte. */
+cagwoni_printed cagwoni_print_page(const uint8_t *sheet, size_t sheet_len, uint8_t *page, size_t page_len);
+
+/* Prints line `line` of the page, its 0A included. Number 0: the first `written` bytes of the buffer are that line,
+ * and those after them are untouched. Number 21, place the line count, if `line` isn't below that; else 20, place
+ * the line's byte count, if `page_len` is below that. Refused, the buffer keeps every byte. */
+cagwoni_printed cagwoni_print_line(const uint8_t *sheet, size_t sheet_len, size_t line, uint8_t *page, size_t page_len);
+
+/* Prints lines of the page from line `line` on, as many whole ones as the buffer holds. Number 0: the first `written`
+ * bytes of the buffer are the lines `line` to `next` less 1, one after another, and those after them are untouched;
+ * `next` is above `line`, and it is the line count exactly if the page's last line was printed. Number 21, place the
+ * line count, if `line` isn't below that; else 20, place the byte count of line `line`, if not even that line fits.
+ * Refused, `next` is 0 too, and the buffer keeps every byte. */
+cagwoni_printed_lines cagwoni_print_lines(const uint8_t *sheet, size_t sheet_len, size_t line, uint8_t *page,
+                                          size_t page_len);
+
+#ifdef __cplusplus
+}
+#endif
+
+#endif

@@ -1,0 +1,44 @@
+/* Random bytes as sheets, seeded: noise, and the desk's sheet with some bytes changed. */
+#include <string.h>
+
+#include "cases.h"
+#include "check.h"
+#include "replay.h"
+
+/* splitmix64 */
+static uint64_t next(uint64_t *state) {
+    uint64_t z = *state += 0x9E3779B97F4A7C15u;
+    z = (z ^ (z >> 30)) * 0xBF58476D1CE4E5B9u;
+    z = (z ^ (z >> 27)) * 0x94D049BB133111EBu;
+    return z ^ (z >> 31);
+}
+
+static size_t noise(uint8_t *sheet, uint64_t *state) {
+    size_t length = next(state) % 200;
+    int small = next(state) % 2;
+    for (size_t at = 0; at < length; at++)
+        sheet[at] = (uint8_t)(small ? next(state) % 5 : next(state));
+    if (length > 0 && next(state) % 4)
+        sheet[0] = 1;
+    return length;
+}
+
+static size_t changed_desk(uint8_t *sheet, uint64_t *state) {
+    size_t length = sizeof desk_sheet;
+    memcpy(sheet, desk_sheet, length);
+    for (size_t changes = 1 + next(state) % 3; changes > 0; changes--) {
+        uint8_t *byte = &sheet[next(state) % length];
+        *byte = (uint8_t)(next(state) % 2 ? *byte + 1 + next(state) % 4 : next(state));
+    }
+    return next(state) % 4 ? length : next(state) % length;
+}
+
+void random_cases(enum fence fence, size_t count) {
+    uint8_t sheet[200];
+    uint64_t state = 20261115;
+    for (size_t index = 0; index < count; index++) {
+        about_sheet("random, number", index);
+        size_t length = next(&state) % 2 ? noise(sheet, &state) : changed_desk(sheet, &state);
+        replay_unknown(sheet, length, fence);
+    }
+}

@@ -1,0 +1,92 @@
+//! The calls of include/cagwoni.h.
+
+#[repr(C)]
+#[derive(Debug, PartialEq)]
+pub struct Checked {
+    pub number: u64,
+    pub place: u64,
+}
+
+#[repr(C)]
+#[derive(Debug, PartialEq)]
+pub struct Counted {
+    pub number: u64,
+    pub place: u64,
+    pub lines: u64,
+    pub bytes: u64,
+}
+
+/// The flags are bytes here: a byte other than 0 and 1 is then a difference, not a broken `bool`.
+#[repr(C)]
+#[derive(Debug, PartialEq)]
+pub struct Measured {
+    pub number: u64,
+    pub place: u64,
+    pub columns: u64,
+    pub content: [u16; 12],
+    pub hidden: [u8; 12],
+}
+
+#[repr(C)]
+#[derive(Debug, PartialEq)]
+pub struct Printed {
+    pub number: u64,
+    pub place: u64,
+    pub written: u64,
+}
+
+#[repr(C)]
+#[derive(Debug, PartialEq)]
+pub struct PrintedLines {
+    pub number: u64,
+    pub place: u64,
+    pub written: u64,
+    pub next: u64,
+}
+
+unsafe extern "C" {
+    fn cagwoni_check(sheet: *const u8, sheet_len: usize) -> Checked;
+    fn cagwoni_count(sheet: *const u8, sheet_len: usize) -> Counted;
+    fn cagwoni_widths(sheet: *const u8, sheet_len: usize) -> Measured;
+    fn cagwoni_print_page(sheet: *const u8, sheet_len: usize, page: *mut u8, page_len: usize) -> Printed;
+    fn cagwoni_print_line(sheet: *const u8, sheet_len: usize, line: usize, page: *mut u8, page_len: usize) -> Printed;
+    fn cagwoni_print_lines(
+        sheet: *const u8,
+        sheet_len: usize,
+        line: usize,
+        page: *mut u8,
+        page_len: usize,
+    ) -> PrintedLines;
+}
+
+/// The calls on one sheet.
+pub struct Calls<'a> {
+    pub sheet: &'a [u8],
+}
+
+// Safety: a slice is as many readable bytes as its length says, and a `&mut` one is lent to nobody else.
+impl Calls<'_> {
+    pub fn check(&self) -> Checked {
+        unsafe { cagwoni_check(self.sheet.as_ptr(), self.sheet.len()) }
+    }
+
+    pub fn count(&self) -> Counted {
+        unsafe { cagwoni_count(self.sheet.as_ptr(), self.sheet.len()) }
+    }
+
+    pub fn widths(&self) -> Measured {
+        unsafe { cagwoni_widths(self.sheet.as_ptr(), self.sheet.len()) }
+    }
+
+    pub fn page(&self, page: &mut [u8]) -> Printed {
+        unsafe { cagwoni_print_page(self.sheet.as_ptr(), self.sheet.len(), page.as_mut_ptr(), page.len()) }
+    }
+
+    pub fn line(&self, line: usize, page: &mut [u8]) -> Printed {
+        unsafe { cagwoni_print_line(self.sheet.as_ptr(), self.sheet.len(), line, page.as_mut_ptr(), page.len()) }
+    }
+
+    pub fn lines(&self, line: usize, page: &mut [u8]) -> PrintedLines {
+        unsafe { cagwoni_print_lines(self.sheet.as_ptr(), self.sheet.len(), line, page.as_mut_ptr(), page.len()) }
+    }
+}
