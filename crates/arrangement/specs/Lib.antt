@@ -1,0 +1,2 @@
+pub mod Arrange
+pub mod Limits
