@@ -80,11 +80,11 @@ left-falls s t g e =
     let n : ones (t .decided) ≤ ones (s .decided) → ⊥ = λ h. eqb-false (t .decided) (s .decided) e (ap (λ (x : State). x .decided) (g .same h)) in
     omega (arith, g .more)
 
-again-stop : (k : ℕ) (f : State → State) (r : State) → eqb (f r .decided) (r .decided) ≡ true → again (suc k) f r ≡ f r
+pub again-stop : (k : ℕ) (f : State → State) (r : State) → eqb (f r .decided) (r .decided) ≡ true → again (suc k) f r ≡ f r
 unfolding again
 again-stop k f r e = rw (e, again)
 
-again-go : (k : ℕ) (f : State → State) (r : State) → eqb (f r .decided) (r .decided) ≡ false → again (suc k) f r ≡ again k f (f r)
+pub again-go : (k : ℕ) (f : State → State) (r : State) → eqb (f r .decided) (r .decided) ≡ false → again (suc k) f r ≡ again k f (f r)
 unfolding again
 again-go k f r e = rw (e, again)
 

@@ -1,7 +1,6 @@
 -- The arrangement: untargeted widths, the remaining width, steps 1 to 4, full width.
 use Prim.Native.Nat.{ℕ, zero, suc, _+_, _-_, _/_, _%_, max}
 use mathlib.Core.Bool.{true, false}
-use mathlib.Core.List.{List}
 use lib.ListN.{getD, set, replicate}
 use lib.Dec.{eqb, leb, ltb}
 use lib.Count.{ones}
