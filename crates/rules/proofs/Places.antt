@@ -154,7 +154,7 @@ laid-only {here} {stop} good n f h s p a q e = go (f s p) refl e
     go (got v r) i j = tested v r (good v) i j
     go (refused m r) i j = let z : _≡_ {A = ℕ} 0 1 = cc in absurd (omega arith)
 
-laid-tested : (good : ℕ → Bool) (n : ℕ) → Laid byteAt (λ s p. p + 1) (only good n byte)
+pub laid-tested : (good : ℕ → Bool) (n : ℕ) → Laid byteAt (λ s p. p + 1) (only good n byte)
 laid-tested good n = laid-only good n byte laid-byte
 
 laid-zeroWord : Laid wordAt (λ s p. p + 2) zeroWord
@@ -192,7 +192,7 @@ byte-there s p v q e = go (ltb p (length s)) refl e
     go true i j = ltb-true p (length s) i
     go false i j = let z : _≡_ {A = ℕ} 0 1 = cc in absurd (omega arith)
 
-tested-there : (good : ℕ → Bool) (n : ℕ) (s : List ℕ) (p v q : ℕ) → only good n byte s p ≡ got v q → p < length s
+pub tested-there : (good : ℕ → Bool) (n : ℕ) (s : List ℕ) (p v q : ℕ) → only good n byte s p ≡ got v q → p < length s
 unfolding only onward
 tested-there good n s p v q e = go (byte s p) refl e
   where

@@ -1,0 +1,142 @@
+-- What each reader of one field comes to, one law for each way out of the code: a premise stands as the code tests it. Assumes nothing.
+use Prim.Native.Nat.{ℕ, _+_, _-_, _*_, _%_, _<_, _≤_}
+use mathlib.Core.Path.{_≡_}
+use mathlib.Core.List.{List}
+use native.Mathlib.Omega.{arith}
+use lib.ListN.{length, getD, List·getD-eq-default}
+use borrow.Author.Tests.{le-ltb, lt-ltb, le-leb, lt-leb, eq-eqb, ne-eqb}
+use Rattle.rules.specs.Field.{Reader, onward, byte, word, only, wordTo, optional, zeroWord}
+use Rattle.sheet.specs.Steps.{after, byteOf, byteBetween, cellCount}
+use Rattle.sheet.specs.declared.field.Step.{Step}
+use Rattle.sheet.specs.declared.field.Step.the-variants.{At, Refused}
+
+-- a refusal is handed on, and no byte stands there
+pub after-stopped : {A : Type 0} (f : Reader A) (s : List ℕ) (x : Step) (n q : ℕ) → x ≡ Refused n q → x ≡ after f s x
+unfolding after
+after-stopped f s x n q e = rw e
+
+pub byte-stopped : (s : List ℕ) (x : Step) (n q : ℕ) → x ≡ Refused n q → 0 ≡ byteOf s x
+unfolding byteOf
+byte-stopped s x n q e = rw e
+
+module _ (s : List ℕ) (x : Step) (p : ℕ) (e : x ≡ At p) where
+  pub byte-there : p < length s → getD s p 0 ≡ byteOf s x
+  unfolding byteOf
+  byte-there h = rw e
+
+  pub byte-past : length s ≤ p → 0 ≡ byteOf s x
+  unfolding byteOf
+  byte-past h = rw (e, List·getD-eq-default s 0 h)
+
+module _ (low high number : ℕ) (s : List ℕ) (x : Step) (p : ℕ) (e : x ≡ At p) where
+  pub between-ended : length s ≤ p → Refused 1 (length s) ≡ after (byteBetween low high number) s x
+  unfolding after only byte onward
+  between-ended h = rw (e, le-ltb p (length s) h, byte)
+
+  pub between-low : p < length s → getD s p 0 < low → Refused number p ≡ after (byteBetween low high number) s x
+  unfolding after only byte onward
+  between-low h k = rw (e, lt-ltb p (length s) h, byte, lt-leb low (getD s p 0) k, onward)
+
+  pub between-high : p < length s → low ≤ getD s p 0 → high < getD s p 0 → Refused number p ≡ after (byteBetween low high number) s x
+  unfolding after only byte onward
+  between-high h k l = rw (e, lt-ltb p (length s) h, byte, le-leb low (getD s p 0) k, lt-leb (getD s p 0) high l, onward)
+
+  pub between-good : p < length s → low ≤ getD s p 0 → getD s p 0 ≤ high → At (p + 1) ≡ after (byteBetween low high number) s x
+  unfolding after only byte onward
+  between-good h k l = rw (e, lt-ltb p (length s) h, byte, le-leb low (getD s p 0) k, le-leb (getD s p 0) high l, onward)
+
+module _ (s : List ℕ) (x : Step) (p : ℕ) (e : x ≡ At p) where
+  pub optional-ended : length s ≤ p → Refused 1 (length s) ≡ after optional s x
+  unfolding after only byte onward
+  optional-ended h = rw (e, le-ltb p (length s) h, byte)
+
+  pub optional-zero : p < length s → getD s p 0 ≡ 0 → At (p + 1) ≡ after optional s x
+  unfolding after only byte onward
+  optional-zero h k = rw (e, lt-ltb p (length s) h, byte, eq-eqb (getD s p 0) 0 k, onward)
+
+  pub optional-low : p < length s → (getD s p 0 ≡ 0 → ⊥) → getD s p 0 < 32 → Refused 6 p ≡ after optional s x
+  unfolding after only byte onward
+  optional-low h z k = rw (e, lt-ltb p (length s) h, byte, ne-eqb (getD s p 0) 0 z, lt-leb 32 (getD s p 0) k, onward)
+
+  pub optional-high : p < length s → (getD s p 0 ≡ 0 → ⊥) → 32 ≤ getD s p 0 → 126 < getD s p 0 → Refused 6 p ≡ after optional s x
+  unfolding after only byte onward
+  optional-high h z k l = rw (e, lt-ltb p (length s) h, byte, ne-eqb (getD s p 0) 0 z, le-leb 32 (getD s p 0) k, lt-leb (getD s p 0) 126 l, onward)
+
+  pub optional-good : p < length s → (getD s p 0 ≡ 0 → ⊥) → 32 ≤ getD s p 0 → getD s p 0 ≤ 126 → At (p + 1) ≡ after optional s x
+  unfolding after only byte onward
+  optional-good h z k l = rw (e, lt-ltb p (length s) h, byte, ne-eqb (getD s p 0) 0 z, le-leb 32 (getD s p 0) k, le-leb (getD s p 0) 126 l, onward)
+
+module _ (most : ℕ) (s : List ℕ) (x : Step) (p : ℕ) (e : x ≡ At p) where
+  pub word-ended : length s ≤ p → Refused 1 (length s) ≡ after (wordTo most) s x
+  unfolding after only word onward
+  word-ended h = rw (e, le-ltb (p + 1) (length s) (omega arith), word)
+
+  pub word-cut : p < length s → length s - p < 2 → Refused 1 (length s) ≡ after (wordTo most) s x
+  unfolding after only word onward
+  word-cut h k = rw (e, le-ltb (p + 1) (length s) (omega arith), word)
+
+  pub word-high : (l h : ℕ) → l ≡ getD s p 0 → h ≡ getD s (p + 1) 0 → p < length s → 2 ≤ length s - p → most < l + h * 256 → Refused 5 p ≡ after (wordTo most) s x
+  unfolding after only word onward
+  word-high l h i j a b m =
+      let k : p + 1 < length s = omega arith in
+      let n = rw (i, j) at m in
+      rw (e, lt-ltb (p + 1) (length s) k, word, le-leb 0 (getD s p 0 + getD s (p + 1) 0 * 256) (omega arith), lt-leb (getD s p 0 + getD s (p + 1) 0 * 256) most n, onward)
+
+  pub word-good : (l h : ℕ) → l ≡ getD s p 0 → h ≡ getD s (p + 1) 0 → p < length s → 2 ≤ length s - p → l + h * 256 ≤ most → At (p + 2) ≡ after (wordTo most) s x
+  unfolding after only word onward
+  word-good l h i j a b m =
+      let k : p + 1 < length s = omega arith in
+      let n = rw (i, j) at m in
+      rw (e, lt-ltb (p + 1) (length s) k, word, le-leb 0 (getD s p 0 + getD s (p + 1) 0 * 256) (omega arith), le-leb (getD s p 0 + getD s (p + 1) 0 * 256) most n, onward)
+
+module _ (s : List ℕ) (x : Step) (p : ℕ) (e : x ≡ At p) where
+  pub zeros-ended : length s ≤ p → Refused 1 (length s) ≡ after zeroWord s x
+  unfolding after zeroWord word onward
+  zeros-ended h = rw (e, le-ltb (p + 1) (length s) (omega arith), word)
+
+  pub zeros-cut : p < length s → length s - p < 2 → Refused 1 (length s) ≡ after zeroWord s x
+  unfolding after zeroWord word onward
+  zeros-cut h k = rw (e, le-ltb (p + 1) (length s) (omega arith), word)
+
+  pub zeros-low : p < length s → 2 ≤ length s - p → (getD s p 0 ≡ 0 → ⊥) → getD s p 0 < 256 → Refused 8 p ≡ after zeroWord s x
+  unfolding after zeroWord word onward
+  zeros-low i j z k =
+      let h : p + 1 < length s = omega arith in
+      let v : getD s p 0 + getD s (p + 1) 0 * 256 ≡ 0 → ⊥ = λ i. z (omega arith) in
+      let w : (getD s p 0 + getD s (p + 1) 0 * 256) % 256 ≡ getD s p 0 = omega arith in
+      rw (e, lt-ltb (p + 1) (length s) h, word, ne-eqb (getD s p 0 + getD s (p + 1) 0 * 256) 0 v, w, ne-eqb (getD s p 0) 0 z, onward)
+
+  pub zeros-high : p < length s → 2 ≤ length s - p → getD s p 0 ≡ 0 → (getD s (p + 1) 0 ≡ 0 → ⊥) → Refused 8 (p + 1) ≡ after zeroWord s x
+  unfolding after zeroWord word onward
+  zeros-high i j z k =
+      let h : p + 1 < length s = omega arith in
+      let v : getD s p 0 + getD s (p + 1) 0 * 256 ≡ 0 → ⊥ = λ i. k (omega arith) in
+      let w : (getD s p 0 + getD s (p + 1) 0 * 256) % 256 ≡ 0 = omega arith in
+      rw (e, lt-ltb (p + 1) (length s) h, word, ne-eqb (getD s p 0 + getD s (p + 1) 0 * 256) 0 v, eq-eqb ((getD s p 0 + getD s (p + 1) 0 * 256) % 256) 0 w, onward)
+
+  pub zeros-good : p < length s → 2 ≤ length s - p → getD s p 0 ≡ 0 → getD s (p + 1) 0 ≡ 0 → At (p + 2) ≡ after zeroWord s x
+  unfolding after zeroWord word onward
+  zeros-good i j z k =
+      let h : p + 1 < length s = omega arith in
+      let v : getD s p 0 + getD s (p + 1) 0 * 256 ≡ 0 = omega arith in
+      rw (e, lt-ltb (p + 1) (length s) h, word, eq-eqb (getD s p 0 + getD s (p + 1) 0 * 256) 0 v, onward)
+
+-- a cell count: 5 above the limit, else 7 above the columns
+module _ (columns : ℕ) (s : List ℕ) (x : Step) (p : ℕ) (e : x ≡ At p) where
+  pub count-ended : length s ≤ p → Refused 1 (length s) ≡ after (cellCount columns) s x
+  unfolding after only byte onward
+  count-ended h = rw (e, le-ltb p (length s) h, byte)
+
+  pub count-most : p < length s → 12 < getD s p 0 → Refused 5 p ≡ after (cellCount columns) s x
+  unfolding after only byte onward
+  count-most h k = rw (e, lt-ltb p (length s) h, byte, le-leb 0 (getD s p 0) (omega arith), lt-leb (getD s p 0) 12 k, onward)
+
+  pub count-columns : p < length s → getD s p 0 ≤ 12 → columns < getD s p 0 → Refused 7 p ≡ after (cellCount columns) s x
+  unfolding after only byte onward
+  count-columns h k l = rw (e, lt-ltb p (length s) h, byte, le-leb 0 (getD s p 0) (omega arith), le-leb (getD s p 0) 12 k, le-leb 0 (getD s p 0) (omega arith), lt-leb (getD s p 0) columns l, onward)
+
+  pub count-good : p < length s → getD s p 0 ≤ 12 → getD s p 0 ≤ columns → At (p + 1) ≡ after (cellCount columns) s x
+  unfolding after only byte onward
+  count-good h k l = rw (e, lt-ltb p (length s) h, byte, le-leb 0 (getD s p 0) (omega arith), le-leb (getD s p 0) 12 k, le-leb 0 (getD s p 0) (omega arith), le-leb (getD s p 0) columns l, onward)
+
+pub ruleset fields = (after-stopped, byte-stopped, byte-there, byte-past, between-ended, between-low, between-high, between-good, optional-ended, optional-zero, optional-low, optional-high, optional-good, word-ended, word-cut, word-high, word-good, zeros-ended, zeros-cut, zeros-low, zeros-high, zeros-good, count-ended, count-most, count-columns, count-good)

@@ -1,0 +1,6 @@
+pub mod Fields
+pub mod Loops
+pub mod Sections
+pub mod Cases
+pub mod Held
+pub mod Copies

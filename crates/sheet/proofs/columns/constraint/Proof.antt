@@ -1,0 +1,14 @@
+use Rattle.sheet.specs.Steps.{constraintAfter}
+use borrow.Author.Needs.{needs}
+use Rattle.sheet.proofs.columns.constraint.Statement.{statement}
+use Rattle.sheet.proofs.columns.constraint.Tie as tie
+
+pub constraint-spec : {M : Type 1} → statement M
+unfolding constraintAfter
+constraint-spec =
+    tie.close
+    (tie.spec
+    (λ c κs. search needs)
+    (λ c κs. search needs)
+    (λ c κs. search needs)
+    (λ c. rw (c .width2 .ensures, c .before .width .ensures, c .before .before .byte-between .ensures .0, c .before .before .byte-between .ensures .1)))

@@ -1,0 +1,24 @@
+use Rattle.rules.proofs.Places.{columnHere}
+use borrow.Author.Needs.{needs}
+use Rattle.sheet.proofs.settings.column_at.Statement.{statement}
+use Rattle.sheet.proofs.settings.column_at.Tie as tie
+
+pub column-at-spec : {M : Type 1} → statement M
+unfolding columnHere
+column-at-spec =
+    tie.close
+    (tie.spec
+    (λ c. search needs)
+    (λ c κs. search needs)
+    (λ c. search needs)
+    (λ c κs. search needs)
+    (λ c. search needs)
+    (λ c. search needs)
+    (λ c. search needs)
+    (λ c. search needs)
+    (λ c. search needs)
+    (λ c. search needs)
+    (λ c. search needs)
+    (λ c. search needs)
+    (λ c. search needs)
+    (λ c. rw (c .before .before .before .before .before .width-at2 .ensures, c .before .before .before .before .before .before .width-at .ensures)))

@@ -1,0 +1,12 @@
+use borrow.Author.Needs.{needs}
+use Rattle.sheet.proofs.settings.width_at.Statement.{statement}
+use Rattle.sheet.proofs.settings.width_at.Tie as tie
+
+pub width-at-spec : {M : Type 1} → statement M
+width-at-spec =
+    tie.close
+    (tie.spec
+    (λ c. search needs)
+    (λ c. search needs)
+    (λ c κs. search needs)
+    (λ c. rw (c .word-at .ensures)))

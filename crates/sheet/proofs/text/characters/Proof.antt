@@ -1,0 +1,33 @@
+use Prim.Native.Nat.{_+_, _-_, _≤_}
+use mathlib.Core.Path.{_≡_}
+use native.Mathlib.Omega.{arith}
+use Rattle.rules.specs.Field.{character}
+use Rattle.sheet.specs.Steps.{after, times}
+use Rattle.sheet.specs.declared.field.Step.the-variants.{At}
+use Rattle.sheet.proofs.Loops.{Characters, character-low, character-high, character-next, character-cut, characters-done, characters-begin}
+use Rattle.sheet.proofs.text.characters.Statement.{statement}
+use Rattle.sheet.proofs.text.characters.Tie as tie
+
+abbrev Inv-loop : tie.InvT-loop
+Inv-loop sheet start n end i₀ i = (start ≤ i) × ((i ≤ end) × Characters sheet (start + n) i (times n (after character sheet) (At start)))
+
+abbrev μ-loop : tie.MeasureT-loop
+μ-loop sheet start n end i₀ i = end - i
+
+pub characters-spec : {M : Type 1} → statement M
+characters-spec =
+    tie.close
+    (tie.spec
+    Inv-loop
+    μ-loop
+    (λ c κs. omega arith)
+    (λ c. (omega arith, (omega arith, characters-begin _ _ _)))
+    (λ c. omega arith)
+    (λ c. character-low _ _ _ _ (c .before .before .before .loop .inv .1 .1) (omega arith) (omega arith) (omega arith))
+    (λ c. character-high _ _ _ _ (c .before .before .before .before .loop .inv .1 .1) (omega arith) (omega arith) (omega arith) (omega arith))
+    (λ c. omega arith)
+    (λ c. omega arith)
+    (λ c. (omega arith, (omega arith, character-next _ _ _ _ (c .before .before .before .before .loop .inv .1 .1) (omega arith) (omega arith) (omega arith) (omega arith))))
+    (λ c. omega arith)
+    (λ c. character-cut _ _ _ _ (c .before .before .loop .inv .1 .1) (omega arith) (omega arith))
+    (λ c. let z : c .before .before .before .reach .result ≡ c .before .before .loop .i = omega arith in rw z (characters-done _ _ _ _ (c .before .before .loop .inv .1 .1) (omega arith))))

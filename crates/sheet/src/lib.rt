@@ -1,0 +1,99 @@
+// Sheet, edition 1: checks a sheet, and hands out what it holds.
+pub mod columns;
+pub mod field;
+pub mod records;
+pub mod rows;
+pub mod settings;
+pub mod text;
+
+ghost use mathlib.Core.Path.{_≡_};
+ghost use Rattle.rules.specs.Field as fields;
+ghost use Rattle.rules.specs.Field.{counted, optional};
+ghost use Rattle.rules.specs.Calls as calls;
+ghost use Rattle.sheet.specs.Steps.{after, answerOf, headAfter, bodyAfter};
+use field::Step;
+use rules::Checked;
+
+// The style's 22 characters.
+fn style(sheet: &[u8], from: Step) -> Step
+    ensures { λ r. ⌜ r ≡ after (counted 22 22 optional) (now (sheet .entry)) from ⌝ }
+{
+    let count = field::byte_between(sheet, from, 22, 22, 5);
+    let n = count.value;
+    let mut step = count.next;
+    let mut i: u8 = 0;
+    while i < n {
+        step = field::printable_or_zero(sheet, step);
+        i += 1;
+    }
+    step
+}
+
+// Edition, arrangement, target, delimiter, indicator, style.
+fn head(sheet: &[u8], from: Step) -> Step
+    ensures { λ r. ⌜ r ≡ headAfter (now (sheet .entry)) from ⌝ }
+{
+    let edition = field::within(sheet, from, 1, 1, 3);
+    let arrangement = field::within(sheet, edition, 0, 2, 4);
+    let target = field::word(sheet, arrangement, 400);
+    let delimiter = field::printable_or_zero(sheet, target);
+    let indicator = text::text(sheet, delimiter, 8);
+    style(sheet, indicator)
+}
+
+// Columns, header, rows.
+fn body(sheet: &[u8], from: Step) -> Step
+    ensures { λ r. ⌜ r ≡ bodyAfter (now (sheet .entry)) from ⌝ }
+{
+    let columns = columns::columns(sheet, from);
+    let count = columns.value;
+    let header = columns.next;
+    let rows = rows::rows(sheet, header, count, 1);
+    rows::rows(sheet, rows, count, 100)
+}
+
+// Nothing stands after the last row.
+fn ended(sheet: &[u8], from: Step) -> Step
+    ensures { λ r. ⌜ r ≡ after fields.ended (now (sheet .entry)) from ⌝ }
+{
+    let Step::At(at) = from else {
+        return from;
+    };
+    if at < sheet.len() {
+        return Step::Refused {
+            number: 9,
+            place: at,
+        };
+    }
+    from
+}
+
+fn answer(step: Step) -> Checked
+    ensures { λ r. ⌜ r ≡ answerOf step ⌝ }
+{
+    match step {
+        Step::At(_) => Checked {
+            number: 0,
+            place: 0,
+        },
+        Step::Refused { number, place } => Checked {
+            number,
+            place: place as u64,
+        },
+    }
+}
+
+// Number and place of the first refusal from the input, both 0 where the sheet is accepted. Any bytes may be asked about.
+pub fn check(sheet: &[u8]) -> Checked
+    ensures { λ r. ⌜ r ≡ calls.check (now (sheet .entry)) ⌝ }
+{
+    if 32768 < sheet.len() {
+        return Checked {
+            number: 2,
+            place: 32768,
+        };
+    }
+    let style = head(sheet, Step::At(0));
+    let last = body(sheet, style);
+    answer(ended(sheet, last))
+}

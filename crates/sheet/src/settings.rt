@@ -1,0 +1,125 @@
+// What an accepted sheet says of the whole table, by value.
+ghost use mathlib.Core.Path.{_≡_};
+ghost use Prim.Native.Nat.{_+_, _<_, _≤_};
+ghost use lib.ListN.{length};
+ghost use Rattle.rules.proofs.Places as places;
+ghost use Rattle.sheet.specs.Held.{Passes, tableOf, settingsOf, indicatorOf, columnsOf};
+use super::field;
+use super::records::Columns;
+use super::records::Indicator;
+use super::records::Settings;
+use rules::Column;
+use rules::Width;
+
+// Two bytes, low byte first.
+fn word_at(sheet: &[u8], at: usize) -> u16
+    requires { ⌜ at + 1 < length (now sheet) ⌝ }
+    ensures { λ r. ⌜ r ≡ places.wordAt (now (sheet .entry)) at ⌝ }
+{
+    let low = field::wide(sheet[at]);
+    let high = field::wide(sheet[at + 1]);
+    low + high * 256
+}
+
+pub fn settings(sheet: &[u8]) -> Settings
+    requires { ⌜ Passes (now sheet) ⌝ }
+    ensures { λ r. ⌜ r ≡ settingsOf (tableOf (now (sheet .entry))) ⌝ }
+{
+    Settings {
+        arrangement: sheet[1],
+        target: word_at(sheet, 2),
+        delimiter: sheet[4],
+    }
+}
+
+fn size(byte: u8) -> usize
+    ensures { λ r. ⌜ (r ≡ byte) × (r < 256) ⌝ }
+{
+    byte as usize
+}
+
+pub fn indicator(sheet: &[u8]) -> Indicator
+    requires { ⌜ Passes (now sheet) ⌝ }
+    ensures { λ r. ⌜ r ≡ indicatorOf (tableOf (now (sheet .entry))) ⌝ }
+{
+    let count = size(sheet[5]);
+    let mut characters = [0u8; 8];
+    let mut i: usize = 0;
+    while i < count {
+        let at = 6 + i;
+        characters[i] = sheet[at];
+        i += 1;
+    }
+    Indicator { count, characters }
+}
+
+// The style's characters, in the order of the record `TableStyle`.
+pub fn style(sheet: &[u8]) -> [u8; 22]
+    requires { ⌜ Passes (now sheet) ⌝ }
+    ensures { λ r. ⌜ r ≡ tableOf (now (sheet .entry)) .style ⌝ }
+{
+    let first = 7 + size(sheet[5]);
+    let mut characters = [0u8; 22];
+    let mut i: usize = 0;
+    while i < 22 {
+        let at = first + i;
+        characters[i] = sheet[at];
+        i += 1;
+    }
+    characters
+}
+
+fn width_at(sheet: &[u8], at: usize) -> Width
+    requires { ⌜ at + 2 < length (now sheet) ⌝ }
+    ensures { λ r. ⌜ r ≡ places.widthHere (now (sheet .entry)) at ⌝ }
+{
+    Width {
+        unit: sheet[at],
+        value: word_at(sheet, at + 1),
+    }
+}
+
+fn column_at(sheet: &[u8], at: usize) -> Column
+    requires { ⌜ at + 10 < length (now sheet) ⌝ }
+    ensures { λ r. ⌜ r ≡ places.columnHere (now (sheet .entry)) at ⌝ }
+{
+    let first = width_at(sheet, at + 5);
+    let second = width_at(sheet, at + 8);
+    Column {
+        left: sheet[at],
+        right: sheet[at + 1],
+        delimiter: sheet[at + 2],
+        alignment: sheet[at + 3],
+        constraint: sheet[at + 4],
+        first,
+        second,
+    }
+}
+
+// What stands past the columns: nothing is set.
+const NONE: Column = Column {
+    left: 0,
+    right: 0,
+    delimiter: 0,
+    alignment: 0,
+    constraint: 0,
+    first: Width { unit: 0, value: 0 },
+    second: Width { unit: 0, value: 0 },
+};
+
+pub fn columns(sheet: &[u8]) -> Columns
+    requires { ⌜ Passes (now sheet) ⌝ }
+    ensures { λ r. ⌜ r ≡ columnsOf (tableOf (now (sheet .entry))) ⌝ }
+{
+    let place = 29 + size(sheet[5]);
+    let count = size(sheet[place]);
+    let mut each = [NONE; 12];
+    let mut at = place + 1;
+    let mut i: usize = 0;
+    while i < count {
+        each[i] = column_at(sheet, at);
+        at += 11;
+        i += 1;
+    }
+    Columns { count, each }
+}
