@@ -49,21 +49,21 @@ pub line-onward : (s : List ℕ) (p : ℕ) → p + 1 ≤ lineStop s p
 unfolding lineStop
 line-onward s p = omega arith
 
-lines-onward : (s : List ℕ) → Onward (lineStop s)
+pub lines-onward : (s : List ℕ) → Onward (lineStop s)
 lines-onward s p = let h = line-onward s p in omega arith
 
 pub cell-onward : (s : List ℕ) (p : ℕ) → p + 3 ≤ cellStop s p
 unfolding cellStop
 cell-onward s p = past-onward (byteAt s (p + 2)) (lineStop s) (p + 3) (lines-onward s)
 
-cells-onward : (s : List ℕ) → Onward (cellStop s)
+pub cells-onward : (s : List ℕ) → Onward (cellStop s)
 cells-onward s p = let h = cell-onward s p in omega arith
 
 pub row-onward : (s : List ℕ) (p : ℕ) → p + 2 ≤ rowStop s p
 unfolding rowStop
 row-onward s p = past-onward (byteAt s (p + 1)) (cellStop s) (p + 2) (cells-onward s)
 
-rows-onward : (s : List ℕ) → Onward (rowStop s)
+pub rows-onward : (s : List ℕ) → Onward (rowStop s)
 rows-onward s p = let h = row-onward s p in omega arith
 
 -- part k of n ends no later than all n

@@ -4,3 +4,4 @@ pub mod Sections
 pub mod Cases
 pub mod Held
 pub mod Copies
+pub mod Walks

@@ -5,6 +5,7 @@ pub mod records;
 pub mod rows;
 pub mod settings;
 pub mod text;
+pub mod walk;
 
 ghost use mathlib.Core.Path.{_≡_};
 ghost use Rattle.rules.specs.Field as fields;

@@ -19,3 +19,34 @@ pub struct Columns {
     pub count: usize,
     pub each: [Column; 12],
 }
+
+// Rows still to come: `left` of them, the first at `at` in the sheet.
+pub struct Rows {
+    pub at: usize,
+    pub left: usize,
+}
+
+// Cells of a row still to come.
+pub struct Cells {
+    pub at: usize,
+    pub left: usize,
+}
+
+// Lines of a cell still to come.
+pub struct Lines {
+    pub at: usize,
+    pub left: usize,
+}
+
+// A row: its height limit, 0 for none, and its cells.
+pub struct Row {
+    pub limit: usize,
+    pub cells: Cells,
+}
+
+// A cell: its delimiter and alignment, 0 for none, and its lines.
+pub struct Cell {
+    pub delimiter: u8,
+    pub alignment: u8,
+    pub lines: Lines,
+}

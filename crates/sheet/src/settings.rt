@@ -32,7 +32,7 @@ pub fn settings(sheet: &[u8]) -> Settings
     }
 }
 
-fn size(byte: u8) -> usize
+pub fn size(byte: u8) -> usize
     ensures { λ r. ⌜ (r ≡ byte) × (r < 256) ⌝ }
 {
     byte as usize

@@ -1,0 +1,16 @@
+use Rattle.rules.proofs.Places.{lineStop}
+use native.Mathlib.Omega.{arith}
+use borrow.Author.Needs.{needs}
+use Rattle.sheet.proofs.walk.line_end.Statement.{statement}
+use Rattle.sheet.proofs.walk.line_end.Tie as tie
+
+pub line-end-spec : {M : Type 1} → statement M
+unfolding lineStop
+line-end-spec =
+    tie.close
+    (tie.spec
+    (λ c. omega arith)
+    (λ c. omega arith)
+    (λ c κs. search needs)
+    (λ c. omega arith)
+    (λ c. omega arith))
