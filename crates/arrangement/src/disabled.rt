@@ -18,8 +18,9 @@ fn trimmed_width(c: Column, n: ContentWidth, b: Bound) -> ContentWidth
     match b {
         Bound::Unset => n,
         Bound::At(w) => {
+            let made = column::absolute_width_with_padding(c, w);
             if w.0 < n.0 {
-                return column::absolute_width_with_padding(c, w);
+                return made;
             }
             n
         }

@@ -2,7 +2,7 @@
 ghost use mathlib.Core.Path.{_≡_};
 ghost use Prim.Native.Nat.{_+_, _≤_, _<_, max};
 ghost use lib.ListN.{getD};
-ghost use Rattle.constraint.specs.Widths.{pass, step};
+ghost use Rattle.constraint.specs.Widths.{pass, step, average};
 ghost use Rattle.arrangement.specs.Limits.{Small};
 ghost use Rattle.arrangement.specs.Arrange.{charged, remaining, targeted, raised, lowerRule, step1, short, fitting, fitRule, fitPass, step2, spared, share, sharing, undecided, distributed, widened, widening, filled, finished};
 use constraint::Bound;
@@ -64,16 +64,17 @@ fn raised_offer(a: u16, c: Column, b: Bound) -> Offer
     match b {
         Bound::Unset => Offer::Keep,
         Bound::At(w) => {
+            let made = column::absolute_width_with_padding(c, w);
             if a < w.0 {
-                return Offer::Take(column::absolute_width_with_padding(c, w));
+                return Offer::Take(made);
             }
             Offer::Keep
         }
     }
 }
 
-fn lower_step(t: Layout, i: usize, s: State) -> State
-    requires { ⌜ i < 12 ⌝ }
+fn lower_step(t: Layout, i: usize, s: State, a: u16) -> State
+    requires { ⌜ (i < 12) × (a ≡ average s) ⌝ }
     ensures { λ r. ⌜ r ≡ step lowerRule t i s ⌝ }
 {
     if constraint::is_decided(t, i, s) {
@@ -99,7 +100,8 @@ fn lower_pass(t: Layout, s: State) -> State
     let n = t.count as usize;
     let mut r = s;
     for i in 0..n {
-        r = lower_step(t, i, r);
+        let a = constraint::average_space(r);
+        r = lower_step(t, i, r, a);
     }
     r
 }
@@ -147,8 +149,8 @@ fn fitting_offer(a: u16, c: Column, n: ContentWidth, b: Bound) -> Offer
     }
 }
 
-fn fit_step(t: Layout, i: usize, s: State) -> State
-    requires { ⌜ i < 12 ⌝ }
+fn fit_step(t: Layout, i: usize, s: State, a: u16) -> State
+    requires { ⌜ (i < 12) × (a ≡ average s) ⌝ }
     ensures { λ r. ⌜ r ≡ step fitRule t i s ⌝ }
 {
     if constraint::is_decided(t, i, s) {
@@ -175,7 +177,8 @@ fn fit_pass(t: Layout, s: State) -> State
     let n = t.count as usize;
     let mut r = s;
     for i in 0..n {
-        r = fit_step(t, i, r);
+        let a = constraint::average_space(r);
+        r = fit_step(t, i, r, a);
     }
     r
 }
