@@ -5,3 +5,4 @@ pub mod Cases
 pub mod Held
 pub mod Copies
 pub mod Walks
+pub mod Longests

@@ -131,6 +131,9 @@ module _ (s : List ℕ) (c : Lines) (some : 0 < c .left) where
   unfolding lineStop
   line-room h = let b = line-inside in omega arith
 
+  pub line-there : linesEnd s c ≤ length s → c .at < length s
+  line-there h = let a = line-room h in omega arith
+
   pub line-is : (n : ℕ) → n ≡ byteAt s (c .at) → take (c .at + 1 + n - (c .at + 1)) (drop (c .at + 1) s) ≡ firstLine s c
   unfolding linesIn textAt
   line-is n e =
@@ -158,6 +161,14 @@ unfolding rowsIn rowsEnd tableHere endPlace
 rows-are s p n h e i =
     let r = held s h in
     (rw (table-here s h, i, e), rw (i, e) (stands.end-place s (tableOf s) (r .end) (r .reads)))
+
+pub lines-none : (s : List ℕ) (c : Lines) → c .left ≤ 0 → linesEnd s c ≡ c .at
+unfolding linesEnd past
+lines-none s c h = let z : c .left ≡ 0 = omega arith in rw z
+
+pub cells-none : (s : List ℕ) (c : Cells) → c .left ≤ 0 → cellsEnd s c ≡ c .at
+unfolding cellsEnd past
+cells-none s c h = let z : c .left ≡ 0 = omega arith in rw z
 
 pub rows-none : (s : List ℕ) (c : Rows) → c .left ≤ 0 → rowsEnd s c ≡ c .at
 unfolding rowsEnd past

@@ -1,6 +1,7 @@
 // Sheet, edition 1: checks a sheet, and hands out what it holds.
 pub mod columns;
 pub mod field;
+pub mod longest;
 pub mod records;
 pub mod rows;
 pub mod settings;

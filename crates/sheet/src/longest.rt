@@ -1,0 +1,110 @@
+// The longest line of each column, in one walk over the sheet: only lengths are read, no characters.
+ghost use mathlib.Core.Path.{_≡_};
+ghost use mathlib.Core.List.{map};
+ghost use Prim.Native.Nat.{_≤_, max};
+ghost use lib.ListN.{length};
+ghost use Rattle.rules.specs.Text.{upFrom};
+ghost use Rattle.rules.specs.Sheet.{mostColumns};
+ghost use Rattle.rules.specs.Widths as widths;
+ghost use Rattle.sheet.specs.Held.{Passes, tableOf};
+ghost use Rattle.sheet.specs.Walk.{rowsIn, rowsEnd, cellsEnd, linesEnd};
+ghost use Rattle.sheet.specs.Longest.{Narrow, CellWalked, RowWalked, RowsWalked};
+use super::field;
+use super::records::Cells;
+use super::records::Lines;
+use super::records::Rows;
+use super::walk;
+
+// A cell's longest line, and where the cell ends.
+pub struct LongestLine {
+    pub longest: u16,
+    pub end: usize,
+}
+
+// Each column's longest line so far, and where the walk stands.
+pub struct LongestLines {
+    pub longest: [u16; 12],
+    pub end: usize,
+}
+
+fn greater(a: u16, b: u16) -> u16
+    ensures { λ r. ⌜ r ≡ max a b ⌝ }
+{
+    if a < b {
+        return b;
+    }
+    a
+}
+
+// A cell counts 1 even where all its lines are empty.
+fn of_cell(sheet: &[u8], lines: Lines) -> LongestLine
+    requires { ⌜ linesEnd (now sheet) lines ≤ length (now sheet) ⌝ }
+    ensures { λ r. ⌜ CellWalked (now (sheet .entry)) lines r ⌝ }
+{
+    let mut longest: u16 = 1;
+    let mut c = lines;
+    while 0 < c.left {
+        let at = c.at;
+        longest = greater(longest, field::wide(sheet[at]));
+        c = walk::next_line(sheet, c);
+    }
+    LongestLine { longest, end: c.at }
+}
+
+// A row's cells, each in its column.
+fn of_row(sheet: &[u8], cells: Cells, before: [u16; 12]) -> LongestLines
+    requires { ⌜ (cells .left ≤ mostColumns) × (cellsEnd (now sheet) cells ≤ length (now sheet)) ⌝ }
+    ensures { λ r. ⌜ RowWalked (now (sheet .entry)) cells before r ⌝ }
+{
+    let mut longest = before;
+    let mut c = cells;
+    let mut j: usize = 0;
+    while 0 < c.left {
+        let cell = walk::cell(sheet, c);
+        let lines = cell.lines;
+        let found = of_cell(sheet, lines);
+        longest[j] = greater(longest[j], found.longest);
+        c = Cells {
+            at: found.end,
+            left: c.left - 1,
+        };
+        j += 1;
+    }
+    LongestLines { longest, end: c.at }
+}
+
+fn of_rows(sheet: &[u8], rows: Rows, before: [u16; 12]) -> LongestLines
+    requires { ⌜ Narrow (rowsIn (now sheet) rows) × (rowsEnd (now sheet) rows ≤ length (now sheet)) ⌝ }
+    ensures { λ r. ⌜ RowsWalked (now (sheet .entry)) rows before r ⌝ }
+{
+    let mut longest = before;
+    let mut c = rows;
+    while 0 < c.left {
+        let row = walk::row(sheet, c);
+        let cells = row.cells;
+        let found = of_row(sheet, cells, longest);
+        longest = found.longest;
+        c = Rows {
+            at: found.end,
+            left: c.left - 1,
+        };
+    }
+    LongestLines { longest, end: c.at }
+}
+
+// Each column's longest line over header and rows; 0 past the columns.
+pub fn longest(sheet: &[u8]) -> [u16; 12]
+    requires { ⌜ Passes (now sheet) ⌝ }
+    ensures { λ r. ⌜ r ≡ map (widths.longest (tableOf (now (sheet .entry)))) (upFrom 0 mostColumns) ⌝ }
+{
+    let header = walk::header(sheet);
+    let first = of_rows(sheet, header, [0u16; 12]);
+    let behind = Rows {
+        at: first.end,
+        left: 0,
+    };
+    let rows = walk::rows(sheet, behind);
+    let before = first.longest;
+    let all = of_rows(sheet, rows, before);
+    all.longest
+}
