@@ -55,10 +55,11 @@ pub fn one_more(c: Column, n: u16) -> u16
     requires { ⌜ n < 65535 ⌝ }
     ensures { λ r. ⌜ r ≡ choose (isHidden c) n (n + 1) ⌝ }
 {
+    let more = n + 1;
     if is_hidden(c) {
         return n;
     }
-    n + 1
+    more
 }
 
 pub fn count_visible_columns(t: Layout) -> u16
@@ -204,8 +205,9 @@ pub fn fix_column(s: State, i: usize, w: ContentWidth) -> State
     requires { ⌜ (i < 12) × (bit (s .decided) i ≡ 0) ⌝ }
     ensures { λ r. ⌜ r ≡ fixed s i w ⌝ }
 {
+    let width = one_at_least(w.0);
     let mut r = s;
-    r.widths[i] = one_at_least(w.0);
+    r.widths[i] = width;
     r.decided = s.decided + (1u16 << i);
     r.remaining = column::minus(s.remaining, w.0);
     r

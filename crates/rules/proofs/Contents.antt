@@ -106,7 +106,7 @@ untargeted-some t j = go (upper t (columnAt t j))
     go none = omega arith
 
 -- a share of at least as much as there are takers
-share-some : (amount n k : ℕ) → 1 ≤ n → n ≤ amount → 1 ≤ share amount n k
+pub share-some : (amount n k : ℕ) → 1 ≤ n → n ≤ amount → 1 ≤ share amount n k
 unfolding share
 share-some amount n k h l =
     let m : 1 * n ≤ amount = omega arith in

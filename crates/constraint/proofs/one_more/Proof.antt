@@ -8,7 +8,7 @@ pub one-more-spec : {M : Type 1} → statement M
 one-more-spec =
     tie.close
     (tie.spec
+    (λ c. search needs)
     (λ c κs. search needs)
     (λ c. search (needs, cases))
-    (λ c. search needs)
     (λ c. search (needs, cases)))

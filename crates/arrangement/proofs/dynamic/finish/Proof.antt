@@ -1,0 +1,16 @@
+use Prim.Native.Nat.{_-_}
+use Rattle.arrangement.proofs.Shares.{finished-full, finished-kept, finished-shared}
+use borrow.Author.Needs.{needs}
+use Rattle.arrangement.proofs.dynamic.finish.Statement.{statement}
+use Rattle.arrangement.proofs.dynamic.finish.Tie as tie
+
+pub finish-spec : {M : Type 1} → statement M
+finish-spec =
+    tie.close
+    (tie.spec
+    (λ c κs. search needs)
+    (λ c κs. search needs)
+    (λ c. search (needs, finished-full))
+    (λ c. search (needs, finished-kept))
+    (λ c κs. search needs)
+    (λ c. search (needs, finished-shared)))

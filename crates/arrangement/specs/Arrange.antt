@@ -1,0 +1,142 @@
+-- The arrangement: untargeted widths, the remaining width, steps 1 to 4, full width.
+use Prim.Native.Nat.{ℕ, zero, suc, _+_, _-_, _/_, _%_, max}
+use mathlib.Core.Bool.{true, false}
+use lib.ListN.{getD, set, replicate}
+use lib.Dec.{eqb, leb, ltb}
+use lib.Count.{ones}
+use Rattle.rules.specs.declared.Column.{Column}
+use Rattle.constraint.specs.declared.Layout.{Layout}
+use Rattle.constraint.specs.declared.State.{State}
+use Rattle.style.specs.declared.column.ContentWidth.{ContentWidth}
+use Rattle.constraint.specs.declared.Bound.{Bound}
+use Rattle.constraint.specs.declared.Bound.the-variants.{Unset, At}
+use Rattle.constraint.specs.declared.Offer.{Offer}
+use Rattle.constraint.specs.declared.Offer.the-variants.{Keep, Take}
+use Rattle.constraint.specs.Widths.{choose, inOrder, column, longest, visible, borders, lower, upper, average, bit, decided, fixed, pass, evaluated}
+use Rattle.arrangement.specs.declared.dynamic.Sharing.{Sharing}
+use Rattle.rules.specs.Sheet.{padding, isHidden}
+use Rattle.style.specs.Choice.{content}
+
+-- a pass that fixed a column is repeated
+unfoldable pub again : ℕ → (State → State) → State → State
+again zero f s = s
+again (suc fuel) f s = elim (eqb (f s .decided) (s .decided)) [ true ↦ f s | false ↦ again fuel f (f s) ]
+
+-- each pass but the last fixes a column, and there are at most 16
+abbrev pub repeated : (State → State) → State → State
+repeated f s = again 17 f s
+
+-- No target, or `Disabled`: the longest; if an upper bound is below the longest, the bound made content
+abbrev pub trimmed : Column → ContentWidth → Bound → ContentWidth
+trimmed c n Unset = n
+trimmed c n (At w) = choose (ltb (w .0) (n .0)) (content c w) n
+
+unfoldable pub untargeted : Layout → ℕ → State → Offer
+untargeted t i s = Take (trimmed (column t i) (longest t i) (upper t (s .visible) (column t i)))
+
+-- The remaining width: target less borders, undecided paddings and decided visible full widths, never below 0
+unfoldable pub charged : Layout → State → ℕ → ℕ → ℕ
+charged t s i r =
+    choose (isHidden (column t i)) r
+    (choose (eqb (bit (s .decided) i) 1) (r - (getD (s .widths) i 0 + padding (column t i)))
+    (r - padding (column t i)))
+
+abbrev pub remaining : Layout → State → ℕ
+remaining t s = inOrder (charged t s) (t .count) (t .target - borders t (s .visible))
+
+abbrev pub targeted : Layout → State → State
+targeted t s = record { widths = s .widths; decided = s .decided; remaining = remaining t s; visible = s .visible }
+
+-- 1. Lower bounds above the average (a) are fixed
+abbrev pub raised : ℕ → Column → Bound → Offer
+raised a c Unset = Keep
+raised a c (At w) = choose (ltb a (w .0)) (Take (content c w)) Keep
+
+unfoldable pub lowerRule : Layout → ℕ → State → Offer
+lowerRule t i s = raised (average s) (column t i) (lower t (s .visible) (column t i))
+
+abbrev pub step1 : Layout → State → State
+step1 t s = repeated (pass lowerRule t) s
+
+-- 2. An upper bound that is at most average plus padding and at most longest plus padding; else the longest if at most the average
+abbrev pub short : ℕ → ContentWidth → Offer
+short a n = choose (leb (n .0) a) (Take n) Keep
+
+abbrev pub fitting : ℕ → Column → ContentWidth → Bound → Offer
+fitting a c n Unset = short a n
+fitting a c n (At w) =
+    choose (leb (w .0) (a + padding c))
+    (choose (leb (w .0) (n .0 + padding c)) (Take (content c w)) (short a n))
+    (short a n)
+
+unfoldable pub fitRule : Layout → ℕ → State → Offer
+fitRule t i s = fitting (average s) (column t i) (longest t i) (upper t (s .visible) (column t i))
+
+-- a pass begins only if the average isn't 0
+abbrev pub fitPass : Layout → State → State
+fitPass t s = choose (eqb (average s) 0) s (pass fitRule t s)
+
+abbrev pub step2 : Layout → State → State
+step2 t s = repeated (fitPass t) s
+
+-- 3. The longest part of the lines split at the average, if it is shorter by 3 or more
+abbrev pub spared : ℕ → ContentWidth → Offer
+spared a n = choose (leb (n .0 + 3) a) (Take n) Keep
+
+unfoldable pub splitRule : (ℕ → ℕ → ℕ) → Layout → ℕ → State → Offer
+splitRule parts t i s = spared (average s) (record { 0 = parts i (average s) })
+
+abbrev pub step3 : (ℕ → ℕ → ℕ) → Layout → State → State
+step3 parts t s = repeated (pass (splitRule parts) t) s
+
+-- n shared evenly by some, the first ones taking the excess: the part of number k
+abbrev pub share : ℕ → ℕ → ℕ → ℕ
+share n parts k = choose (ltb k (n % parts)) (n / parts + 1) (n / parts)
+
+-- 4. Undecided columns share n
+unfoldable pub sharing : Layout → ℕ → ℕ → ℕ → Sharing → Sharing
+sharing t n parts i x =
+    choose (decided t i (x .state)) x
+    (record { state = fixed (x .state) i (record { 0 = share n parts (x .given) }); given = x .given + 1 })
+
+abbrev pub undecided : State → ℕ
+undecided s = s .visible - ones (s .decided)
+
+-- remaining is raised to their number
+unfoldable pub distributed : Layout → State → State
+distributed t s = inOrder (sharing t (max (s .remaining) (undecided s)) (undecided s)) (t .count) (record { state = s; given = 0 }) .state
+
+-- the remainder is shared so among visible columns
+abbrev pub widened : State → ℕ → ℕ → State
+widened s i n =
+    record { widths = set (s .widths) i (getD (s .widths) i 0 + n); decided = s .decided; remaining = s .remaining; visible = s .visible }
+
+unfoldable pub widening : Layout → ℕ → ℕ → ℕ → Sharing → Sharing
+widening t n parts i x =
+    choose (isHidden (column t i)) x
+    (record { state = widened (x .state) i (share n parts (x .given)); given = x .given + 1 })
+
+unfoldable pub filled : Layout → State → State
+filled t s =
+    choose (eqb (s .visible) 0) s
+    (inOrder (widening t (s .remaining) (s .visible)) (t .count) (record { state = s; given = 0 }) .state)
+
+-- if columns are left they share; if none is left and arrangement is 2, the remainder is shared
+unfoldable pub finished : Layout → State → State
+finished t s = choose (eqb (undecided s) 0) (choose (eqb (t .arrangement) 2) (filled t s) s) (distributed t s)
+
+abbrev pub dynamic : (ℕ → ℕ → ℕ) → Layout → State → State
+dynamic parts t s = finished t (step3 parts t (step2 t (step1 t (targeted t s))))
+
+abbrev pub begun : Layout → State
+begun t = record { widths = replicate 12 0; decided = 0; remaining = 0; visible = visible t }
+
+-- the first step, for each column
+abbrev pub started : Layout → State
+started t = inOrder (evaluated t) (t .count) (begun t)
+
+unfoldable pub arranged : (ℕ → ℕ → ℕ) → Layout → State
+arranged parts t =
+    choose (eqb (t .target) 0) (pass untargeted t (started t))
+    (choose (eqb (t .arrangement) 0) (pass untargeted t (started t))
+    (dynamic parts t (started t)))

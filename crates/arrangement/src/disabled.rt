@@ -1,0 +1,57 @@
+// Widths without a target, or with `Disabled`: comfy-table's `arrangement/disabled.rs`.
+ghost use mathlib.Core.Path.{_≡_};
+ghost use Prim.Native.Nat.{_≤_, _<_};
+ghost use Rattle.constraint.specs.Widths.{pass, step};
+ghost use Rattle.arrangement.specs.Arrange.{trimmed, untargeted};
+use constraint::Bound;
+use constraint::Layout;
+use constraint::Offer;
+use constraint::State;
+use rules::Column;
+use style::column;
+use style::column::ContentWidth;
+
+// The longest, or an upper bound that is below it; padding isn't counted in this test.
+fn trimmed_width(c: Column, n: ContentWidth, b: Bound) -> ContentWidth
+    ensures { λ r. ⌜ r ≡ trimmed c n b ⌝ }
+{
+    match b {
+        Bound::Unset => n,
+        Bound::At(w) => {
+            let made = column::absolute_width_with_padding(c, w);
+            if w.0 < n.0 {
+                return made;
+            }
+            n
+        }
+    }
+}
+
+fn untargeted_step(t: Layout, i: usize, s: State) -> State
+    requires { ⌜ i < 12 ⌝ }
+    ensures { λ r. ⌜ r ≡ step untargeted t i s ⌝ }
+{
+    if constraint::is_decided(t, i, s) {
+        return s;
+    }
+    let c = t.columns[i];
+    let n = ContentWidth(t.longest[i]);
+    constraint::take(
+        s,
+        i,
+        Offer::Take(trimmed_width(c, n, constraint::max(t, c, s.visible))),
+    )
+}
+
+// Without a target, or with `Disabled`: every undecided column is fixed.
+pub fn arrange(t: Layout, s: State) -> State
+    requires { ⌜ t .count ≤ 12 ⌝ }
+    ensures { λ r. ⌜ r ≡ pass untargeted t s ⌝ }
+{
+    let n = t.count as usize;
+    let mut r = s;
+    for i in 0..n {
+        r = untargeted_step(t, i, r);
+    }
+    r
+}

@@ -1,0 +1,336 @@
+// Widths that are to make up a target: comfy-table's `arrangement/dynamic.rs`.
+ghost use mathlib.Core.Path.{_≡_};
+ghost use Prim.Native.Nat.{_+_, _≤_, _<_, max};
+ghost use lib.ListN.{getD};
+ghost use Rattle.constraint.specs.Widths.{pass, step, average};
+ghost use Rattle.arrangement.specs.Limits.{Small};
+ghost use Rattle.arrangement.specs.Arrange.{charged, remaining, targeted, raised, lowerRule, step1, short, fitting, fitRule, fitPass, step2, spared, share, sharing, undecided, distributed, widened, widening, filled, finished};
+use constraint::Bound;
+use constraint::Layout;
+use constraint::Offer;
+use constraint::State;
+use rules::Column;
+use style::column;
+use style::column::ContentWidth;
+
+// Columns that share a width: the state, and how many have their part.
+pub struct Sharing {
+    pub state: State,
+    pub given: u16,
+}
+
+// What column i takes off the remaining width: its padding, and its width if it is decided.
+fn charge(t: Layout, s: State, i: usize, r: u16) -> u16
+    requires { ⌜ i < 12 ⌝ }
+    ensures { λ q. ⌜ q ≡ charged t s i r ⌝ }
+{
+    let c = t.columns[i];
+    if constraint::is_hidden(c) {
+        return r;
+    }
+    let p = column::padding_width(c);
+    if constraint::is_in(s.decided, i) {
+        return column::minus(column::minus(r, s.widths[i]), p);
+    }
+    column::minus(r, p)
+}
+
+// What the columns leave of the target.
+fn remaining_width(t: Layout, s: State) -> u16
+    requires { ⌜ t .count ≤ 12 ⌝ }
+    ensures { λ q. ⌜ q ≡ remaining t s ⌝ }
+{
+    let n = t.count as usize;
+    let mut r = constraint::room(t, s.visible);
+    for i in 0..n {
+        r = charge(t, s, i, r);
+    }
+    r
+}
+
+fn target(t: Layout, s: State) -> State
+    requires { ⌜ t .count ≤ 12 ⌝ }
+    ensures { λ r. ⌜ r ≡ targeted t s ⌝ }
+{
+    let mut r = s;
+    r.remaining = remaining_width(t, s);
+    r
+}
+
+// A lower bound, padding counted, is compared with the average as it stands.
+fn raised_offer(a: u16, c: Column, b: Bound) -> Offer
+    ensures { λ r. ⌜ r ≡ raised a c b ⌝ }
+{
+    match b {
+        Bound::Unset => Offer::Keep,
+        Bound::At(w) => {
+            let made = column::absolute_width_with_padding(c, w);
+            if a < w.0 {
+                return Offer::Take(made);
+            }
+            Offer::Keep
+        }
+    }
+}
+
+fn lower_step(t: Layout, i: usize, s: State, a: u16) -> State
+    requires { ⌜ (i < 12) × (a ≡ average s) ⌝ }
+    ensures { λ r. ⌜ r ≡ step lowerRule t i s ⌝ }
+{
+    if constraint::is_decided(t, i, s) {
+        return s;
+    }
+    let c = t.columns[i];
+    constraint::take(
+        s,
+        i,
+        raised_offer(
+            constraint::average_space(s),
+            c,
+            constraint::min(t, c, s.visible),
+        ),
+    )
+}
+
+// The average is that of the moment: a column that is fixed changes it for those after it.
+fn lower_pass(t: Layout, s: State) -> State
+    requires { ⌜ t .count ≤ 12 ⌝ }
+    ensures { λ r. ⌜ r ≡ pass lowerRule t s ⌝ }
+{
+    let n = t.count as usize;
+    let mut r = s;
+    for i in 0..n {
+        let a = constraint::average_space(r);
+        r = lower_step(t, i, r, a);
+    }
+    r
+}
+
+// Step 1. A column that is fixed can bring the average below another lower bound.
+fn enforce_lower_boundary_constraints(t: Layout, s: State) -> State
+    requires { ⌜ t .count ≤ 12 ⌝ }
+    ensures { λ r. ⌜ r ≡ step1 t s ⌝ }
+{
+    let mut r = s;
+    let mut try_again = true;
+    while try_again {
+        let u = lower_pass(t, r);
+        try_again = u.decided != r.decided;
+        r = u;
+    }
+    r
+}
+
+fn short_offer(a: u16, n: ContentWidth) -> Offer
+    ensures { λ r. ⌜ r ≡ short a n ⌝ }
+{
+    if n.0 <= a {
+        return Offer::Take(n);
+    }
+    Offer::Keep
+}
+
+// An upper bound that the content reaches and the average allows comes before the longest.
+fn fitting_offer(a: u16, c: Column, n: ContentWidth, b: Bound) -> Offer
+    ensures { λ r. ⌜ r ≡ fitting a c n b ⌝ }
+{
+    match b {
+        Bound::Unset => short_offer(a, n),
+        Bound::At(w) => {
+            let p = column::padding_width(c) as u32;
+            if a as u32 + p < w.0 as u32 {
+                return short_offer(a, n);
+            }
+            if n.0 as u32 + p < w.0 as u32 {
+                return short_offer(a, n);
+            }
+            Offer::Take(column::absolute_width_with_padding(c, w))
+        }
+    }
+}
+
+fn fit_step(t: Layout, i: usize, s: State, a: u16) -> State
+    requires { ⌜ (i < 12) × (a ≡ average s) ⌝ }
+    ensures { λ r. ⌜ r ≡ step fitRule t i s ⌝ }
+{
+    if constraint::is_decided(t, i, s) {
+        return s;
+    }
+    let c = t.columns[i];
+    let n = ContentWidth(t.longest[i]);
+    constraint::take(
+        s,
+        i,
+        fitting_offer(
+            constraint::average_space(s),
+            c,
+            n,
+            constraint::max(t, c, s.visible),
+        ),
+    )
+}
+
+fn fit_pass(t: Layout, s: State) -> State
+    requires { ⌜ t .count ≤ 12 ⌝ }
+    ensures { λ r. ⌜ r ≡ pass fitRule t s ⌝ }
+{
+    let n = t.count as usize;
+    let mut r = s;
+    for i in 0..n {
+        let a = constraint::average_space(r);
+        r = fit_step(t, i, r, a);
+    }
+    r
+}
+
+// A pass begins only if there is room for one more character in a column.
+fn fit_pass_if_room(t: Layout, s: State) -> State
+    requires { ⌜ t .count ≤ 12 ⌝ }
+    ensures { λ r. ⌜ r ≡ fitPass t s ⌝ }
+{
+    if constraint::average_space(s) == 0 {
+        return s;
+    }
+    fit_pass(t, s)
+}
+
+// Step 2. What a short column leaves raises the average for the others.
+fn find_columns_that_fit_into_average(t: Layout, s: State) -> State
+    requires { ⌜ t .count ≤ 12 ⌝ }
+    ensures { λ r. ⌜ r ≡ step2 t s ⌝ }
+{
+    let mut r = s;
+    let mut found_smaller = true;
+    while found_smaller {
+        let u = fit_pass_if_room(t, r);
+        found_smaller = u.decided != r.decided;
+        r = u;
+    }
+    r
+}
+
+// Splitting pays only if it saves three columns.
+fn spared_offer(a: u16, n: ContentWidth) -> Offer
+    ensures { λ r. ⌜ r ≡ spared a n ⌝ }
+{
+    if n.0 as u32 + 3 <= a as u32 {
+        return Offer::Take(n);
+    }
+    Offer::Keep
+}
+
+// Part k of n shared evenly: the first parts take the excess.
+fn share_of(n: u16, parts: u16, k: u16) -> u16
+    requires { ⌜ 0 < parts ⌝ }
+    ensures { λ r. ⌜ (r ≡ share n parts k) × (r ≤ n) ⌝ }
+{
+    let base = n / parts;
+    if k < n % parts {
+        return base + 1;
+    }
+    base
+}
+
+// Hidden columns are never in the set.
+fn undecided_columns(s: State) -> u16
+    ensures { λ r. ⌜ r ≡ undecided s ⌝ }
+{
+    column::minus(s.visible, u16::count_ones(s.decided) as u16)
+}
+
+fn greater(a: u16, b: u16) -> u16
+    ensures { λ r. ⌜ r ≡ max a b ⌝ }
+{
+    if a < b {
+        return b;
+    }
+    a
+}
+
+fn share_step(t: Layout, n: u16, parts: u16, i: usize, x: Sharing) -> Sharing
+    requires { ⌜ (i < 12) × (0 < parts) × (x .given < 65535) ⌝ }
+    ensures { λ r. ⌜ r ≡ sharing t n parts i x ⌝ }
+{
+    let s = x.state;
+    if constraint::is_decided(t, i, s) {
+        return x;
+    }
+    let k = x.given;
+    let u = constraint::fix_column(s, i, ContentWidth(share_of(n, parts, k)));
+    Sharing {
+        state: u,
+        given: k + 1,
+    }
+}
+
+// Step 4, with columns left: each gets at least 1.
+fn distribute_remaining_space(t: Layout, s: State) -> State
+    requires { ⌜ (t .count ≤ 12) × (0 < undecided s) ⌝ }
+    ensures { λ r. ⌜ r ≡ distributed t s ⌝ }
+{
+    let n = t.count as usize;
+    let parts = undecided_columns(s);
+    let total = greater(s.remaining, parts);
+    let mut x = Sharing { state: s, given: 0 };
+    for i in 0..n {
+        x = share_step(t, total, parts, i, x);
+    }
+    x.state
+}
+
+fn widen(s: State, i: usize, n: u16) -> State
+    requires { ⌜ (i < 12) × (getD (s .widths) i 0 + n < 65536) ⌝ }
+    ensures { λ r. ⌜ r ≡ widened s i n ⌝ }
+{
+    let mut r = s;
+    r.widths[i] = s.widths[i] + n;
+    r
+}
+
+fn widen_step(t: Layout, n: u16, parts: u16, i: usize, x: Sharing) -> Sharing
+    requires { ⌜ (i < 12) × (0 < parts) × (x .given < 65535) × (getD (x .state .widths) i 0 + n < 65536) ⌝ }
+    ensures { λ r. ⌜ r ≡ widening t n parts i x ⌝ }
+{
+    if constraint::is_hidden(t.columns[i]) {
+        return x;
+    }
+    let s = x.state;
+    let k = x.given;
+    let u = widen(s, i, share_of(n, parts, k));
+    Sharing {
+        state: u,
+        given: k + 1,
+    }
+}
+
+// Step 4, with none left: every visible column is widened.
+fn use_full_width(t: Layout, s: State) -> State
+    requires { ⌜ (t .count ≤ 12) × Small s ⌝ }
+    ensures { λ r. ⌜ r ≡ filled t s ⌝ }
+{
+    let n = t.count as usize;
+    let total = s.remaining;
+    let parts = s.visible;
+    if parts == 0 {
+        return s;
+    }
+    let mut x = Sharing { state: s, given: 0 };
+    for i in 0..n {
+        x = widen_step(t, total, parts, i, x);
+    }
+    x.state
+}
+
+// Step 4.
+fn finish(t: Layout, s: State) -> State
+    requires { ⌜ (t .count ≤ 12) × Small s ⌝ }
+    ensures { λ r. ⌜ r ≡ finished t s ⌝ }
+{
+    if undecided_columns(s) == 0 {
+        if t.arrangement == 2 {
+            return use_full_width(t, s);
+        }
+        return s;
+    }
+    distribute_remaining_space(t, s)
+}
