@@ -1,0 +1,2 @@
+// The page of a sheet, and the calls.
+pub mod cursor;
