@@ -14,13 +14,13 @@ use Rattle.rules.specs.Limits.{ColumnLimits, LineLimits, CellLimits, Row
 use Rattle.rules.specs.Style.{topBorder, headerLines, headerRule, contentLines, rowRule, bottomBorder, anyLeft, anyRight, anyJunction, isVisible, bordersOf}
 use Rattle.rules.specs.Wrap.{Act, join, retry, fill, begin, onto, pieces, glue, room, full, act, last, place, weight, split, wrapLine, wrapLines, exceeds, cutLine, cut, delimiterOf}
 use Rattle.rules.specs.Widths.{numbers, visible, borders, contents}
-use Rattle.rules.specs.Page.{visibleWidth, visibleWidths, wrapped, cellLines, height, areaAt, areas, ruled, textLine, shown, headed, ruledMore, ruledRows, rowText, framed, pageLines, lineCount, byteCount}
+use Rattle.rules.specs.Page.{visibleWidth, visibleWidths, wrapped, cellLines, height, areaAt, areas, ruled, textLine, shown, headed, ruledMore, ruledRows, rowText, framed, pageLines, closed, lineAt, lineCount, byteCount}
 use Rattle.rules.proofs.Lists.{all-map, all-map-imp, all-imp, all-append, all-default, all-getD, all-keep, length-upFrom, keep-yes, keep-no}
 use Rattle.rules.proofs.Bounds.{Most, greatest-le, contents-801}
 use Rattle.rules.proofs.Areas.{visible-below, length-widths, length-areas}
 use Rattle.rules.proofs.Rows.{all-headed, all-ruledRows}
 use Rattle.rules.proofs.Lines.{lineLength, borderLength, text-length, rule-length, border-length}
-use Rattle.rules.proofs.Sizes.{byte-count}
+use Rattle.rules.proofs.Sizes.{length-closed, byte-count-closed}
 
 -- ---- lines of a cell
 
@@ -241,6 +241,7 @@ module _ (t : Table) where
   unfolding visible numbers
   visible-rises = rising-keep (λ j. not (isHidden (columnAt t j))) 0 (length (t .columns))
 
+  -- so they never fall
   pub visible-rising : (i k : ℕ) → i ≤ k → k < length (visible t) → getD (visible t) i 0 ≤ getD (visible t) k 0
   visible-rising i k h l = go (ltb i k) refl
     where
@@ -342,15 +343,25 @@ bytes-10201 [] h = omega arith
 bytes-10201 (l ∷ ls) h = omega (arith, bytes-10201 ls (h .1), h .0)
 
 module _ (t : Table) (T : TableLimits t) where
-  -- no line is longer than
-  pub page-line-bound : All (λ l. length l ≤ 10200) (pageLines t)
-  page-line-bound = all-imp (Drawn t (contents t)) (λ l. length l ≤ 10200) go (pageLines t) (page-line-lengths t)
+  -- no line is longer, over some of the rows
+  pub framed-line-bound : (rs : List Row) → All (λ l. length l ≤ 10200) (framed t (contents t) rs)
+  framed-line-bound rs = all-imp (Drawn t (contents t)) (λ l. length l ≤ 10200) go (framed t (contents t) rs) (framed-line-lengths t (contents t) rs)
     where
       go : (l : List ℕ) → Drawn t (contents t) l → length l ≤ 10200
       go l (inl e) = omega (arith, line-length-bound t T)
       go l (inr e) = omega (arith, border-length-bound t T)
 
-  -- so the page has at most so many bytes
+  -- line k of the page, its 0A included
+  pub line-at-bound : (k : ℕ) → length (lineAt t k) ≤ 10201
+  unfolding lineAt pageLines
+  line-at-bound k = simp length-append (omega (arith, all-default (λ l. length l ≤ 10200) (pageLines t) k [] (omega arith) (framed-line-bound (t .rows))))
+
+  -- the bytes of lines over some of the rows
+  pub framed-byte-bound : (rs : List Row) → length rs ≤ 100 → All (RowLimits (length (t .columns))) rs → length (closed (framed t (contents t) rs)) ≤ 1000000 * 10201
+  framed-byte-bound rs n h =
+      omega (arith, length-closed (framed t (contents t) rs), bytes-10201 (framed t (contents t) rs) (framed-line-bound rs), framed-count t T (contents t) rs n h)
+
+  -- and those of the page
   pub byte-count-bound : byteCount t ≤ 1000000 * 10201
-  unfolding lineCount
-  byte-count-bound = omega (arith, byte-count t, bytes-10201 (pageLines t) page-line-bound, line-count-bound t T)
+  unfolding pageLines
+  byte-count-bound = omega (arith, byte-count-closed t, framed-byte-bound (t .rows) (T .rows) (T .each-row))
