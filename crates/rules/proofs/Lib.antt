@@ -21,6 +21,7 @@ pub mod Rows
 pub mod Characters
 pub mod Drawn
 pub mod Areas
+pub mod Counts
 pub mod CellText
 pub mod Readable
 pub mod Pairs

@@ -1,0 +1,367 @@
+-- How many lines and bytes the page of an accepted sheet has at most, and which columns its lines show. Assumes nothing.
+use Prim.Native.Nat.{ℕ, zero, suc, _+_, _-_, _*_, _≤_, _<_}
+use mathlib.Core.Path.{_≡_, refl, sym}
+use mathlib.Core.Logic.{_⊎_, inl, inr}
+use mathlib.Core.List.{List, [], _∷_, _++_, map}
+use mathlib.Core.Bool.{Bool, true, false, not, cond}
+use native.Mathlib.Omega.{arith}
+use lib.ListN.{length, getD, take, length-append, length-take, length-map}
+use lib.Dec.{ltb, eqb}
+use borrow.Author.Tests.{ltb-true, ltb-false}
+use Rattle.rules.specs.Text.{textWidth, restOf, sum, oneIf, upFrom, keep, flat, All}
+use Rattle.rules.specs.Sheet.{Cell, Row, Table, noCell, noColumn, columnAt, cellAt, padding, isHidden}
+use Rattle.rules.specs.Limits.{ColumnLimits, LineLimits, CellLimits, RowLimits, TableLimits}
+use Rattle.rules.specs.Style.{topBorder, headerLines, headerRule, contentLines, rowRule, bottomBorder, anyLeft, anyRight, anyJunction, isVisible, bordersOf}
+use Rattle.rules.specs.Wrap.{Act, join, retry, fill, begin, onto, pieces, glue, room, full, act, last, place, weight, split, wrapLine, wrapLines, exceeds, cutLine, cut, delimiterOf}
+use Rattle.rules.specs.Widths.{numbers, visible, borders, contents}
+use Rattle.rules.specs.Page.{visibleWidth, visibleWidths, wrapped, cellLines, height, areaAt, areas, ruled, textLine, shown, headed, ruledMore, ruledRows, rowText, framed, pageLines, closed, lineAt, lineCount, byteCount}
+use Rattle.rules.proofs.Lists.{all-map, all-map-imp, all-imp, all-append, all-default, all-getD, all-keep, length-upFrom, keep-yes, keep-no}
+use Rattle.rules.proofs.Bounds.{Most, greatest-le, contents-801}
+use Rattle.rules.proofs.Areas.{visible-below, length-widths, length-areas}
+use Rattle.rules.proofs.Rows.{all-headed, all-ruledRows}
+use Rattle.rules.proofs.Lines.{lineLength, borderLength, text-length, rule-length, border-length}
+use Rattle.rules.proofs.Sizes.{length-closed, byte-count-closed}
+
+-- ---- lines of a cell
+
+-- a step puts out two lines at most
+pub length-place : (n w d : ℕ) (l : List ℕ) (ps : List (List ℕ)) → length (place n w d l ps) ≤ 2 * n
+unfolding place last
+length-place zero w d l ps = omega arith
+length-place (suc n) w d [] [] = omega arith
+length-place (suc n) w d (x ∷ l) [] = omega arith
+length-place (suc n) w d l (p ∷ ps) = go (act w d l p) refl (λ m qs. length-place n w d m qs)
+  where
+    ended : (m : List ℕ) (b : Bool) → ((m : List ℕ) (qs : List (List ℕ)) → length (place n w d m qs) ≤ 2 * n)
+        → length {A = List ℕ} (elim b as (λ x. List (List ℕ)) [ true ↦ m ∷ place n w d [] ps | false ↦ place n w d m ps ]) ≤ 2 * n + 1
+    ended m true ih = omega (arith, ih [] ps)
+    ended m false ih = omega (arith, ih m ps)
+
+    go : (a : Act) → act w d l p ≡ a → ((m : List ℕ) (qs : List (List ℕ)) → length (place n w d m qs) ≤ 2 * n) → length (place (suc n) w d l (p ∷ ps)) ≤ 2 * suc n
+    go join e ih = rw (e, place) (omega (arith, ended (glue d l p) (full w (glue d l p)) ih))
+    go retry e ih = rw (e, place) (omega (arith, ih [] (p ∷ ps)))
+    go fill e ih = rw (e, place) (omega (arith, ih [] (restOf (room w l) p ∷ ps)))
+    go begin e ih = rw (e, place) (omega (arith, ended p (full w p) ih))
+
+-- three steps at least, and as many more as each character takes at most
+abbrev Steps : ℕ → List (List ℕ) → Type 0
+Steps n ps = (3 ≤ weight ps) × (weight ps ≤ 2 * n + 3)
+
+steps-onto : (n b : ℕ) (ps : List (List ℕ)) → Steps n ps → Steps (suc n) (onto b ps)
+unfolding onto weight
+steps-onto n b [] h = absurd (omega arith)
+steps-onto n b (p ∷ ps) h = (omega arith, omega arith)
+
+steps-pieces : (d : ℕ) (l : List ℕ) → Steps (length l) (pieces d l)
+unfolding pieces weight
+steps-pieces d [] = (omega arith, omega arith)
+steps-pieces d (b ∷ l) = go (eqb b d) (steps-pieces d l)
+  where
+    go : (x : Bool) → Steps (length l) (pieces d l) → Steps (suc (length l)) (elim x as (λ y. List (List ℕ)) [ true ↦ [] ∷ pieces d l | false ↦ onto b (pieces d l) ])
+    go true h = (omega arith, omega arith)
+    go false h = steps-onto (length l) b (pieces d l) h
+
+-- the lines that a line is split into
+pub length-split : (w d : ℕ) (l : List ℕ) → length (split w d l) ≤ 4 * length l + 6
+unfolding split
+length-split w d l = omega (arith, length-place (weight (pieces d l)) w d [] (pieces d l), steps-pieces d l .1)
+
+-- a line's
+pub length-wrapLine : (w d : ℕ) (l : List ℕ) → length (wrapLine w d l) ≤ 4 * length l + 6
+unfolding wrapLine
+length-wrapLine w d l = go (ltb w (textWidth l))
+  where
+    go : (b : Bool) → length {A = List ℕ} (elim b as (λ x. List (List ℕ)) [ true ↦ split w d l | false ↦ l ∷ [] ]) ≤ 4 * length l + 6
+    go true = length-split w d l
+    go false = omega arith
+
+-- those of lines within their limit
+pub length-wrapLines : (w d : ℕ) (ls : List (List ℕ)) → All (λ l. length l ≤ 200) ls → length (wrapLines w d ls) ≤ 806 * length ls
+unfolding wrapLines flat
+length-wrapLines w d [] h = omega arith
+length-wrapLines w d (l ∷ ls) h = simp length-append (omega (arith, length-wrapLine w d l, length-wrapLines w d ls (h .1), h .0))
+
+-- cutting adds no line
+pub length-cut : (w : ℕ) (i : List ℕ) (h : ℕ) (ls : List (List ℕ)) → length (cut w i h ls) ≤ length ls
+unfolding cut exceeds
+length-cut w i zero ls = omega arith
+length-cut w i (suc h) ls = go (ltb (suc h) (length ls)) refl
+  where
+    go : (b : Bool) → ltb (suc h) (length ls) ≡ b
+        → length {A = List ℕ} (elim b as (λ x. List (List ℕ)) [ true ↦ take (suc h - 1) ls ++ (cutLine w i (getD ls (suc h - 1) []) ∷ []) | false ↦ ls ]) ≤ length ls
+    go true e = simp (length-append, length-take) (omega (arith, ltb-true (suc h) (length ls) e))
+    go false e = omega arith
+
+-- ---- lines of a row
+
+-- what a cell, missing or not, has
+abbrev Lined : Cell → Type 0
+Lined x = (length (x .lines) ≤ 8) × All (λ l. length l ≤ 200) (x .lines)
+
+lined : (x : Cell) → CellLimits x → Lined x
+lined x h = (h .lines, all-imp LineLimits (λ l. length l ≤ 200) (λ l k. k .length) (x .lines) (h .texts))
+
+module _ (t : Table) (ws : List ℕ) (r : Row) (R : All CellLimits (r .cells)) where
+  length-cell : (j : ℕ) → length (cellLines t ws r j) ≤ 6448
+  unfolding cellLines wrapped
+  length-cell j =
+      let c : Lined (cellAt r j) = all-default Lined (r .cells) j noCell (omega arith, (omega arith, tt)) (all-imp CellLimits Lined lined (r .cells) R) in
+      omega (arith, length-cut (getD ws j 0) (t .indicator) (r .limit) (wrapped t ws r j), length-wrapLines (getD ws j 0) (delimiterOf t (columnAt t j) (cellAt r j)) (cellAt r j .lines) (c .1), c .0)
+
+  -- a row of at most 8 lines a cell, each of at most 200 characters
+  pub height-bound : height t ws r ≤ 6448
+  unfolding height
+  height-bound = greatest-le 6448 _ (all-map (Most 6448) (λ j. length (cellLines t ws r j)) length-cell (visible t))
+
+  -- as many lines of text
+  pub length-rowText : (k : ℕ) → length (rowText t ws k r) ≤ 6448
+  unfolding rowText
+  length-rowText k = omega (arith, length-map (areas t ws r) (textLine (t .style) k), length-areas t ws r, height-bound)
+
+-- ---- lines of a page
+
+length-shown : (S : List ℕ) (always : Bool) (k : ℕ) (vs : List ℕ) → length (shown S always k vs) ≤ 1
+unfolding shown
+length-shown S always k vs = go (isVisible S k)
+  where
+    go : (b : Bool) → length {A = List ℕ} (elim b as (λ x. List (List ℕ)) [ true ↦ ruled S always k vs ∷ [] | false ↦ [] ]) ≤ 1
+    go true = omega arith
+    go false = omega arith
+
+module _ (text : Row → List (List ℕ)) (rule : List (List ℕ)) (one : length rule ≤ 1) where
+  length-headed : (rs : List Row) → All (λ r. length (text r) ≤ 6448) rs → length (headed text rule rs) ≤ 6449 * length rs
+  unfolding headed
+  length-headed [] h = omega arith
+  length-headed (r ∷ rs) h = simp length-append (omega (arith, length-headed rs (h .1), h .0))
+
+  length-ruledMore : (rs : List Row) → All (λ r. length (text r) ≤ 6448) rs → length (ruledMore text rule rs) ≤ 6449 * length rs
+  unfolding ruledMore
+  length-ruledMore [] h = omega arith
+  length-ruledMore (r ∷ rs) h = simp length-append (omega (arith, length-ruledMore rs (h .1), h .0))
+
+  length-ruledRows : (rs : List Row) → All (λ r. length (text r) ≤ 6448) rs → length (ruledRows text rule rs) ≤ 6449 * length rs
+  unfolding ruledRows
+  length-ruledRows [] h = omega arith
+  length-ruledRows (r ∷ rs) h = simp length-append (omega (arith, length-ruledMore rs (h .1), h .0))
+
+module _ (t : Table) (T : TableLimits t) where
+  texts : (ws : List ℕ) (k : ℕ) (rs : List Row) → All (RowLimits (length (t .columns))) rs → All (λ r. length (rowText t ws k r) ≤ 6448) rs
+  texts ws k rs h = all-imp (RowLimits (length (t .columns))) (λ r. length (rowText t ws k r) ≤ 6448) (λ r R. length-rowText t ws r (R .each) k) rs h
+
+  -- over some of the rows, at any widths
+  pub framed-count : (ws : List ℕ) (rs : List Row) → length rs ≤ 100 → All (RowLimits (length (t .columns))) rs → length (framed t ws rs) ≤ 1000000
+  unfolding framed
+  framed-count ws rs n h =
+      let vs = visibleWidths t ws in
+      let H = shown (t .style) false headerRule vs in
+      let Q = shown (t .style) false rowRule vs in
+      simp length-append
+      (omega (
+        arith,
+        length-shown (t .style) true topBorder vs,
+        length-shown (t .style) true bottomBorder vs,
+        length-headed (rowText t ws headerLines) H (length-shown (t .style) false headerRule vs) (t .header) (texts ws headerLines (t .header) (T .header-row)),
+        length-ruledRows (rowText t ws contentLines) Q (length-shown (t .style) false rowRule vs) rs (texts ws contentLines rs h),
+        T .header,
+      ))
+
+  -- the whole page
+  pub line-count-bound : lineCount t ≤ 1000000
+  unfolding lineCount pageLines
+  line-count-bound = framed-count (contents t) (t .rows) (T .rows) (T .each-row)
+
+-- ---- which columns are visible
+
+-- those of the first n columns
+unfoldable pub visibleTo : Table → ℕ → List ℕ
+visibleTo t n = keep (λ j. not (isHidden (columnAt t j))) (upFrom 0 n)
+
+module _ (t : Table) where
+  -- of none
+  pub visible-to-none : visibleTo t 0 ≡ []
+  unfolding visibleTo upFrom keep
+  visible-to-none = refl
+
+  -- column n joins them unless it is hidden
+  pub visible-to-shown : (n : ℕ) → isHidden (columnAt t n) ≡ false → visibleTo t (suc n) ≡ visibleTo t n ++ (n ∷ [])
+  unfolding visibleTo
+  visible-to-shown n h = keep-yes (λ j. not (isHidden (columnAt t j))) n (rw h)
+
+  -- and not if it is
+  pub visible-to-hidden : (n : ℕ) → isHidden (columnAt t n) ≡ true → visibleTo t (suc n) ≡ visibleTo t n
+  unfolding visibleTo
+  visible-to-hidden n h = keep-no (λ j. not (isHidden (columnAt t j))) n (rw h)
+
+  -- of all columns
+  pub visible-to-all : visibleTo t (length (t .columns)) ≡ visible t
+  unfolding visibleTo visible numbers
+  visible-to-all = refl
+
+length-keep : {A : Type 0} (p : A → Bool) (xs : List A) → length (keep p xs) ≤ length xs
+unfolding keep
+length-keep p [] = omega arith
+length-keep {A} p (x ∷ xs) = go (p x) (length-keep p xs)
+  where
+    go : (b : Bool) → length (keep p xs) ≤ length xs → length {A = A} (elim b as (λ c. List A) [ true ↦ x ∷ keep p xs | false ↦ keep p xs ]) ≤ suc (length xs)
+    go true h = omega arith
+    go false h = omega arith
+
+kept-pass : {A : Type 0} (p : A → Bool) (xs : List A) → All (λ x. p x ≡ true) (keep p xs)
+unfolding keep
+kept-pass p [] = tt
+kept-pass {A} p (x ∷ xs) = go (p x) refl (kept-pass p xs)
+  where
+    go : (b : Bool) → p x ≡ b → All (λ x. p x ≡ true) (keep p xs) → All (λ x. p x ≡ true) (elim b as (λ c. List A) [ true ↦ x ∷ keep p xs | false ↦ keep p xs ])
+    go true e h = (e, h)
+    go false e h = h
+
+from-upFrom : (m i n : ℕ) → m ≤ i → All (λ j. m ≤ j) (upFrom i n)
+unfolding upFrom
+from-upFrom m i zero h = tt
+from-upFrom m i (suc n) h = (h, from-upFrom m (suc i) n (omega arith))
+
+-- its entries rise
+abbrev Rising : List ℕ → Type 0
+Rising l = (a b : ℕ) → a < b → b < length l → getD l a 0 < getD l b 0
+
+rising-keep : (p : ℕ → Bool) (i n : ℕ) → Rising (keep p (upFrom i n))
+unfolding keep upFrom
+rising-keep p i zero = λ a b h k. absurd (omega arith)
+rising-keep p i (suc n) = go (p i) (rising-keep p (suc i) n) (all-keep (λ j. i < j) p (upFrom (suc i) n) (from-upFrom (suc i) (suc i) n (omega arith)))
+  where
+    go : (x : Bool) → Rising (keep p (upFrom (suc i) n)) → All (λ j. i < j) (keep p (upFrom (suc i) n)) → Rising (elim x as (λ c. List ℕ) [ true ↦ i ∷ keep p (upFrom (suc i) n) | false ↦ keep p (upFrom (suc i) n) ])
+    go true ih g a zero h k = absurd (omega arith)
+    go true ih g zero (suc b) h k = all-getD (λ j. i < j) (keep p (upFrom (suc i) n)) b 0 (omega arith) g
+    go true ih g (suc a) (suc b) h k = ih a b (omega arith) (omega arith)
+    go false ih g a b h k = ih a b h k
+
+module _ (t : Table) where
+  -- from left to right
+  pub visible-rises : (i k : ℕ) → i < k → k < length (visible t) → getD (visible t) i 0 < getD (visible t) k 0
+  unfolding visible numbers
+  visible-rises = rising-keep (λ j. not (isHidden (columnAt t j))) 0 (length (t .columns))
+
+  -- so they never fall
+  pub visible-rising : (i k : ℕ) → i ≤ k → k < length (visible t) → getD (visible t) i 0 ≤ getD (visible t) k 0
+  visible-rising i k h l = go (ltb i k) refl
+    where
+      go : (b : Bool) → ltb i k ≡ b → getD (visible t) i 0 ≤ getD (visible t) k 0
+      go true e = omega (arith, visible-rises i k (ltb-true i k e) l)
+      go false e = let m : i ≡ k = omega (arith, ltb-false i k e) in rw m (omega arith)
+
+  -- no more than columns
+  pub visible-count : length (visible t) ≤ length (t .columns)
+  unfolding visible numbers
+  visible-count = omega (arith, length-keep (λ j. not (isHidden (columnAt t j))) (upFrom 0 (length (t .columns))), length-upFrom 0 (length (t .columns)))
+
+  -- each a column
+  pub visible-number : (i : ℕ) → i < length (visible t) → getD (visible t) i 0 < length (t .columns)
+  visible-number i h = all-getD (λ j. j < length (t .columns)) (visible t) i 0 h (visible-below t)
+
+  -- that isn't hidden
+  pub visible-shown : (i : ℕ) → i < length (visible t) → isHidden (columnAt t (getD (visible t) i 0)) ≡ false
+  unfolding visible
+  visible-shown i h = go (isHidden (columnAt t (getD (visible t) i 0))) (all-getD (λ j. not (isHidden (columnAt t j)) ≡ true) (visible t) i 0 h (kept-pass (λ j. not (isHidden (columnAt t j))) (numbers t)))
+    where
+      go : (b : Bool) → not b ≡ true → b ≡ false
+      go true e = sym e
+      go false e = refl
+
+-- ---- how long lines are
+
+sum-841 : (ns : List ℕ) → All (Most 841) ns → sum ns ≤ 841 * length ns
+unfolding sum
+sum-841 [] h = omega arith
+sum-841 (n ∷ ns) h = omega (arith, sum-841 ns (h .1), h .0)
+
+one-le : (b : Bool) → oneIf b ≤ 1
+one-le true = omega arith
+one-le false = omega arith
+
+cond-le : (b : Bool) (n : ℕ) → cond b n 0 ≤ n
+cond-le true n = omega arith
+cond-le false n = omega arith
+
+module _ (t : Table) (T : TableLimits t) where
+  visible-841 : (j : ℕ) → visibleWidth t (contents t) j ≤ 841
+  visible-841 j =
+      let c = all-default (λ c. padding c ≤ 40) (t .columns) j noColumn (omega arith) (all-imp ColumnLimits (λ c. padding c ≤ 40) (λ c k. omega (arith, k .left, k .right)) (t .columns) (T .each-column)) in
+      let w = all-default (Most 801) (contents t) j 0 (omega arith) (contents-801 t T) in
+      omega arith
+
+  widths-bound : sum (visibleWidths t (contents t)) ≤ 841 * length (visible t)
+  unfolding visibleWidths
+  widths-bound = omega (arith, sum-841 (visibleWidths t (contents t)) (all-map (Most 841) (visibleWidth t (contents t)) visible-841 (visible t)), length-widths t (contents t))
+
+  -- text lines and rules
+  pub line-length-bound : lineLength t (contents t) ≤ 10200
+  unfolding lineLength borders bordersOf
+  line-length-bound =
+      omega (arith, one-le (anyLeft (t .style)), one-le (anyRight (t .style)), cond-le (anyJunction (t .style)) (length (visible t) - 1), widths-bound, visible-count t, T .columns)
+
+  -- borders
+  pub border-length-bound : borderLength t (contents t) ≤ 10200
+  unfolding borderLength
+  border-length-bound = omega (arith, one-le (anyLeft (t .style)), one-le (anyRight (t .style)), widths-bound, visible-count t, T .columns)
+
+-- every line has one of the two lengths
+abbrev Drawn : Table → List ℕ → List ℕ → Type 0
+Drawn t ws l = (length l ≡ lineLength t ws) ⊎ (length l ≡ borderLength t ws)
+
+module _ (t : Table) (ws : List ℕ) where
+  shown-lengths : (always : Bool) (k : ℕ) → All (Drawn t ws) (shown (t .style) always k (visibleWidths t ws))
+  unfolding shown
+  shown-lengths always k = go always (isVisible (t .style) k)
+    where
+      go : (a b : Bool) → All (Drawn t ws) (elim b as (λ x. List (List ℕ)) [ true ↦ ruled (t .style) a k (visibleWidths t ws) ∷ [] | false ↦ [] ])
+      go true true = (inr (border-length t ws k), tt)
+      go false true = (inl (rule-length t ws k), tt)
+      go a false = tt
+
+  text-lengths : (k : ℕ) (rs : List Row) → All (λ r. All (Drawn t ws) (rowText t ws k r)) rs
+  unfolding rowText areas
+  text-lengths k [] = tt
+  text-lengths k (r ∷ rs) = (
+    all-map-imp (λ x. Drawn t ws (textLine (t .style) k x)) (Drawn t ws) (textLine (t .style) k) (λ x h. h) (areas t ws r)
+        (all-map (λ x. Drawn t ws (textLine (t .style) k x)) (λ i. map (areaAt t ws r i) (visible t)) (λ i. inl (text-length t ws r k i)) (upFrom 0 (height t ws r))),
+    text-lengths k rs,
+  )
+
+  -- over some of the rows
+  pub framed-line-lengths : (rs : List Row) → All (λ l. (length l ≡ lineLength t ws) ⊎ (length l ≡ borderLength t ws)) (framed t ws rs)
+  unfolding framed
+  framed-line-lengths rs = search (all-append, all-headed, all-ruledRows, shown-lengths, text-lengths)
+
+-- the whole page
+pub page-line-lengths : (t : Table) → All (λ l. (length l ≡ lineLength t (contents t)) ⊎ (length l ≡ borderLength t (contents t))) (pageLines t)
+unfolding pageLines
+page-line-lengths t = framed-line-lengths t (contents t) (t .rows)
+
+bytes-10201 : (ls : List (List ℕ)) → All (λ l. length l ≤ 10200) ls → sum (map (λ l. length l + 1) ls) ≤ 10201 * length ls
+unfolding sum
+bytes-10201 [] h = omega arith
+bytes-10201 (l ∷ ls) h = omega (arith, bytes-10201 ls (h .1), h .0)
+
+module _ (t : Table) (T : TableLimits t) where
+  -- no line is longer, over some of the rows
+  pub framed-line-bound : (rs : List Row) → All (λ l. length l ≤ 10200) (framed t (contents t) rs)
+  framed-line-bound rs = all-imp (Drawn t (contents t)) (λ l. length l ≤ 10200) go (framed t (contents t) rs) (framed-line-lengths t (contents t) rs)
+    where
+      go : (l : List ℕ) → Drawn t (contents t) l → length l ≤ 10200
+      go l (inl e) = omega (arith, line-length-bound t T)
+      go l (inr e) = omega (arith, border-length-bound t T)
+
+  -- line k of the page, its 0A included
+  pub line-at-bound : (k : ℕ) → length (lineAt t k) ≤ 10201
+  unfolding lineAt pageLines
+  line-at-bound k = simp length-append (omega (arith, all-default (λ l. length l ≤ 10200) (pageLines t) k [] (omega arith) (framed-line-bound (t .rows))))
+
+  -- the bytes of lines over some of the rows
+  pub framed-byte-bound : (rs : List Row) → length rs ≤ 100 → All (RowLimits (length (t .columns))) rs → length (closed (framed t (contents t) rs)) ≤ 1000000 * 10201
+  framed-byte-bound rs n h =
+      omega (arith, length-closed (framed t (contents t) rs), bytes-10201 (framed t (contents t) rs) (framed-line-bound rs), framed-count t T (contents t) rs n h)
+
+  -- and those of the page
+  pub byte-count-bound : byteCount t ≤ 1000000 * 10201
+  unfolding pageLines
+  byte-count-bound = omega (arith, byte-count-closed t, framed-byte-bound (t .rows) (T .rows) (T .each-row))
