@@ -105,6 +105,10 @@ opened-has s p c r ts more O R o e =
     let h = height-has s (tableOf s) (widthsIn s) (firstRow s c) (p .view) (O .views) 0 ts st in
     (st, e ∙ sym (h ∙ rw (in-limit-0 (firstRow s c .limit))))
 
+one-header : (text : Row → List (List ℕ)) (rule : List (List ℕ)) (r : Row) (ls : List (List ℕ)) → headed text rule (r ∷ []) ++ ls ≡ text r ++ (rule ++ ls)
+unfolding headed
+one-header text rule r ls = simp (append-nil, append-assoc)
+
 -- ---- cursors
 
 module _ (s : List ℕ) (p : Page) (O : Opened s p) where
@@ -182,3 +186,70 @@ both-false s p O next x e f = go (p .look .«has_row_rule») refl (ltb 0 (next .
 pub both-true : (a b x : Bool) → x ≡ (a && b) → x ≡ true → (a ≡ true) × (b ≡ true)
 both-true true b x e f = (refl, sym e ∙ f)
 both-true false b x e f = let z : _≡_ {A = ℕ} 0 1 = cc in absurd (omega arith)
+
+module _ (s : List ℕ) (p : Page) (O : Opened s p) where
+  -- after the header
+  pub header-rule-shown : (c : Cursor) → p .look .«has_header_rule» ≡ true → c .stage ≡ HeaderRule → Ahead s p c (afterHeader s)
+  unfolding afterHeader ahead lookOf
+  header-rule-shown c e f =
+      let v : isVisible (tableOf s .style) headerRule ≡ true = sym (ap (λ (l : Look). l .«has_header_rule») (O .look)) ∙ e in
+      record { lines = rw f (rw (rule-shown s false headerRule v)); at = rw f tt }
+
+  pub header-rule-hidden : (c : Cursor) → p .look .«has_header_rule» ≡ false → Ahead s p c (rowsFrom s (rowsIn s (p .rows))) → Ahead s p c (afterHeader s)
+  unfolding afterHeader lookOf
+  header-rule-hidden c e a =
+      let v : isVisible (tableOf s .style) headerRule ≡ false = sym (ap (λ (l : Look). l .«has_header_rule») (O .look)) ∙ e in
+      record { lines = a .lines ∙ rw (rule-hidden s false headerRule v, O .rows); at = a .at }
+
+  -- the header, if there is one, and what follows
+  pub no-header : (c : Cursor) → p .header .left ≡ 0 → Ahead s p c (rowsFrom s (rowsIn s (p .rows))) → Ahead s p c (afterTop s)
+  unfolding afterTop headed
+  no-header c e a = record { lines = a .lines ∙ rw (← O .header, rows-empty s (p .header) (omega arith), O .rows); at = a .at }
+
+  header-lines : 0 < p .header .left → afterTop s ≡ textLines s headerLines (firstRow s (p .header)) ++ afterHeader s
+  unfolding afterTop headed afterHeader
+  header-lines h =
+      let one : drop 1 (rowsIn s (p .header)) ≡ [] = none (drop 1 (rowsIn s (p .header))) (omega (arith, length-drop 1 (rowsIn s (p .header)), rows-count s (p .header), O .header-one)) in
+      let e : tableOf s .header ≡ firstRow s (p .header) ∷ [] = sym (O .header) ∙ rows-split s (p .header) h ∙ ap (λ l. firstRow s (p .header) ∷ l) one in
+      ap (λ hs. headed (textLines s headerLines) (ruleLines s false headerRule) hs ++ rowsFrom s (tableOf s .rows)) e
+      ∙ one-header (textLines s headerLines) (ruleLines s false headerRule) (firstRow s (p .header)) (rowsFrom s (tableOf s .rows))
+    where
+      none : (rs : List Row) → length rs ≡ 0 → rs ≡ []
+      none [] e = refl
+      none (r ∷ rs) e = absurd (omega arith)
+
+  pub header-ready : (r : records.Row) (ts : List Standing) (more : Bool) → 0 < p .header .left → RowIs s (p .header) r → OpenedRow s (cellsIn s (r .cells)) (p .view) ts
+      → more ≡ anyFound ts (p .view .count) → more ≡ true → Ahead s p (record { stage = Header; here = p .header; limit = r .limit; line = 0; standings = ts }) (afterTop s)
+  unfolding ahead
+  header-ready r ts more some R o e f =
+      let q = opened-has s p (p .header) r ts more O R o e in
+      record {
+        lines = sym (header-lines some);
+        at = record { some = some; rows = O .header-at; limit = R .limit; has = ltb-true 0 _ (sym (q .1) ∙ f); stands = q .0 };
+      }
+
+  pub header-passed : (c : Cursor) (r : records.Row) (ts : List Standing) (more : Bool) → 0 < p .header .left → RowIs s (p .header) r → OpenedRow s (cellsIn s (r .cells)) (p .view) ts
+      → more ≡ anyFound ts (p .view .count) → more ≡ false → Ahead s p c (afterHeader s) → Ahead s p c (afterTop s)
+  header-passed c r ts more some R o e f a =
+      let q = opened-has s p (p .header) r ts more O R o e in
+      record {
+        lines = a .lines ∙ sym (header-lines some ∙ ap (λ l. l ++ afterHeader s) (text-none s headerLines 0 (firstRow s (p .header)) (ltb-false 0 _ (sym (q .1) ∙ f))));
+        at = a .at;
+      }
+
+  -- the whole page
+  pub all-is : allLines s ≡ ruleLines s true topBorder ++ afterTop s
+  unfolding allLines pageLines framed ruleLines afterTop rowsFrom lastLines
+  all-is = refl
+
+  pub top-shown : (c : Cursor) → p .look .«has_top» ≡ true → c .stage ≡ Top → Ahead s p c (allLines s)
+  unfolding ahead lookOf
+  top-shown c e f =
+      let v : isVisible (tableOf s .style) topBorder ≡ true = sym (ap (λ (l : Look). l .«has_top») (O .look)) ∙ e in
+      record { lines = rw f (sym (all-is ∙ rw (rule-shown s true topBorder v))); at = rw f tt }
+
+  pub top-hidden : (c : Cursor) → p .look .«has_top» ≡ false → Ahead s p c (afterTop s) → Ahead s p c (allLines s)
+  unfolding lookOf
+  top-hidden c e a =
+      let v : isVisible (tableOf s .style) topBorder ≡ false = sym (ap (λ (l : Look). l .«has_top») (O .look)) ∙ e in
+      record { lines = a .lines ∙ sym (all-is ∙ rw (rule-hidden s true topBorder v)); at = a .at }

@@ -13,12 +13,15 @@ use Rattle.rules.specs.Page.{visibleWidths, height, rowText, ruled, shown, head
 use Rattle.sheet.specs.Held.{Passes, tableOf}
 use Rattle.sheet.specs.Walk.{rowsIn, rowsEnd, firstRow}
 use Rattle.sheet.specs.declared.records.Rows.{Rows}
+use Rattle.formatting.specs.Line.{AfterAll, anyFound}
+use Rattle.formatting.specs.declared.content_format.Standing.{Standing}
 use Rattle.formatting.specs.Open.{Rising, WideAll}
 use Rattle.formatting.specs.Rule.{NarrowAll}
 use Rattle.formatting.specs.Stand.{Views, StandsRow, textStyleOf, ruleStyleOf}
 use Rattle.page.specs.declared.cursor.Look.{Look}
 use Rattle.page.specs.declared.cursor.Page.{Page}
 use Rattle.page.specs.declared.cursor.Cursor.{Cursor}
+use Rattle.page.specs.declared.cursor.Drawn.{Drawn}
 use Rattle.page.specs.declared.cursor.Stage.{Stage}
 use Rattle.page.specs.declared.cursor.Stage.the-variants.{Top, Header, HeaderRule, Text, Rule, Bottom, End}
 
@@ -111,6 +114,11 @@ pub record RowAt (s : List ℕ) (p : Page) (c : Cursor) : Type 0 where
   pub has : c .line < height (tableOf s) (widthsIn s) (firstRow s (c .here))
   pub stands : StandsRow s (tableOf s) (widthsIn s) (firstRow s (c .here)) (p .view) (c .line) (c .standings)
 
+-- every visible cell of the row at its next line
+pub record Next (s : List ℕ) (p : Page) (c : Cursor) (ts : List Standing) (more : Bool) : Type 0 where
+  pub after : AfterAll s (p .view) (c .standings) ts
+  pub found : more ≡ anyFound ts (p .view .count)
+
 -- what holds of a cursor
 abbrev pub AtBy : List ℕ → Page → Cursor → Stage → Type 0
 AtBy s p c Top = Unit {0}
@@ -128,3 +136,12 @@ At s p c = AtBy s p c (c .stage)
 pub record Ahead (s : List ℕ) (p : Page) (c : Cursor) (ls : List (List ℕ)) : Type 0 where
   pub lines : ahead s c ≡ ls
   pub at : At s p c
+
+-- the line that comes next, its 0A included
+unfoldable pub headLine : List ℕ → Cursor → List ℕ
+headLine s c = getD (ahead s c) 0 [] ++ (10 ∷ [])
+
+-- that line is written, and the cursor has the others before it
+pub record Drew (s : List ℕ) (p : Page) (c : Cursor) (r : Drawn) : Type 0 where
+  pub written : r .written ≡ length (headLine s c)
+  pub next : Ahead s p (r .cursor) (drop 1 (ahead s c))

@@ -2,13 +2,14 @@
 // the same way, so that counting, printing a page and printing a line agree.
 ghost use mathlib.Core.Path.{_≡_};
 ghost use mathlib.Core.List.{[], _∷_, _++_};
+ghost use mathlib.Core.Bool.{_&&_};
 ghost use Prim.Native.Nat.{ℕ, _+_, _≤_, _<_};
 ghost use lib.ListN.{length, drop, getD};
 ghost use Rattle.buffer.specs.Put.{over};
 ghost use Rattle.sheet.specs.Held.{Passes};
 ghost use Rattle.sheet.specs.Walk.{rowsIn, rowsEnd};
 ghost use Rattle.formatting.specs.Stand.{inLimit, lastOf};
-ghost use Rattle.page.specs.Ahead.{RowsAt, Opened, Ahead, At, ahead, lastLines, rowsFrom, moreFrom, afterTop, afterHeader, allLines, RowAt};
+ghost use Rattle.page.specs.Ahead.{RowsAt, Opened, Ahead, At, ahead, lastLines, rowsFrom, moreFrom, afterTop, afterHeader, allLines, RowAt, Next, headLine, Drew};
 use formatting::borders;
 use formatting::borders::RuleStyle;
 use formatting::content_format;
@@ -194,4 +195,237 @@ pub fn start(sheet: &[u8], p: Page) -> Cursor
         return plain(Stage::Top, rows);
     }
     after_top(sheet, p)
+}
+
+// A row goes on to its next line if one stands ready and the limit leaves it.
+fn stays(limit: usize, line: usize, more: bool) -> bool
+    ensures { λ r. ⌜ r ≡ (inLimit limit (line + 1) && more) ⌝ }
+{
+    if limit == 0 {
+        return more;
+    }
+    if limit - 1 <= line {
+        return false;
+    }
+    more
+}
+
+// The last line that the limit leaves.
+fn is_last(limit: usize, line: usize) -> bool
+    ensures { λ r. ⌜ r ≡ lastOf limit line ⌝ }
+{
+    if limit == 0 {
+        return false;
+    }
+    line == limit - 1
+}
+
+// After a line of the header.
+fn next_header_line(sheet: &[u8], p: Page, c: Cursor, standings: [Standing; 12], more: bool) -> Cursor
+    requires { ⌜ Opened (now sheet) p × ((c .stage ≡ Stage.Header) × (RowAt (now sheet) p c × Next (now sheet) p c standings more)) ⌝ }
+    ensures { λ r. ⌜ Ahead (now (sheet .entry)) p r (drop 1 (ahead (now (sheet .entry)) c)) ⌝ }
+{
+    let here = c.here;
+    if stays(c.limit, c.line, more) {
+        return Cursor {
+            stage: Stage::Header,
+            here,
+            limit: c.limit,
+            line: c.line + 1,
+            standings,
+        };
+    }
+    after_header(sheet, p)
+}
+
+// After a line of a row.
+fn next_text_line(sheet: &[u8], p: Page, c: Cursor, standings: [Standing; 12], more: bool) -> Cursor
+    requires { ⌜ Opened (now sheet) p × ((c .stage ≡ Stage.Text) × (RowAt (now sheet) p c × Next (now sheet) p c standings more)) ⌝ }
+    ensures { λ r. ⌜ Ahead (now (sheet .entry)) p r (drop 1 (ahead (now (sheet .entry)) c)) ⌝ }
+{
+    let here = c.here;
+    if stays(c.limit, c.line, more) {
+        return Cursor {
+            stage: Stage::Text,
+            here,
+            limit: c.limit,
+            line: c.line + 1,
+            standings,
+        };
+    }
+    after_row(sheet, p, here)
+}
+
+fn skip_header(sheet: &[u8], p: Page, c: Cursor) -> Cursor
+    requires { ⌜ Opened (now sheet) p × ((c .stage ≡ Stage.Header) × RowAt (now sheet) p c) ⌝ }
+    ensures { λ r. ⌜ Ahead (now (sheet .entry)) p r (drop 1 (ahead (now (sheet .entry)) c)) ⌝ }
+{
+    let view = p.view;
+    let from = c.standings;
+    let k = content_format::skip_text_line(sheet, view, from);
+    let standings = k.standings;
+    next_header_line(sheet, p, c, standings, k.more)
+}
+
+fn skip_text(sheet: &[u8], p: Page, c: Cursor) -> Cursor
+    requires { ⌜ Opened (now sheet) p × ((c .stage ≡ Stage.Text) × RowAt (now sheet) p c) ⌝ }
+    ensures { λ r. ⌜ Ahead (now (sheet .entry)) p r (drop 1 (ahead (now (sheet .entry)) c)) ⌝ }
+{
+    let view = p.view;
+    let from = c.standings;
+    let k = content_format::skip_text_line(sheet, view, from);
+    let standings = k.standings;
+    next_text_line(sheet, p, c, standings, k.more)
+}
+
+// Passes over one line.
+pub fn step(sheet: &[u8], p: Page, c: Cursor) -> Cursor
+    requires { ⌜ Opened (now sheet) p × At (now sheet) p c ⌝ }
+    ensures { λ r. ⌜ Ahead (now (sheet .entry)) p r (drop 1 (ahead (now (sheet .entry)) c)) ⌝ }
+{
+    let stage = c.stage;
+    let rows = p.rows;
+    let here = c.here;
+    match stage {
+        Stage::Top => after_top(sheet, p),
+        Stage::Header => skip_header(sheet, p, c),
+        Stage::HeaderRule => before_rows(sheet, p, rows),
+        Stage::Text => skip_text(sheet, p, c),
+        Stage::Rule => before_rows(sheet, p, here),
+        Stage::Bottom => plain(Stage::End, here),
+        Stage::End => plain(Stage::End, here),
+    }
+}
+
+// What was written, and the cursor after the line.
+pub struct Drawn {
+    pub written: usize,
+    pub cursor: Cursor,
+}
+
+// The top border.
+fn draw_top_border(page: &mut [u8], sheet: &[u8], p: Page, c: Cursor) -> Drawn
+    requires { ⌜ Opened (now sheet) p × (At (now sheet) p c × (c .stage ≡ Stage.Top)) ⌝ }
+    requires { ⌜ length (headLine (now sheet) c) ≤ length (now page) ⌝ }
+    ensures { λ r. ⌜ Drew (now (sheet .entry)) p c r ⌝ }
+    ensures { λ _. ⌜ now (page .exit) ≡ over (headLine (now (sheet .entry)) c) (now (page .entry)) ⌝ }
+{
+    let view = p.view;
+    let look = p.look;
+    let style = look.top;
+    let written = borders::draw_line(page, view, style);
+    let cursor = after_top(sheet, p);
+    Drawn { written, cursor }
+}
+
+// The rule under the header.
+fn draw_header_rule(page: &mut [u8], sheet: &[u8], p: Page, c: Cursor) -> Drawn
+    requires { ⌜ Opened (now sheet) p × (At (now sheet) p c × (c .stage ≡ Stage.HeaderRule)) ⌝ }
+    requires { ⌜ length (headLine (now sheet) c) ≤ length (now page) ⌝ }
+    ensures { λ r. ⌜ Drew (now (sheet .entry)) p c r ⌝ }
+    ensures { λ _. ⌜ now (page .exit) ≡ over (headLine (now (sheet .entry)) c) (now (page .entry)) ⌝ }
+{
+    let view = p.view;
+    let look = p.look;
+    let style = look.header_rule;
+    let written = borders::draw_line(page, view, style);
+    let rows = p.rows;
+    let cursor = before_rows(sheet, p, rows);
+    Drawn { written, cursor }
+}
+
+// A rule between two rows.
+fn draw_row_rule(page: &mut [u8], sheet: &[u8], p: Page, c: Cursor) -> Drawn
+    requires { ⌜ Opened (now sheet) p × (At (now sheet) p c × (c .stage ≡ Stage.Rule)) ⌝ }
+    requires { ⌜ length (headLine (now sheet) c) ≤ length (now page) ⌝ }
+    ensures { λ r. ⌜ Drew (now (sheet .entry)) p c r ⌝ }
+    ensures { λ _. ⌜ now (page .exit) ≡ over (headLine (now (sheet .entry)) c) (now (page .entry)) ⌝ }
+{
+    let view = p.view;
+    let look = p.look;
+    let style = look.row_rule;
+    let written = borders::draw_line(page, view, style);
+    let here = c.here;
+    let cursor = before_rows(sheet, p, here);
+    Drawn { written, cursor }
+}
+
+// The bottom border.
+fn draw_bottom_border(page: &mut [u8], sheet: &[u8], p: Page, c: Cursor) -> Drawn
+    requires { ⌜ Opened (now sheet) p × (At (now sheet) p c × (c .stage ≡ Stage.Bottom)) ⌝ }
+    requires { ⌜ length (headLine (now sheet) c) ≤ length (now page) ⌝ }
+    ensures { λ r. ⌜ Drew (now (sheet .entry)) p c r ⌝ }
+    ensures { λ _. ⌜ now (page .exit) ≡ over (headLine (now (sheet .entry)) c) (now (page .entry)) ⌝ }
+{
+    let view = p.view;
+    let look = p.look;
+    let style = look.bottom;
+    let written = borders::draw_line(page, view, style);
+    let here = c.here;
+    let cursor = plain(Stage::End, here);
+    Drawn { written, cursor }
+}
+
+// A line of the header.
+fn draw_header_line(page: &mut [u8], sheet: &[u8], p: Page, c: Cursor) -> Drawn
+    requires { ⌜ Opened (now sheet) p × (At (now sheet) p c × (c .stage ≡ Stage.Header)) ⌝ }
+    requires { ⌜ length (headLine (now sheet) c) ≤ length (now page) ⌝ }
+    ensures { λ r. ⌜ Drew (now (sheet .entry)) p c r ⌝ }
+    ensures { λ _. ⌜ now (page .exit) ≡ over (headLine (now (sheet .entry)) c) (now (page .entry)) ⌝ }
+{
+    let view = p.view;
+    let look = p.look;
+    let style = look.header_lines;
+    let from = c.standings;
+    let last = is_last(c.limit, c.line);
+    let l = content_format::draw_text_line(page, sheet, view, style, last, from);
+    let standings = l.standings;
+    let cursor = next_header_line(sheet, p, c, standings, l.more);
+    Drawn {
+        written: l.written,
+        cursor,
+    }
+}
+
+// A line of a row.
+fn draw_row_line(page: &mut [u8], sheet: &[u8], p: Page, c: Cursor) -> Drawn
+    requires { ⌜ Opened (now sheet) p × (At (now sheet) p c × (c .stage ≡ Stage.Text)) ⌝ }
+    requires { ⌜ length (headLine (now sheet) c) ≤ length (now page) ⌝ }
+    ensures { λ r. ⌜ Drew (now (sheet .entry)) p c r ⌝ }
+    ensures { λ _. ⌜ now (page .exit) ≡ over (headLine (now (sheet .entry)) c) (now (page .entry)) ⌝ }
+{
+    let view = p.view;
+    let look = p.look;
+    let style = look.content_lines;
+    let from = c.standings;
+    let last = is_last(c.limit, c.line);
+    let l = content_format::draw_text_line(page, sheet, view, style, last, from);
+    let standings = l.standings;
+    let cursor = next_text_line(sheet, p, c, standings, l.more);
+    Drawn {
+        written: l.written,
+        cursor,
+    }
+}
+
+// Draws one line at the start of the page.
+pub fn draw(page: &mut [u8], sheet: &[u8], p: Page, c: Cursor) -> Drawn
+    requires { ⌜ Opened (now sheet) p × (At (now sheet) p c × (0 < length (ahead (now sheet) c))) ⌝ }
+    requires { ⌜ length (headLine (now sheet) c) ≤ length (now page) ⌝ }
+    ensures { λ r. ⌜ Drew (now (sheet .entry)) p c r ⌝ }
+    ensures { λ _. ⌜ now (page .exit) ≡ over (headLine (now (sheet .entry)) c) (now (page .entry)) ⌝ }
+{
+    let stage = c.stage;
+    match stage {
+        Stage::Top => draw_top_border(page, sheet, p, c),
+        Stage::Header => draw_header_line(page, sheet, p, c),
+        Stage::HeaderRule => draw_header_rule(page, sheet, p, c),
+        Stage::Text => draw_row_line(page, sheet, p, c),
+        Stage::Rule => draw_row_rule(page, sheet, p, c),
+        Stage::Bottom => draw_bottom_border(page, sheet, p, c),
+        Stage::End => Drawn {
+            written: 0,
+            cursor: c,
+        },
+    }
 }

@@ -41,7 +41,7 @@ module _ (t : Table) (ws : List ℕ) (r : Row) where
   length-areas = length-map (upFrom 0 (height t ws r)) (λ k. map (areaAt t ws r k) (visible t)) ∙ length-upFrom 0 (height t ws r)
 
   -- line k of the row
-  line-at : (k : ℕ) → k < height t ws r → getD (areas t ws r) k [] ≡ map (areaAt t ws r k) (visible t)
+  pub line-at : (k : ℕ) → k < height t ws r → getD (areas t ws r) k [] ≡ map (areaAt t ws r k) (visible t)
   unfolding areas
   line-at k h =
       let e : 0 + k ≡ k = omega arith in

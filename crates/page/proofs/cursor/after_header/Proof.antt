@@ -1,3 +1,5 @@
+use denote.Ref.{now}
+use Rattle.page.proofs.Ahead.{header-rule-shown, header-rule-hidden}
 use borrow.Author.Needs.{needs}
 use Rattle.page.proofs.cursor.after_header.Statement.{statement}
 use Rattle.page.proofs.cursor.after_header.Tie as tie
@@ -12,15 +14,15 @@ plain-requires c κs = search needs
 
 -- src/cursor.rt:154:9
 returns : tie.Need-returns
-returns c = ?
+returns c = let s = c  .before .before .before .before .before in header-rule-shown (now (s .args .sheet)) (s .args .p) (s .pre) (c .plain .result) (c  .before .if1 .taken) (c .plain .ensures .0)
 
 -- src/cursor.rt:156:5
 before-rows-requires : tie.Need-before-rows-requires
-before-rows-requires c κs = search needs
+before-rows-requires c κs = (c  .before .before .before .before .pre, c  .before .before .before .before .pre .rows-at)
 
 -- src/cursor.rt:147:1
 returns-2 : tie.Need-returns-2
-returns-2 c = ?
+returns-2 c = let s = c  .before .before .before .before .before in header-rule-hidden (now (s .args .sheet)) (s .args .p) (s .pre) (c .before-rows .result) (c  .before .if1 .left) (c .before-rows .ensures)
 
 pub after-header-spec : {M : Type 1} → statement M
 after-header-spec = tie.close (tie.spec plain-requires returns before-rows-requires returns-2)

@@ -33,7 +33,7 @@ loop-holds c = (refl, c  .before .before .before .pre .1)
 
 -- src/cursor.rt:112:13
 row-requires : tie.Need-row-requires Inv-loop μ-loop
-row-requires c κs = (c .if1 .taken, c  .before .before .loop .inv .1)
+row-requires c κs = (c .if1 .taken, c  .before .before .loop .inv .1 .ends)
 
 -- src/cursor.rt:114:13
 format-row-requires : tie.Need-format-row-requires Inv-loop μ-loop
@@ -68,7 +68,7 @@ returns-2 c = let s = c  .before .before .before .before .before .before .before
     let f = c  .before .before .before .before .before .before .format-row in
     let n = c  .before .before .before .before .next-row in
     let b = both-true _ _ (c  .before .before .both .result) (c  .before .before .both .ensures) (c  .before .if3 .taken) in
-    let a = rule-ready (now (s .args .sheet)) (s .args .p) (s .pre .0) (n .result) (c .plain .result) (omega (arith, n .ensures .ends, c  .before .before .before .before .before .before .before .before .before .before .before .loop .inv .1)) (b .0) (ltb-true 0 (n .result .left) (b .1)) (c .plain .ensures .0) (c .plain .ensures .1) in
+    let a = rule-ready (now (s .args .sheet)) (s .args .p) (s .pre .0) (n .result) (c .plain .result) (rows-at-next (now (s .args .sheet)) h (n .result) (c  .before .before .before .before .before .before .before .before .before .before .before .loop .inv .1) (n .ensures)) (b .0) (ltb-true 0 (n .result .left) (b .1)) (c .plain .ensures .0) (c .plain .ensures .1) in
     let r = row-passed (now (s .args .sheet)) (s .args .p) (s .pre .0) h (c  .before .before .before .before .before .before .before .before .before .if1 .taken) (c  .before .before .before .before .before .before .before .before .row .result) (f .result .standings) (f .result .more) (c  .before .before .before .before .before .before .before .before .row .ensures) (f .ensures .0) (f .ensures .1) (c  .before .before .before .before .before .if2 .left) in
     record { lines = a .lines ∙ ap (moreFrom (now (s .args .sheet))) (n .ensures .rows) ∙ sym r ∙ sym (c  .before .before .before .before .before .before .before .before .before .before .before .loop .inv .0); at = a .at }
 
@@ -84,7 +84,7 @@ loop-again c = let s = c  .before .before .before .before .before .before .befor
     let n = c  .before .before .before .next-row in
     let r = row-passed (now (s .args .sheet)) (s .args .p) (s .pre .0) h (c  .before .before .before .before .before .before .before .before .if1 .taken) (c  .before .before .before .before .before .before .before .row .result) (f .result .standings) (f .result .more) (c  .before .before .before .before .before .before .before .row .ensures) (f .ensures .0) (f .ensures .1) (c  .before .before .before .before .if2 .left) in
     let b = both-false (now (s .args .sheet)) (s .args .p) (s .pre .0) (n .result) (c  .before .both .result) (c  .before .both .ensures) (c .if3 .left) in
-    (c  .before .before .before .before .before .before .before .before .before .before .loop .inv .0 ∙ r ∙ sym (ap (moreFrom (now (s .args .sheet))) (n .ensures .rows)) ∙ b, omega (arith, n .ensures .ends, c  .before .before .before .before .before .before .before .before .before .before .loop .inv .1))
+    (c  .before .before .before .before .before .before .before .before .before .before .loop .inv .0 ∙ r ∙ sym (ap (moreFrom (now (s .args .sheet))) (n .ensures .rows)) ∙ b, rows-at-next (now (s .args .sheet)) h (n .result) (c  .before .before .before .before .before .before .before .before .before .before .loop .inv .1) (n .ensures))
 
 -- src/cursor.rt:130:5
 before-bottom-requires : tie.Need-before-bottom-requires Inv-loop μ-loop

@@ -1,3 +1,5 @@
+use denote.Ref.{now}
+use Rattle.page.proofs.Ahead.{top-shown, top-hidden}
 use borrow.Author.Needs.{needs}
 use Rattle.page.proofs.cursor.start.Statement.{statement}
 use Rattle.page.proofs.cursor.start.Tie as tie
@@ -12,7 +14,7 @@ plain-requires c κs = search needs
 
 -- src/cursor.rt:194:9
 returns : tie.Need-returns
-returns c = ?
+returns c = let s = c  .before .before .before .before .before in top-shown (now (s .args .sheet)) (s .args .p) (s .pre) (c .plain .result) (c  .before .if1 .taken) (c .plain .ensures .0)
 
 -- src/cursor.rt:196:5
 after-top-requires : tie.Need-after-top-requires
@@ -20,7 +22,7 @@ after-top-requires c κs = search needs
 
 -- src/cursor.rt:187:1
 returns-2 : tie.Need-returns-2
-returns-2 c = ?
+returns-2 c = let s = c  .before .before .before .before .before in top-hidden (now (s .args .sheet)) (s .args .p) (s .pre) (c .after-top .result) (c  .before .if1 .left) (c .after-top .ensures)
 
 pub start-spec : {M : Type 1} → statement M
 start-spec = tie.close (tie.spec plain-requires returns after-top-requires returns-2)

@@ -1,0 +1,33 @@
+use borrow.Author.Needs.{needs}
+use Rattle.page.proofs.cursor.draw_row_line.Statement.{statement}
+use Rattle.page.proofs.cursor.draw_row_line.Tie as tie
+use Rattle.page.proofs.cursor.draw_row_line.Reads as reads
+use Rattle.page.proofs.cursor.draw_row_line.Lts as lts
+use Rattle.formatting.proofs.content_format.draw_text_line.Reads as draw-text-line-reads
+use Rattle.page.proofs.cursor.is_last.Reads as is-last-reads
+use Rattle.page.proofs.cursor.next_text_line.Reads as next-text-line-reads
+
+-- src/cursor.rt:401:9
+is-last-requires : tie.Need-is-last-requires
+is-last-requires c κs = search needs
+
+-- src/cursor.rt:402:9
+draw-text-line-requires : tie.Need-draw-text-line-requires
+draw-text-line-requires c κs = ?
+
+-- src/cursor.rt:404:9
+next-text-line-requires : tie.Need-next-text-line-requires
+next-text-line-requires c κs = ?
+
+-- src/cursor.rt:391:1
+same-length : tie.Need-same-length
+same-length c = search needs
+
+-- src/cursor.rt:391:1
+returns : tie.Need-returns
+returns c = ?
+
+pub draw-row-line-spec : {M : Type 1} → statement M
+draw-row-line-spec =
+    tie.close
+    (tie.spec is-last-requires draw-text-line-requires next-text-line-requires same-length returns)
