@@ -1,3 +1,4 @@
+-- `refusals::decode` meets its contract. The loop: the bytes written fit the sheet, whose length is kept. Assumes nothing.
 use lib.ListN.{length}
 use borrow.Author.Needs.{needs}
 use mathlib.Core.Path.{_≡_}

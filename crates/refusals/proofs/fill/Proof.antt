@@ -1,3 +1,4 @@
+-- `refusals::fill` meets its contract. The loop: `at` stands inside the sheet, whose length is kept. Assumes nothing.
 use lib.ListN.{length, length-set}
 use lib.ListN.{length}
 use borrow.Author.Needs.{needs}

@@ -1,3 +1,4 @@
+-- `refusals::find` meets its contract. The loop: i stands inside the text. Assumes nothing.
 use lib.ListN.{length}
 use lib.ListN.{length}
 use borrow.Author.Needs.{needs}

@@ -1,3 +1,4 @@
+-- `refusals::number` meets its contract. The loop: i stands inside the line, and the count stays small. Assumes nothing.
 use lib.ListN.{length}
 use lib.ListN.{length}
 use borrow.Author.Needs.{needs}

@@ -1,3 +1,4 @@
+-- `refusals::replay` meets its contract. Assumes nothing.
 use lib.Seq.{length-take-le}
 use mathlib.Core.Path.{sym}
 use Prim.Native.Nat.{_-_}

@@ -1,3 +1,4 @@
+-- `refusals::replay_all` meets its contract. The loop: the sheet's length is kept. Assumes nothing.
 use lib.ListN.{length}
 use borrow.Author.Needs.{needs}
 use mathlib.Core.Path.{_≡_}
