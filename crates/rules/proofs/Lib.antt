@@ -9,5 +9,6 @@ pub mod Accepted
 pub mod Places
 pub mod Stands
 pub mod Numbers
+pub mod Items
 pub mod Settled
 pub mod Wrote
