@@ -95,10 +95,17 @@ pub fn printable_or_zero(sheet: &[u8], from: Step) -> Step
     Step::At(at + 1)
 }
 
+// A byte as a number to calculate with.
 pub fn wide(byte: u8) -> u16
     ensures { λ r. ⌜ (r ≡ byte) × (r < 256) ⌝ }
 {
     byte as u16
+}
+
+pub fn size(byte: u8) -> usize
+    ensures { λ r. ⌜ (r ≡ byte) × (r < 256) ⌝ }
+{
+    byte as usize
 }
 
 // Two bytes, low byte first, are one field: half of it is none.
