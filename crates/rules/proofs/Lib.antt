@@ -14,6 +14,7 @@ pub mod Accepted
 pub mod Places
 pub mod Stands
 pub mod Numbers
+pub mod Items
 pub mod Settled
 pub mod Wrote
 pub mod Cancel

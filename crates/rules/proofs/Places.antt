@@ -134,7 +134,7 @@ laid-byte s p a q e = go (ltb p (length s)) e
     go true j = (cc, cc)
     go false j = let z : _≡_ {A = ℕ} 0 1 = cc in absurd (omega arith)
 
-laid-word : Laid wordAt (λ s p. p + 2) word
+pub laid-word : Laid wordAt (λ s p. p + 2) word
 unfolding word
 laid-word s p a q e = go (ltb (p + 1) (length s)) e
   where
@@ -142,7 +142,7 @@ laid-word s p a q e = go (ltb (p + 1) (length s)) e
     go true j = (cc, cc)
     go false j = let z : _≡_ {A = ℕ} 0 1 = cc in absurd (omega arith)
 
-laid-only : {here stop : List ℕ → ℕ → ℕ} (good : ℕ → Bool) (n : ℕ) (f : Reader ℕ) → Laid here stop f → Laid here stop (only good n f)
+pub laid-only : {here stop : List ℕ → ℕ → ℕ} (good : ℕ → Bool) (n : ℕ) (f : Reader ℕ) → Laid here stop f → Laid here stop (only good n f)
 unfolding only onward
 laid-only {here} {stop} good n f h s p a q e = go (f s p) refl e
   where
@@ -178,7 +178,7 @@ unfolding several parts past
 laid-several zero f h = laid-give []
 laid-several (suc n) f h = laid-then f _ h (λ a. laid-then (several n f) _ (laid-several n f h) (λ as′. laid-give (a ∷ as′)))
 
-laid-listed : {A : Type 0} {here : List ℕ → ℕ → A} {stop : List ℕ → ℕ → ℕ} (count : Reader ℕ) (f : Reader A) → Laid byteAt (λ s p. p + 1) count → Laid here stop f
+pub laid-listed : {A : Type 0} {here : List ℕ → ℕ → A} {stop : List ℕ → ℕ → ℕ} (count : Reader ℕ) (f : Reader A) → Laid byteAt (λ s p. p + 1) count → Laid here stop f
     → Laid (λ s p. parts (byteAt s p) (here s) (stop s) (p + 1)) (λ s p. past (byteAt s p) (stop s) (p + 1)) (listed count f)
 unfolding listed
 laid-listed count f k h = laid-then count _ k (λ n. laid-several n f h)
@@ -214,7 +214,7 @@ laid-characters good m (suc n) s p xs q e =
     let a : o .middle ≡ suc p = omega (arith, h .1) in
     (g .0 ∙ rw (drop-cons s p 0 l, ← h .0, ← a, ← r .0), omega (arith, g .1, r .1))
 
-laid-text : (low high : ℕ) (good : ℕ → Bool) (m : ℕ) → Laid textAt lineStop (counted low high (only good m byte))
+pub laid-text : (low high : ℕ) (good : ℕ → Bool) (m : ℕ) → Laid textAt lineStop (counted low high (only good m byte))
 unfolding listed textAt lineStop
 laid-text low high good m = laid-then (within low high) _ (laid-tested (between low high) 5) (λ n. laid-characters good m n)
 

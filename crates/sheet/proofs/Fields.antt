@@ -1,12 +1,14 @@
 -- What each reader of one field comes to, one law for each way out of the code: a premise stands as the code tests it. Assumes nothing.
 use Prim.Native.Nat.{ℕ, _+_, _-_, _*_, _%_, _<_, _≤_}
-use mathlib.Core.Path.{_≡_}
+use mathlib.Core.Path.{_≡_, refl, _∙_}
+use mathlib.Core.Bool.{Bool, true, false}
 use mathlib.Core.List.{List}
 use native.Mathlib.Omega.{arith}
 use lib.ListN.{length, getD, List·getD-eq-default}
 use borrow.Author.Tests.{le-ltb, lt-ltb, le-leb, lt-leb, eq-eqb, ne-eqb}
-use Rattle.rules.specs.Field.{Reader, onward, byte, word, only, wordTo, optional, zeroWord}
-use Rattle.sheet.specs.Steps.{after, byteOf, byteBetween, cellCount}
+use Rattle.rules.specs.Field.{Read, got, refused, Reader, between, onward, byte, word, only, wordTo, optional, zeroWord}
+use Rattle.rules.proofs.Places.{laid-tested}
+use Rattle.sheet.specs.Steps.{stopOf, after, byteOf, byteBetween, cellCount}
 use Rattle.sheet.specs.declared.field.Step.{Step}
 use Rattle.sheet.specs.declared.field.Step.the-variants.{At, Refused}
 
@@ -121,22 +123,55 @@ module _ (s : List ℕ) (x : Step) (p : ℕ) (e : x ≡ At p) where
       let v : getD s p 0 + getD s (p + 1) 0 * 256 ≡ 0 = omega arith in
       rw (e, lt-ltb (p + 1) (length s) h, word, eq-eqb (getD s p 0 + getD s (p + 1) 0 * 256) 0 v, onward)
 
--- a cell count: 5 above the limit, else 7 above the columns
-module _ (columns : ℕ) (s : List ℕ) (x : Step) (p : ℕ) (e : x ≡ At p) where
-  pub count-ended : length s ≤ p → Refused 1 (length s) ≡ after (cellCount columns) s x
-  unfolding after only byte onward
-  count-ended h = rw (e, le-ltb p (length s) h, byte)
+-- a second test of a field that passed its first
+only-off : (good : ℕ → Bool) (n : ℕ) (f : Reader ℕ) (s : List ℕ) (p m q : ℕ) → f s p ≡ refused m q → only good n f s p ≡ refused m q
+unfolding only onward
+only-off good n f s p m q e = rw e
 
-  pub count-most : p < length s → 12 < getD s p 0 → Refused 5 p ≡ after (cellCount columns) s x
-  unfolding after only byte onward
-  count-most h k = rw (e, lt-ltb p (length s) h, byte, le-leb 0 (getD s p 0) (omega arith), lt-leb (getD s p 0) 12 k, onward)
+only-good : (good : ℕ → Bool) (n : ℕ) (f : Reader ℕ) (s : List ℕ) (p v q : ℕ) → f s p ≡ got v q → good v ≡ true → only good n f s p ≡ got v q
+unfolding only onward
+only-good good n f s p v q e h = rw (e, h, onward)
 
-  pub count-columns : p < length s → getD s p 0 ≤ 12 → columns < getD s p 0 → Refused 7 p ≡ after (cellCount columns) s x
-  unfolding after only byte onward
-  count-columns h k l = rw (e, lt-ltb p (length s) h, byte, le-leb 0 (getD s p 0) (omega arith), le-leb (getD s p 0) 12 k, le-leb 0 (getD s p 0) (omega arith), lt-leb (getD s p 0) columns l, onward)
+only-bad : (good : ℕ → Bool) (n : ℕ) (f : Reader ℕ) (s : List ℕ) (p v q : ℕ) → f s p ≡ got v q → good v ≡ false → only good n f s p ≡ refused n p
+unfolding only onward
+only-bad good n f s p v q e h = rw (e, h, onward)
 
-  pub count-good : p < length s → getD s p 0 ≤ 12 → getD s p 0 ≤ columns → At (p + 1) ≡ after (cellCount columns) s x
-  unfolding after only byte onward
-  count-good h k l = rw (e, lt-ltb p (length s) h, byte, le-leb 0 (getD s p 0) (omega arith), le-leb (getD s p 0) 12 k, le-leb 0 (getD s p 0) (omega arith), le-leb (getD s p 0) columns l, onward)
+-- a cell count, from the step y after it and its value v: 5 above the limit, else 7 above the columns
+pub count-few : (columns : ℕ) (s : List ℕ) (x y : Step) (v : ℕ) → y ≡ after (byteBetween 0 12 5) s x → v ≡ byteOf s x → v ≤ columns → y ≡ after (cellCount columns) s x
+unfolding after byteOf
+count-few columns s (At p) y v few value l = few ∙ go (byteBetween 0 12 5 s p) refl
+  where
+    go : (r : Read ℕ) → byteBetween 0 12 5 s p ≡ r → stopOf (byteBetween 0 12 5 s p) ≡ stopOf (cellCount columns s p)
+    go (got w q) i =
+        let k = laid-tested (between 0 12) 5 s p w q i .0 in
+        let b : between 0 columns w ≡ true = rw (le-leb 0 w (omega arith), le-leb w columns (omega arith)) in
+        rw (i, only-good (between 0 columns) 7 (byteBetween 0 12 5) s p w q i b)
+    go (refused n q) i = rw (i, only-off (between 0 columns) 7 (byteBetween 0 12 5) s p n q i)
+count-few columns s (Refused n p) y v few value l = few
 
-pub ruleset fields = (after-stopped, byte-stopped, byte-there, byte-past, between-ended, between-low, between-high, between-good, optional-ended, optional-zero, optional-low, optional-high, optional-good, word-ended, word-cut, word-high, word-good, zeros-ended, zeros-cut, zeros-low, zeros-high, zeros-good, count-ended, count-most, count-columns, count-good)
+pub count-stopped : (columns : ℕ) (s : List ℕ) (x y : Step) (m r : ℕ) → y ≡ after (byteBetween 0 12 5) s x → y ≡ Refused m r → y ≡ after (cellCount columns) s x
+unfolding after
+count-stopped columns s (At p) y m r few e = go (byteBetween 0 12 5 s p) refl
+  where
+    go : (r : Read ℕ) → byteBetween 0 12 5 s p ≡ r → y ≡ stopOf (cellCount columns s p)
+    go (got w q) i = let j = rw i at few in let z : _≡_ {A = ℕ} 0 1 = cc in absurd (omega arith)
+    go (refused n q) i = few ∙ rw (i, only-off (between 0 columns) 7 (byteBetween 0 12 5) s p n q i)
+count-stopped columns s (Refused n p) y m r few e = few
+
+-- the step after a count that was read stands one byte past it
+pub count-over : (columns : ℕ) (s : List ℕ) (x y : Step) (v q : ℕ) → y ≡ after (byteBetween 0 12 5) s x → v ≡ byteOf s x → y ≡ At q → columns < v → (Refused 7 (q - 1) ≡ after (cellCount columns) s x) × (1 ≤ q)
+unfolding after byteOf
+count-over columns s (At p) y v q few value e l = go (byteBetween 0 12 5 s p) refl
+  where
+    go : (r : Read ℕ) → byteBetween 0 12 5 s p ≡ r → (Refused 7 (q - 1) ≡ stopOf (cellCount columns s p)) × (1 ≤ q)
+    go (got w o) i =
+        let j = rw i at few in
+        let k = laid-tested (between 0 12) 5 s p w o i in
+        let m : q ≡ o = cc in
+        let z : q - 1 ≡ p = omega arith in
+        let b : between 0 columns w ≡ false = rw (le-leb 0 w (omega arith), lt-leb w columns (omega arith)) in
+        (rw (z, only-bad (between 0 columns) 7 (byteBetween 0 12 5) s p w o i b), omega arith)
+    go (refused n o) i = let j = rw i at few in let z : _≡_ {A = ℕ} 0 1 = cc in absurd (omega arith)
+count-over columns s (Refused n p) y v q few value e l = let z : _≡_ {A = ℕ} 0 1 = cc in absurd (omega arith)
+
+pub ruleset fields = (after-stopped, byte-stopped, byte-there, byte-past, between-ended, between-low, between-high, between-good, optional-ended, optional-zero, optional-low, optional-high, optional-good, word-ended, word-cut, word-high, word-good, zeros-ended, zeros-cut, zeros-low, zeros-high, zeros-good)

@@ -95,10 +95,17 @@ pub fn printable_or_zero(sheet: &[u8], from: Step) -> Step
     Step::At(at + 1)
 }
 
+// A byte as a number to calculate with.
 pub fn wide(byte: u8) -> u16
     ensures { λ r. ⌜ (r ≡ byte) × (r < 256) ⌝ }
 {
     byte as u16
+}
+
+pub fn size(byte: u8) -> usize
+    ensures { λ r. ⌜ (r ≡ byte) × (r < 256) ⌝ }
+{
+    byte as usize
 }
 
 // Two bytes, low byte first, are one field: half of it is none.
@@ -172,42 +179,20 @@ pub fn cell_count(sheet: &[u8], from: Step, columns: u8) -> Field
     ensures { λ r. ⌜ r .next ≡ after (cellCount columns) (now (sheet .entry)) from ⌝ }
     ensures { λ r. ⌜ r .value ≡ byteOf (now (sheet .entry)) from ⌝ }
 {
-    let Step::At(at) = from else {
-        return Field {
-            value: 0,
-            next: from,
-        };
+    let count = byte_between(sheet, from, 0, 12, 5);
+    let value = count.value;
+    let next = count.next;
+    if value <= columns {
+        return Field { value, next };
+    }
+    let Step::At(at) = next else {
+        return Field { value, next };
     };
-    if sheet.len() <= at {
-        return Field {
-            value: 0,
-            next: Step::Refused {
-                number: 1,
-                place: sheet.len(),
-            },
-        };
-    }
-    let value = sheet[at];
-    if 12 < value {
-        return Field {
-            value,
-            next: Step::Refused {
-                number: 5,
-                place: at,
-            },
-        };
-    }
-    if columns < value {
-        return Field {
-            value,
-            next: Step::Refused {
-                number: 7,
-                place: at,
-            },
-        };
-    }
     Field {
         value,
-        next: Step::At(at + 1),
+        next: Step::Refused {
+            number: 7,
+            place: at - 1,
+        },
     }
 }

@@ -1,11 +1,11 @@
 // Sheet, edition 1: checks a sheet, and hands out what it holds.
-pub mod columns;
-pub mod field;
+mod columns;
+mod field;
 pub mod longest;
 pub mod records;
-pub mod rows;
+mod rows;
 pub mod settings;
-pub mod text;
+mod text;
 pub mod walk;
 
 ghost use mathlib.Core.Path.{_≡_};

@@ -32,17 +32,11 @@ pub fn settings(sheet: &[u8]) -> Settings
     }
 }
 
-pub fn size(byte: u8) -> usize
-    ensures { λ r. ⌜ (r ≡ byte) × (r < 256) ⌝ }
-{
-    byte as usize
-}
-
 pub fn indicator(sheet: &[u8]) -> Indicator
     requires { ⌜ Passes (now sheet) ⌝ }
     ensures { λ r. ⌜ r ≡ indicatorOf (tableOf (now (sheet .entry))) ⌝ }
 {
-    let count = size(sheet[5]);
+    let count = field::size(sheet[5]);
     let mut characters = [0u8; 8];
     let mut i: usize = 0;
     while i < count {
@@ -58,7 +52,7 @@ pub fn style(sheet: &[u8]) -> [u8; 22]
     requires { ⌜ Passes (now sheet) ⌝ }
     ensures { λ r. ⌜ r ≡ tableOf (now (sheet .entry)) .style ⌝ }
 {
-    let first = 7 + size(sheet[5]);
+    let first = 7 + field::size(sheet[5]);
     let mut characters = [0u8; 22];
     let mut i: usize = 0;
     while i < 22 {
@@ -111,8 +105,8 @@ pub fn columns(sheet: &[u8]) -> Columns
     requires { ⌜ Passes (now sheet) ⌝ }
     ensures { λ r. ⌜ r ≡ columnsOf (tableOf (now (sheet .entry))) ⌝ }
 {
-    let place = 29 + size(sheet[5]);
-    let count = size(sheet[place]);
+    let place = 29 + field::size(sheet[5]);
+    let count = field::size(sheet[place]);
     let mut each = [NONE; 12];
     let mut at = place + 1;
     let mut i: usize = 0;

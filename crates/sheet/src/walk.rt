@@ -5,19 +5,19 @@ ghost use lib.ListN.{length};
 ghost use Rattle.rules.proofs.Places as places;
 ghost use Rattle.sheet.specs.Held.{Passes, tableOf};
 ghost use Rattle.sheet.specs.Walk.{rowsIn, rowsEnd, cellsEnd, linesEnd, firstLine, RowIs, CellIs, RowsNext, CellsNext, LinesNext};
+use super::field;
 use super::records::Cell;
 use super::records::Cells;
 use super::records::Lines;
 use super::records::Row;
 use super::records::Rows;
-use super::settings;
 
 // Where the line at `at` ends.
 fn line_end(sheet: &[u8], at: usize) -> usize
     requires { ⌜ places.lineStop (now sheet) at ≤ length (now sheet) ⌝ }
     ensures { λ r. ⌜ r ≡ places.lineStop (now (sheet .entry)) at ⌝ }
 {
-    at + 1 + settings::size(sheet[at])
+    at + 1 + field::size(sheet[at])
 }
 
 // Where the cell at `at` ends: its lines are passed, and none of their characters is looked at.
@@ -25,7 +25,7 @@ fn cell_end(sheet: &[u8], at: usize) -> usize
     requires { ⌜ places.cellStop (now sheet) at ≤ length (now sheet) ⌝ }
     ensures { λ r. ⌜ r ≡ places.cellStop (now (sheet .entry)) at ⌝ }
 {
-    let n = settings::size(sheet[at + 2]);
+    let n = field::size(sheet[at + 2]);
     let mut p = at + 3;
     let mut i: usize = 0;
     while i < n {
@@ -40,7 +40,7 @@ fn row_end(sheet: &[u8], at: usize) -> usize
     requires { ⌜ places.rowStop (now sheet) at ≤ length (now sheet) ⌝ }
     ensures { λ r. ⌜ r ≡ places.rowStop (now (sheet .entry)) at ⌝ }
 {
-    let n = settings::size(sheet[at + 1]);
+    let n = field::size(sheet[at + 1]);
     let mut p = at + 2;
     let mut i: usize = 0;
     while i < n {
@@ -56,8 +56,8 @@ pub fn row(sheet: &[u8], c: Rows) -> Row
     ensures { λ r. ⌜ RowIs (now (sheet .entry)) c r ⌝ }
 {
     let at = c.at;
-    let limit = settings::size(sheet[at]);
-    let left = settings::size(sheet[at + 1]);
+    let limit = field::size(sheet[at]);
+    let left = field::size(sheet[at + 1]);
     Row {
         limit,
         cells: Cells { at: at + 2, left },
@@ -82,7 +82,7 @@ pub fn cell(sheet: &[u8], c: Cells) -> Cell
     ensures { λ r. ⌜ CellIs (now (sheet .entry)) c r ⌝ }
 {
     let at = c.at;
-    let left = settings::size(sheet[at + 2]);
+    let left = field::size(sheet[at + 2]);
     Cell {
         delimiter: sheet[at],
         alignment: sheet[at + 1],
@@ -109,7 +109,7 @@ pub fn line(sheet: &[u8], c: Lines) -> &[u8]
 {
     let at = c.at;
     let start = at + 1;
-    let end = start + settings::size(sheet[at]);
+    let end = start + field::size(sheet[at]);
     &sheet[start..end]
 }
 
@@ -130,9 +130,9 @@ pub fn header(sheet: &[u8]) -> Rows
     requires { ⌜ Passes (now sheet) ⌝ }
     ensures { λ r. ⌜ (rowsIn (now (sheet .entry)) r ≡ tableOf (now (sheet .entry)) .header) × (rowsEnd (now (sheet .entry)) r ≡ places.rowsPlace (now (sheet .entry))) ⌝ }
 {
-    let columns = 29 + settings::size(sheet[5]);
-    let place = columns + 1 + 11 * settings::size(sheet[columns]);
-    let left = settings::size(sheet[place]);
+    let columns = 29 + field::size(sheet[5]);
+    let place = columns + 1 + 11 * field::size(sheet[columns]);
+    let left = field::size(sheet[place]);
     Rows {
         at: place + 1,
         left,
@@ -149,7 +149,7 @@ pub fn rows(sheet: &[u8], header: Rows) -> Rows
         c = next_row(sheet, c);
     }
     let place = c.at;
-    let left = settings::size(sheet[place]);
+    let left = field::size(sheet[place]);
     Rows {
         at: place + 1,
         left,

@@ -1,3 +1,4 @@
+-- `sheet::answer` meets its contract. Assumes nothing.
 use Rattle.sheet.proofs.Cases.{cases}
 use borrow.Author.Needs.{needs}
 use Rattle.sheet.proofs.answer.Statement.{statement}

@@ -1,3 +1,4 @@
+-- `sheet::body` meets its contract. Assumes nothing.
 use Rattle.sheet.specs.Steps.{bodyAfter}
 use borrow.Author.Needs.{needs}
 use Rattle.sheet.proofs.body.Statement.{statement}

@@ -1,3 +1,4 @@
+-- `sheet::check` meets its contract. Assumes nothing.
 use mathlib.Core.Path.{sym}
 use native.Mathlib.Omega.{arith}
 use Rattle.sheet.proofs.Sections.{check-long, check-short}

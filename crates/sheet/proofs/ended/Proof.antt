@@ -1,3 +1,4 @@
+-- `sheet::ended` meets its contract. Assumes nothing.
 use Rattle.sheet.proofs.Fields.{after-stopped}
 use Rattle.sheet.proofs.Sections.{ended-more, ended-all}
 use borrow.Author.Needs.{needs}

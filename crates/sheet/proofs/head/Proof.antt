@@ -1,3 +1,4 @@
+-- `sheet::head` meets its contract. Assumes nothing.
 use Rattle.sheet.specs.Steps.{headAfter}
 use borrow.Author.Needs.{needs}
 use Rattle.sheet.proofs.head.Statement.{statement}

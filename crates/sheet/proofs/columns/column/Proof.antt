@@ -1,3 +1,4 @@
+-- `sheet::columns::column` meets its contract. Assumes nothing.
 use mathlib.Core.Path.{sym}
 use Rattle.sheet.proofs.Sections.{column-after}
 use borrow.Author.Needs.{needs}

@@ -1,3 +1,4 @@
+-- `sheet::columns::constraint` meets its contract. Assumes nothing.
 use Rattle.sheet.specs.Steps.{constraintAfter}
 use borrow.Author.Needs.{needs}
 use Rattle.sheet.proofs.columns.constraint.Statement.{statement}

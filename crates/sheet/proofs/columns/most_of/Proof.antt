@@ -1,3 +1,4 @@
+-- `sheet::columns::most_of` meets its contract. Assumes nothing.
 use Rattle.sheet.proofs.Cases.{cases}
 use Rattle.sheet.proofs.columns.most_of.Statement.{statement}
 use Rattle.sheet.proofs.columns.most_of.Tie as tie

@@ -1,3 +1,4 @@
+-- `sheet::columns::width` meets its contract. Assumes nothing.
 use mathlib.Core.Path.{sym}
 use Rattle.sheet.proofs.Sections.{width-used, width-unused}
 use borrow.Author.Needs.{needs}

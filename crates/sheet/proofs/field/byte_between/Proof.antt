@@ -1,3 +1,4 @@
+-- `sheet::field::byte_between` meets its contract. Assumes nothing.
 use borrow.Author.Needs.{needs}
 use Rattle.sheet.proofs.Fields.{fields}
 use Rattle.sheet.proofs.field.byte_between.Statement.{statement}

@@ -1,3 +1,4 @@
+-- `sheet::field::printable_or_zero` meets its contract. Assumes nothing.
 use borrow.Author.Needs.{needs}
 use Rattle.sheet.proofs.Fields.{fields}
 use Rattle.sheet.proofs.field.printable_or_zero.Statement.{statement}

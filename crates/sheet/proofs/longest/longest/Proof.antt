@@ -1,3 +1,4 @@
+-- `sheet::longest::longest` meets its contract. Assumes nothing.
 use Rattle.sheet.proofs.Longests.{header-narrow, header-behind, rows-narrow, walked-twice}
 use borrow.Author.Needs.{needs}
 use Rattle.sheet.proofs.longest.longest.Statement.{statement}

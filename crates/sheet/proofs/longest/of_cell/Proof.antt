@@ -1,3 +1,4 @@
+-- `sheet::longest::of_cell` meets its contract. The loop: the longest so far and the lines still to come make the whole. Assumes nothing.
 use Rattle.sheet.proofs.Longests.{LinesSoFar, lines-begin, lines-again, lines-done}
 use Rattle.sheet.proofs.Walks.{line-there}
 use borrow.Author.Needs.{needs}

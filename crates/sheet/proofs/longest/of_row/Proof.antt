@@ -1,3 +1,4 @@
+-- `sheet::longest::of_row` meets its contract. The loop: the columns before j have their longest, the others are as they were. Assumes nothing.
 use Rattle.sheet.proofs.Longests.{CellsSoFar, cells-begin, cells-again, cells-done}
 use Rattle.sheet.proofs.Walks.{cell-whole}
 use borrow.Author.Needs.{needs}

@@ -1,3 +1,4 @@
+-- `sheet::longest::of_rows` meets its contract. The loop: each column's longest so far and the rows still to come make the whole. Assumes nothing.
 use Rattle.sheet.proofs.Longests.{RowsSoFar, rows-begin, row-narrow, rows-again, rows-done}
 use borrow.Author.Needs.{needs}
 use Rattle.sheet.proofs.longest.of_rows.Statement.{statement}

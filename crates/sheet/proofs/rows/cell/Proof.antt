@@ -1,3 +1,4 @@
+-- `sheet::rows::cell` meets its contract. Assumes nothing.
 use mathlib.Core.Path.{sym}
 use Rattle.sheet.proofs.Sections.{cell-after}
 use borrow.Author.Needs.{needs}

@@ -1,3 +1,4 @@
+-- `sheet::rows::row` meets its contract. Assumes nothing.
 use mathlib.Core.Path.{sym}
 use Rattle.sheet.proofs.Sections.{row-after}
 use borrow.Author.Needs.{needs}

@@ -1,3 +1,4 @@
+-- `sheet::settings::column_at` meets its contract. Assumes nothing.
 use Rattle.rules.proofs.Places.{columnHere}
 use borrow.Author.Needs.{needs}
 use Rattle.sheet.proofs.settings.column_at.Statement.{statement}

@@ -1,3 +1,4 @@
+-- `sheet::settings::columns` meets its contract. The loop: the first i columns are copied, and the next one stands at `at`. Assumes nothing.
 use Prim.Native.Nat.{_+_, _-_, _*_, _≤_}
 use mathlib.Core.Path.{_≡_}
 use native.Mathlib.Omega.{arith}

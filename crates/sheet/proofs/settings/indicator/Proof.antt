@@ -1,3 +1,4 @@
+-- `sheet::settings::indicator` meets its contract. The loop: the first i characters are copied, and past them stand zeros. Assumes nothing.
 use Rattle.sheet.proofs.Held.{indicator-whole}
 use Prim.Native.Nat.{_-_, _≤_}
 use mathlib.Core.Path.{_≡_, sym}

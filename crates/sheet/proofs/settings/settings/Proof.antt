@@ -1,3 +1,4 @@
+-- `sheet::settings::settings` meets its contract. Assumes nothing.
 use native.Mathlib.Omega.{arith}
 use Rattle.sheet.proofs.Held.{room, settings-held}
 use Rattle.sheet.proofs.settings.settings.Statement.{statement}

@@ -1,3 +1,4 @@
+-- `sheet::settings::style` meets its contract. The loop: the first i characters are copied. Assumes nothing.
 use Prim.Native.Nat.{_+_, _-_, _≤_}
 use mathlib.Core.Path.{_≡_}
 use native.Mathlib.Omega.{arith}

@@ -1,3 +1,4 @@
+-- `sheet::settings::width_at` meets its contract. Assumes nothing.
 use borrow.Author.Needs.{needs}
 use Rattle.sheet.proofs.settings.width_at.Statement.{statement}
 use Rattle.sheet.proofs.settings.width_at.Tie as tie

@@ -1,3 +1,4 @@
+-- `sheet::text::characters` meets its contract. The loop: the characters from here on come to what all of them do. Assumes nothing.
 use Prim.Native.Nat.{_+_, _-_, _≤_}
 use mathlib.Core.Path.{_≡_}
 use native.Mathlib.Omega.{arith}

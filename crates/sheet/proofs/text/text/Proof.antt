@@ -1,3 +1,4 @@
+-- `sheet::text::text` meets its contract. Assumes nothing.
 use borrow.Author.Needs.{needs}
 use Rattle.sheet.proofs.Sections.{text-stopped, text-start, text-whole}
 use Rattle.sheet.proofs.text.text.Statement.{statement}

@@ -1,3 +1,4 @@
+-- `sheet::walk::cell` meets its contract. Assumes nothing.
 use Rattle.sheet.proofs.Walks.{cell-room, cell-is}
 use mathlib.Core.Path.{refl}
 use native.Mathlib.Omega.{arith}

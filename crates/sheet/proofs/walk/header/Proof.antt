@@ -1,3 +1,4 @@
+-- `sheet::walk::header` meets its contract. Assumes nothing.
 use Rattle.sheet.proofs.Walks.{header-is, header-at}
 use Rattle.sheet.proofs.Walks.{header-is}
 use Rattle.sheet.proofs.Held.{room}

@@ -1,3 +1,4 @@
+-- `sheet::walk::line` meets its contract. Assumes nothing.
 use Rattle.sheet.proofs.Walks.{line-room, line-is}
 use native.Mathlib.Omega.{arith}
 use borrow.Author.Needs.{needs}

@@ -1,3 +1,4 @@
+-- `sheet::walk::line_end` meets its contract. Assumes nothing.
 use Rattle.rules.proofs.Places.{lineStop}
 use native.Mathlib.Omega.{arith}
 use borrow.Author.Needs.{needs}

@@ -1,3 +1,4 @@
+-- `sheet::walk::next_cell` meets its contract. Assumes nothing.
 use Rattle.sheet.proofs.Walks.{cell-whole, cells-next}
 use Rattle.sheet.proofs.Walks.{cells-next}
 use borrow.Author.Needs.{needs}

@@ -1,3 +1,4 @@
+-- `sheet::walk::next_line` meets its contract. Assumes nothing.
 use Rattle.sheet.proofs.Walks.{line-whole, lines-next}
 use Rattle.sheet.proofs.Walks.{lines-next}
 use borrow.Author.Needs.{needs}

@@ -1,3 +1,4 @@
+-- `sheet::walk::next_row` meets its contract. Assumes nothing.
 use Rattle.sheet.proofs.Walks.{row-whole, rows-next}
 use borrow.Author.Needs.{needs}
 use Rattle.sheet.proofs.walk.next_row.Statement.{statement}

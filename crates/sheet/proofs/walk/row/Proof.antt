@@ -1,3 +1,4 @@
+-- `sheet::walk::row` meets its contract. Assumes nothing.
 use Rattle.sheet.proofs.Walks.{row-room, row-is}
 use native.Mathlib.Omega.{arith}
 use borrow.Author.Needs.{needs}

@@ -1,3 +1,4 @@
+-- `sheet::walk::row_end` meets its contract. The loop: the cells that are left end where the row does. Assumes nothing.
 use Rattle.sheet.proofs.Walks.{Passing, row-begin, passing-again, passing-done, passing-inside}
 use Rattle.rules.proofs.Stands.{row-onward, cells-onward}
 use Rattle.rules.proofs.Places.{cellStop, rowStop}

@@ -1,3 +1,4 @@
+-- `sheet::walk::rows` meets its contract. The loop: what is left of the header ends where the rows' count stands. Assumes nothing.
 use denote.Ref.{now}
 use Rattle.sheet.proofs.Walks.{rows-are, rows-none, rows-room}
 use Rattle.sheet.proofs.Walks.{rows-are, rows-none}
