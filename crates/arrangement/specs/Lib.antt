@@ -1,3 +1,4 @@
 pub mod Arrange
 pub mod Limits
 pub mod Describes
+pub mod Trial

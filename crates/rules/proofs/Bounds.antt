@@ -27,7 +27,7 @@ Offered P none = Unit {0}
 abbrev pub Most : ℕ → ℕ → Type 0
 Most m w = w ≤ m
 
-greatest-le : (m : ℕ) (ns : List ℕ) → All (Most m) ns → greatest ns ≤ m
+pub greatest-le : (m : ℕ) (ns : List ℕ) → All (Most m) ns → greatest ns ≤ m
 unfolding greatest
 greatest-le m [] h = omega arith
 greatest-le m (n ∷ ns) h = omega (arith, greatest-le m ns (h .1), h .0)
