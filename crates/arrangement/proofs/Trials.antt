@@ -1,6 +1,6 @@
 -- The longest part, walked: laws of what is found of lines, cells and rows. Assumes nothing.
 use Prim.Native.Nat.{ℕ, _+_, _≤_, _<_, max}
-use mathlib.Core.Path.{_≡_, refl, sym, ap, _∙_}
+use mathlib.Core.Path.{_≡_, refl, ap, _∙_}
 use mathlib.Core.List.{List, [], _∷_, _++_, map}
 use mathlib.Core.Bool.{Bool, true, false}
 use native.Mathlib.Omega.{arith}
@@ -8,8 +8,8 @@ use lib.ListN.{length, getD}
 use lib.Dec.{ltb}
 use borrow.Author.Tests.{ltb-false, lt-ltb, le-ltb}
 use Rattle.rules.specs.Text.{textWidth, greatest, flat, orElse, All}
-use Rattle.rules.specs.Sheet.{Cell, Row, Table, noCell, cellAt, columnAt, allRows}
-use Rattle.rules.specs.Wrap.{split, delimiterOf}
+use Rattle.rules.specs.Sheet.{Cell, Row, Table, noCell, cellAt, allRows}
+use Rattle.rules.specs.Wrap.{split}
 use Rattle.rules.specs.Widths.{lifted, cellsOf, trialParts, cellParts, longestPart}
 use Rattle.rules.proofs.Lists.{map-append, all-imp, all-map-imp}
 use Rattle.rules.proofs.Text.{width-length}

@@ -1,9 +1,9 @@
 -- What is found so far and what is still to come make the whole: one law for each way out of the walk's functions. Assumes nothing.
 use Prim.Native.Nat.{ℕ, zero, suc, _+_, _-_, _≤_, _<_, max}
 use mathlib.Core.Path.{_≡_, refl, sym, ap, _∙_}
-use mathlib.Core.List.{List, [], _∷_, _++_}
+use mathlib.Core.List.{List, [], _∷_}
 use native.Mathlib.Omega.{arith}
-use lib.ListN.{length, getD, drop, length-drop, drop-of-length-le}
+use lib.ListN.{length, getD, drop, drop-of-length-le}
 use lib.Seq.{drop-cons, drop-drop, getD-drop}
 use Rattle.rules.specs.Text.{orElse}
 use Rattle.rules.specs.Sheet as sheet
@@ -12,7 +12,7 @@ use Rattle.rules.specs.Widths.{lifted, longestPart}
 use Rattle.rules.proofs.Places.{textAt, lineStop, cellHere, cellStop, rowHere, rowStop, rowsPlace}
 use Rattle.rules.proofs.Stands.{parts-count}
 use Rattle.rules.specs.declared.Column.{Column}
-use Rattle.sheet.specs.Held.{Passes, tableOf, settingsOf}
+use Rattle.sheet.specs.Held.{Passes, settingsOf}
 use Rattle.sheet.specs.declared.records.Settings.{Settings}
 use Rattle.sheet.specs.Walk.{rowsIn, cellsIn, linesIn, rowsEnd, cellsEnd, linesEnd, firstRow, firstCell, firstLine, RowIs, CellIs, CellsNext, LinesNext}
 use Rattle.sheet.specs.declared.records.Rows.{Rows}

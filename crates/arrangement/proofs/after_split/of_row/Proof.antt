@@ -1,5 +1,4 @@
 use borrow.Author.Needs.{needs}
-use native.Mathlib.Omega.{arith}
 use Rattle.arrangement.proofs.Tries.{row-short, row-inside, row-there}
 use Rattle.arrangement.proofs.after_split.of_row.Statement.{statement}
 use Rattle.arrangement.proofs.after_split.of_row.Tie as tie

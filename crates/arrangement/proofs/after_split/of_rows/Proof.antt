@@ -1,5 +1,4 @@
 use borrow.Author.Needs.{needs}
-use native.Mathlib.Omega.{arith}
 use Rattle.arrangement.proofs.Tries.{RowsSoFar, rows-begin, rows-again, row-fits, rows-done}
 use Rattle.arrangement.proofs.after_split.of_rows.Statement.{statement}
 use Rattle.arrangement.proofs.after_split.of_rows.Tie as tie

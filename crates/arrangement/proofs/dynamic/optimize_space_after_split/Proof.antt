@@ -2,7 +2,6 @@ use Rattle.rules.specs.Widths.{longestPart}
 use Rattle.sheet.specs.Held.{tableOf}
 use borrow.Author.Needs.{needs}
 use Prim.Native.Nat.{_+_}
-use native.Mathlib.Omega.{arith}
 use Rattle.constraint.specs.Widths.{pass}
 use Rattle.arrangement.specs.Arrange.{splitRule, repeated}
 use Rattle.arrangement.proofs.Rounds.{pass-grew, left, Going, weight, round-begin, round-done, round-again, round-less}
