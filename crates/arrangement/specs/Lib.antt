@@ -1,3 +1,5 @@
 pub mod Arrange
 pub mod Limits
 pub mod Describes
+pub mod Trial
+pub mod Widths

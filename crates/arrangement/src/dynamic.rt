@@ -4,7 +4,11 @@ ghost use Prim.Native.Nat.{_+_, _≤_, _<_, max};
 ghost use lib.ListN.{getD};
 ghost use Rattle.constraint.specs.Widths.{pass, step, average};
 ghost use Rattle.arrangement.specs.Limits.{Small};
-ghost use Rattle.arrangement.specs.Arrange.{charged, remaining, targeted, raised, lowerRule, step1, short, fitting, fitRule, fitPass, step2, spared, share, sharing, undecided, distributed, widened, widening, filled, finished};
+ghost use Rattle.arrangement.specs.Arrange.{charged, remaining, targeted, raised, lowerRule, step1, short, fitting, fitRule, fitPass, step2, spared, splitRule, step3, share, sharing, undecided, distributed, widened, widening, filled, finished, dynamic, started};
+ghost use Rattle.arrangement.specs.Describes.{Describes};
+ghost use Rattle.rules.specs.Widths.{longestPart};
+ghost use Rattle.sheet.specs.Held.{Passes, tableOf};
+use super::after_split;
 use constraint::Bound;
 use constraint::Layout;
 use constraint::Offer;
@@ -219,6 +223,46 @@ fn spared_offer(a: u16, n: ContentWidth) -> Offer
     Offer::Keep
 }
 
+fn split_step(sheet: &[u8], t: Layout, i: usize, s: State, a: u16) -> State
+    requires { ⌜ Passes (now sheet) × Describes t (tableOf (now sheet)) × (i < t .count) × (a ≡ average s) ⌝ }
+    ensures { λ r. ⌜ r ≡ step (splitRule (longestPart (tableOf (now (sheet .entry))))) t i s ⌝ }
+{
+    if constraint::is_decided(t, i, s) {
+        return s;
+    }
+    let c = t.columns[i];
+    let n = after_split::longest_line_after_split(sheet, c, i, a);
+    constraint::take(s, i, spared_offer(a, ContentWidth(n)))
+}
+
+fn split_pass(sheet: &[u8], t: Layout, s: State) -> State
+    requires { ⌜ Passes (now sheet) × Describes t (tableOf (now sheet)) ⌝ }
+    ensures { λ r. ⌜ r ≡ pass (splitRule (longestPart (tableOf (now (sheet .entry))))) t s ⌝ }
+{
+    let n = t.count as usize;
+    let mut r = s;
+    for i in 0..n {
+        let a = constraint::average_space(r);
+        r = split_step(sheet, t, i, r, a);
+    }
+    r
+}
+
+// Step 3. A column that needs less than the average once its lines are split leaves the others more.
+fn optimize_space_after_split(sheet: &[u8], t: Layout, s: State) -> State
+    requires { ⌜ Passes (now sheet) × Describes t (tableOf (now sheet)) ⌝ }
+    ensures { λ r. ⌜ r ≡ step3 (longestPart (tableOf (now (sheet .entry)))) t s ⌝ }
+{
+    let mut r = s;
+    let mut found_smaller = true;
+    while found_smaller {
+        let u = split_pass(sheet, t, r);
+        found_smaller = u.decided != r.decided;
+        r = u;
+    }
+    r
+}
+
 // Part k of n shared evenly: the first parts take the excess.
 fn share_of(n: u16, parts: u16, k: u16) -> u16
     requires { ⌜ 0 < parts ⌝ }
@@ -333,4 +377,16 @@ fn finish(t: Layout, s: State) -> State
         return s;
     }
     distribute_remaining_space(t, s)
+}
+
+// The widths from the first step on, which must make up the target as well as they can.
+pub fn arrange(sheet: &[u8], t: Layout, s: State) -> State
+    requires { ⌜ Passes (now sheet) × Describes t (tableOf (now sheet)) × (s ≡ started t) ⌝ }
+    ensures { λ r. ⌜ r ≡ dynamic (longestPart (tableOf (now (sheet .entry)))) t s ⌝ }
+{
+    let a = target(t, s);
+    let b = enforce_lower_boundary_constraints(t, a);
+    let c = find_columns_that_fit_into_average(t, b);
+    let d = optimize_space_after_split(sheet, t, c);
+    finish(t, d)
 }

@@ -1,12 +1,25 @@
 // The width of each column: comfy-table's `arrangement/mod.rs`.
+pub mod after_split;
 pub mod disabled;
 pub mod dynamic;
+pub mod layout;
 
 ghost use mathlib.Core.Path.{_≡_};
 ghost use Prim.Native.Nat.{_≤_};
-ghost use Rattle.arrangement.specs.Arrange.{started};
+ghost use Rattle.rules.specs.Widths.{longestPart};
+ghost use Rattle.sheet.specs.Held.{Passes, tableOf};
+ghost use Rattle.arrangement.specs.Arrange.{started, arranged};
+ghost use Rattle.arrangement.specs.Describes.{Describes};
+ghost use Rattle.arrangement.specs.Widths.{marked, widthsOf};
 use constraint::Layout;
 use constraint::State;
+
+// Content widths and hidden columns: the first `count` are the sheet's, past them they are 0 and not hidden.
+pub struct Widths {
+    pub count: usize,
+    pub content: [u16; 12],
+    pub hidden: [bool; 12],
+}
 
 // The first step for every column.
 fn start(t: Layout) -> State
@@ -24,4 +37,46 @@ fn start(t: Layout) -> State
         r = constraint::evaluate(t, i, r);
     }
     r
+}
+
+// A target is made up only where there is one and the arrangement isn't `Disabled`.
+fn arrange(sheet: &[u8], t: Layout) -> State
+    requires { ⌜ Passes (now sheet) × Describes t (tableOf (now sheet)) ⌝ }
+    ensures { λ r. ⌜ r ≡ arranged (longestPart (tableOf (now (sheet .entry)))) t ⌝ }
+{
+    let s = start(t);
+    if t.target == 0 {
+        return disabled::arrange(t, s);
+    }
+    if t.arrangement == 0 {
+        return disabled::arrange(t, s);
+    }
+    dynamic::arrange(sheet, t, s)
+}
+
+fn hidden_columns(t: Layout) -> [bool; 12]
+    requires { ⌜ t .count ≤ 12 ⌝ }
+    ensures { λ r. ⌜ r ≡ marked t ⌝ }
+{
+    let n = t.count as usize;
+    let mut flags = [false; 12];
+    for i in 0..n {
+        flags[i] = constraint::is_hidden(t.columns[i]);
+    }
+    flags
+}
+
+// The content width of each column of an accepted sheet, by the layout that was read from it.
+pub fn arrange_content(sheet: &[u8], t: Layout) -> Widths
+    requires { ⌜ Passes (now sheet) × Describes t (tableOf (now sheet)) ⌝ }
+    ensures { λ r. ⌜ r ≡ widthsOf (tableOf (now (sheet .entry))) ⌝ }
+{
+    let state = arrange(sheet, t);
+    let content = state.widths;
+    let hidden = hidden_columns(t);
+    Widths {
+        count: t.count as usize,
+        content,
+        hidden,
+    }
 }

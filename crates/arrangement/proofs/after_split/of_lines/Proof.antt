@@ -1,0 +1,26 @@
+use borrow.Author.Needs.{needs}
+use native.Mathlib.Omega.{arith}
+use Rattle.arrangement.proofs.Tries.{LinesSoFar, lines-begin, lines-again, lines-done}
+use Rattle.arrangement.proofs.after_split.of_lines.Statement.{statement}
+use Rattle.arrangement.proofs.after_split.of_lines.Tie as tie
+
+abbrev Inv-loop : tie.InvT-loop
+Inv-loop sheet average delimiter longest₀ c₀ longest c = LinesSoFar sheet average delimiter c₀ c longest
+
+abbrev μ-loop : tie.MeasureT-loop
+μ-loop sheet average delimiter longest₀ c₀ longest c = c .left
+
+pub of-lines-spec : {M : Type 1} → statement M
+of-lines-spec =
+    tie.close
+    (tie.spec
+    Inv-loop
+    μ-loop
+    (λ c. search (needs, lines-begin))
+    (λ c κs. (c .if1 .taken, c .before .before .loop .inv .inside))
+    (λ c κs. search needs)
+    (λ c κs. search needs)
+    (λ c κs. (c .before .before .before .if1 .taken, c .before .before .before .before .before .loop .inv .inside))
+    (λ c. omega (arith, c .next-line .ensures .left))
+    (λ c. lines-again _ _ _ _ _ _ _ _ _ _ (c .before .before .before .before .if1 .taken) (c .before .before .before .line .ensures) (c .before .before .of-line .ensures) (c .before .greater .ensures) (c .next-line .ensures) (c .before .before .before .before .before .before .loop .inv))
+    (λ c. lines-done _ _ _ _ _ _ (c .if1 .left) (c .before .before .loop .inv)))

@@ -1,0 +1,20 @@
+use borrow.Author.Needs.{needs}
+use Rattle.arrangement.proofs.Tries.{row-short, row-inside, row-there}
+use Rattle.arrangement.proofs.after_split.of_row.Statement.{statement}
+use Rattle.arrangement.proofs.after_split.of_row.Tie as tie
+
+pub of-row-spec : {M : Type 1} → statement M
+of-row-spec =
+    tie.close
+    (tie.spec
+    (λ c κs. search needs)
+    (λ c. row-short _ _ _ _ _ _ (c .before .before .skip .ensures) (c .if1 .taken))
+    (λ c κs. search needs)
+    (λ c κs. search needs)
+    (λ c κs. let e = c .before .before .before in
+    let k = e .before .before in
+    row-inside _ _ _ _ _ (k .skip .ensures) (e .if1 .left) (c .before .before .cell .ensures) (k .before .before .pre))
+    (λ c κs. search needs)
+    (λ c. let o = c .before .before in
+    let e = o .before .before .before in
+    row-there _ _ _ _ _ _ (e .before .before .skip .ensures) _ _ _ _ (e .if1 .left) (o .before .before .cell .ensures) (o .or-else .ensures) (c .before .of-lines .ensures) (c .skip2 .ensures)))

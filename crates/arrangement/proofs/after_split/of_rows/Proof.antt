@@ -1,0 +1,26 @@
+use borrow.Author.Needs.{needs}
+use Rattle.arrangement.proofs.Tries.{RowsSoFar, rows-begin, rows-again, row-fits, rows-done}
+use Rattle.arrangement.proofs.after_split.of_rows.Statement.{statement}
+use Rattle.arrangement.proofs.after_split.of_rows.Tie as tie
+
+abbrev Inv-loop : tie.InvT-loop
+Inv-loop sheet column average otherwise longest₀ c₀ longest c = RowsSoFar sheet column average otherwise c₀ c longest
+
+abbrev μ-loop : tie.MeasureT-loop
+μ-loop sheet column average otherwise longest₀ c₀ longest c = c .left
+
+pub of-rows-spec : {M : Type 1} → statement M
+of-rows-spec =
+    tie.close
+    (tie.spec
+    Inv-loop
+    μ-loop
+    (λ c. rows-begin _ _ _ _ _ (c .before .pre))
+    (λ c κs. (c .if1 .taken, c .before .before .loop .inv .inside))
+    (λ c κs. row-fits _ _ _ _ _ _ _ _ (c .before .before .if1 .taken) (c .before .row .ensures) (c .before .before .before .before .loop .inv))
+    (λ c κs. search needs)
+    (λ c. search needs)
+    (λ c. search needs)
+    (λ c. let r = c .before .before .before .before in
+    rows-again _ _ _ _ _ _ _ _ _ _ (r .before .if1 .taken) (r .row .ensures) (c .before .before .of-row .ensures) (c .before .greater .ensures) (r .before .before .before .loop .inv))
+    (λ c. rows-done _ _ _ _ _ _ _ (c .if1 .left) (c .before .before .loop .inv)))

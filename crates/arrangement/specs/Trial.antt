@@ -1,0 +1,49 @@
+-- The longest part of a column's lines split at an average, as a walk over the sheet finds it: line by line, row by row. Assumes nothing.
+use Prim.Native.Nat.{ℕ, _-_, max}
+use mathlib.Core.Path.{_≡_}
+use mathlib.Core.List.{List, [], _∷_, map}
+use mathlib.Core.Bool.{true, false}
+use lib.ListN.{length, getD, drop}
+use lib.Dec.{ltb}
+use Rattle.rules.specs.Text.{textWidth, greatest, flat, orElse}
+use Rattle.rules.specs.Sheet.{Cell, Row, Table, noCell, columnAt}
+use Rattle.rules.specs.Widths.{trialParts}
+use Rattle.sheet.specs.Walk.{rowsIn, cellsIn, rowsEnd, cellsEnd}
+use Rattle.sheet.specs.declared.records.Rows.{Rows}
+use Rattle.sheet.specs.declared.records.Cells.{Cells}
+use Rattle.arrangement.specs.declared.after_split.Tried.{Tried}
+
+-- of a line, and of lines one after another
+unfoldable pub ofLine : ℕ → ℕ → List ℕ → ℕ
+ofLine a d l = greatest (map textWidth (trialParts a d l))
+
+unfoldable pub ofLines : ℕ → ℕ → List (List ℕ) → ℕ
+ofLines a d ls = greatest (map textWidth (flat (map (trialParts a d) ls)))
+
+-- of cell j of a row, d standing in where the cell sets no delimiter; 0 where the row is short
+unfoldable pub ofCells : ℕ → ℕ → ℕ → List Cell → ℕ
+ofCells j a d xs = elim (ltb j (length xs)) [ true ↦ ofLines a (orElse (getD xs j noCell .delimiter) d) (getD xs j noCell .lines) | false ↦ 0 ]
+
+-- of some rows
+unfoldable pub ofRows : ℕ → ℕ → ℕ → List Row → ℕ
+ofRows j a d [] = 0
+ofRows j a d (r ∷ rs) = max (ofCells j a d (r .cells)) (ofRows j a d rs)
+
+-- where column j's cells set no delimiter
+abbrev pub otherwise : Table → ℕ → ℕ
+otherwise t j = orElse (columnAt t j .delimiter) (orElse (t .delimiter) 32)
+
+-- the first n cells have been passed
+pub record Skipped (s : List ℕ) (c : Cells) (n : ℕ) (r : Cells) : Type 0 where
+  pub cells : cellsIn s r ≡ drop n (cellsIn s c)
+  pub left : r .left ≡ c .left - n
+  pub ends : cellsEnd s r ≡ cellsEnd s c
+
+-- a row's cells have been walked, and rows
+pub record RowTried (s : List ℕ) (c : Cells) (j a d : ℕ) (r : Tried) : Type 0 where
+  pub longest : r .longest ≡ ofCells j a d (cellsIn s c)
+  pub ends : r .end ≡ cellsEnd s c
+
+pub record RowsTried (s : List ℕ) (c : Rows) (j a d : ℕ) (r : Tried) : Type 0 where
+  pub longest : r .longest ≡ ofRows j a d (rowsIn s c)
+  pub ends : r .end ≡ rowsEnd s c

@@ -1,0 +1,77 @@
+// What the widths of a sheet's columns depend on, read from it once.
+ghost use mathlib.Core.Path.{_≡_};
+ghost use Prim.Native.Nat.{_+_, _<_};
+ghost use Rattle.sheet.specs.Held.{Passes, tableOf};
+ghost use Rattle.arrangement.specs.Describes.{Describes};
+ghost use Rattle.arrangement.specs.Widths.{lineFrom, contentFrom, styleFrom};
+use constraint::Layout;
+use sheet::longest;
+use sheet::settings;
+use style::table_style::ContentLineStyle;
+use style::table_style::LineStyle;
+use style::table_style::TableStyle;
+
+fn line_from(b: [u8; 22], k: usize) -> LineStyle
+    requires { ⌜ k + 3 < 22 ⌝ }
+    ensures { λ r. ⌜ r ≡ lineFrom b k ⌝ }
+{
+    LineStyle {
+        left: b[k],
+        fill: b[k + 1],
+        junction: b[k + 2],
+        right: b[k + 3],
+    }
+}
+
+fn content_from(b: [u8; 22], k: usize) -> ContentLineStyle
+    requires { ⌜ k + 2 < 22 ⌝ }
+    ensures { λ r. ⌜ r ≡ contentFrom b k ⌝ }
+{
+    ContentLineStyle {
+        left: b[k],
+        junction: b[k + 1],
+        right: b[k + 2],
+    }
+}
+
+// The style record of the sheet's characters.
+pub fn style_from(b: [u8; 22]) -> TableStyle
+    ensures { λ r. ⌜ r ≡ styleFrom b ⌝ }
+{
+    let top_border = line_from(b, 0);
+    let header_lines = content_from(b, 4);
+    let header_separator = line_from(b, 7);
+    let content_lines = content_from(b, 11);
+    let row_separator = line_from(b, 14);
+    let bottom_border = line_from(b, 18);
+    TableStyle {
+        top_border,
+        header_lines,
+        header_separator,
+        content_lines,
+        row_separator,
+        bottom_border,
+    }
+}
+
+// The settings and columns by value, so that a changed copy of them can be arranged as well.
+pub fn layout(sheet: &[u8]) -> Layout
+    requires { ⌜ Passes (now sheet) ⌝ }
+    ensures { λ r. ⌜ Describes r (tableOf (now (sheet .entry))) ⌝ }
+{
+    let head = settings::settings(sheet);
+    let found = settings::columns(sheet);
+    let columns = found.each;
+    let style = style_from(settings::style(sheet));
+    let longest = longest::longest(sheet);
+    Layout {
+        arrangement: head.arrangement,
+        target: head.target,
+        left: style.has_left_border(),
+        right: style.has_right_border(),
+        junction: style.has_vertical_lines(),
+        columns,
+        count: found.count as u8,
+        longest,
+    }
+}
