@@ -1,3 +1,6 @@
+use native.Mathlib.Omega.{arith}
+use denote.Ref.{now}
+use Rattle.page.proofs.Draws.{end-none}
 use borrow.Author.Needs.{needs}
 use Rattle.page.proofs.cursor.draw.Statement.{statement}
 use Rattle.page.proofs.cursor.draw.Tie as tie
@@ -112,7 +115,7 @@ returns-6 c = search needs
 
 -- src/cursor.rt:412:1
 returns-7 : tie.Need-returns-7
-returns-7 c = ?
+returns-7 c = absurd (omega (arith, c  .before .before .before .before .pre .0 .1 .1, end-none (now (c  .before .before .before .before .args .sheet)) (c  .before .before .before .before .args .c) (c .enum-told7 .given .1)))
 
 pub draw-spec : {M : Type 1} → statement M
 draw-spec =

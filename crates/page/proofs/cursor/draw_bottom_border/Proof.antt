@@ -1,3 +1,10 @@
+use native.Mathlib.Omega.{arith}
+use denote.Ref.{now}
+use mathlib.Core.Path.{_≡_, sym, ap, _∙_}
+use lib.ListN.{length}
+use Rattle.buffer.specs.Put.{over}
+use Rattle.page.proofs.Draws.{bottom-head}
+use Rattle.page.proofs.Steps.{bottom-on}
 use borrow.Author.Needs.{needs}
 use Rattle.page.proofs.cursor.draw_bottom_border.Statement.{statement}
 use Rattle.page.proofs.cursor.draw_bottom_border.Tie as tie
@@ -8,7 +15,8 @@ use Rattle.page.proofs.cursor.plain.Reads as plain-reads
 
 -- src/cursor.rt:363:9
 draw-line-requires : tie.Need-draw-line-requires
-draw-line-requires c κs = ?
+draw-line-requires c κs = let s = c  .before .before .before .before .before .before in
+    (s .pre .0 .0 .narrow, omega (arith, s .pre .1, ap length (bottom-head (now (s .args .sheet)) (s .args .p) (s .pre .0 .0) (s .args .c) (s .pre .0 .1 .1))))
 
 -- src/cursor.rt:365:9
 plain-requires : tie.Need-plain-requires
@@ -20,7 +28,11 @@ same-length c = search needs
 
 -- src/cursor.rt:354:1
 returns : tie.Need-returns
-returns c = ?
+returns c = let s = c  .before .before .before .before .before .before .before .before .before .before .before in
+    let a = s .args in
+    let d = c  .before .before .before .before .draw-line in
+    let h = bottom-head (now (a .sheet)) (a .p) (s .pre .0 .0) (a .c) (s .pre .0 .1 .1) in
+    (record { written = d .ensures .0 ∙ ap length h; next = bottom-on (now (a .sheet)) (a .p) (s .pre .0 .0) (a .c) (c .plain .result) (s .pre .0 .1 .1) (c .plain .ensures .0) }, d .ensures .1 ∙ ap (λ l. over l (now (a .page))) h)
 
 pub draw-bottom-border-spec : {M : Type 1} → statement M
 draw-bottom-border-spec =
