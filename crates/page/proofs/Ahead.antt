@@ -1,22 +1,21 @@
 -- The lines before a cursor, step by step. Assumes nothing.
 use Prim.Native.Nat.{ℕ, zero, suc, _+_, _-_, _≤_, _<_}
 use mathlib.Core.Path.{_≡_, refl, sym, ap, _∙_}
-use mathlib.Core.List.{List, [], _∷_, _++_, map, append-assoc, append-nil}
-use mathlib.Core.Bool.{Bool, true, false, _&&_, _||_}
+use mathlib.Core.List.{List, [], _∷_, _++_, append-assoc, append-nil}
+use mathlib.Core.Bool.{Bool, true, false, _&&_}
 use native.Mathlib.Omega.{arith}
 use lib.ListN.{length, drop, getD, length-map, length-drop}
-use lib.Seq.{drop-cons, drop-drop}
 use lib.Dec.{ltb}
-use borrow.Author.Tests.{ltb-true, ltb-false, lt-ltb, le-ltb}
+use borrow.Author.Tests.{ltb-true, ltb-false, lt-ltb}
 use Rattle.rules.specs.Sheet.{Row, noRow}
 use Rattle.rules.specs.Style.{topBorder, headerLines, headerRule, contentLines, rowRule, bottomBorder, isVisible}
-use Rattle.rules.specs.Page.{height, areas, rowText, ruled, shown, headed, ruledRows, ruledMore, framed, pageLines}
+use Rattle.rules.specs.Page.{height, areas, rowText, shown, headed, ruledRows, ruledMore, framed, pageLines}
 use Rattle.rules.proofs.Areas.{length-areas}
 use Rattle.rules.proofs.Lists.{all-drop}
 use Rattle.rules.proofs.Places.{parts, rowHere, rowStop}
 use Rattle.rules.proofs.Stands.{parts-count}
 use Rattle.sheet.specs.Held.{tableOf}
-use Rattle.sheet.specs.Walk.{rowsIn, rowsEnd, firstRow, cellsIn, RowIs, RowsNext}
+use Rattle.sheet.specs.Walk.{rowsIn, firstRow, cellsIn, RowIs, RowsNext}
 use Rattle.sheet.specs.declared.records.Rows.{Rows}
 use Rattle.sheet.specs.declared.records.Row as records
 use Rattle.formatting.specs.Line.{anyFound}
@@ -24,11 +23,10 @@ use Rattle.formatting.specs.Open.{OpenedRow}
 use Rattle.formatting.specs.Stand.{StandsRow, inLimit}
 use Rattle.formatting.specs.declared.content_format.Standing.{Standing}
 use Rattle.formatting.proofs.Whole.{opened-stands, height-has}
-use Rattle.page.specs.Ahead.{widthsIn, ruleLines, ruleLine, textLines, lastLines, moreFrom, rowsFrom, afterHeader, afterTop, allLines, ahead, lookOf, RowsAt, Opened, RowAt, Ahead}
+use Rattle.page.specs.Ahead.{widthsIn, ruleLines, ruleLine, textLines, lastLines, moreFrom, rowsFrom, afterHeader, afterTop, allLines, ahead, lookOf, RowsAt, Opened, Ahead}
 use Rattle.page.specs.declared.cursor.Page.{Page}
 use Rattle.page.specs.declared.cursor.Look.{Look}
 use Rattle.page.specs.declared.cursor.Cursor.{Cursor}
-use Rattle.page.specs.declared.cursor.Stage.{Stage}
 use Rattle.page.specs.declared.cursor.Stage.the-variants.{Top, Header, HeaderRule, Text, Rule, Bottom, End}
 
 -- ---- borders and rules

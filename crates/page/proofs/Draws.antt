@@ -1,17 +1,15 @@
 -- What is drawn is the line that comes next. Assumes nothing.
-use Prim.Native.Nat.{ℕ, zero, suc, _+_, _-_, _≤_, _<_}
+use Prim.Native.Nat.{ℕ, _+_, _-_, _<_}
 use mathlib.Core.Path.{_≡_, refl, sym, ap, _∙_}
 use mathlib.Core.List.{List, [], _∷_, _++_, map}
 use mathlib.Core.Bool.{Bool, true, false, _&&_, _||_}
 use native.Mathlib.Omega.{arith}
 use lib.ListN.{length, drop, getD, length-drop}
 use lib.Seq.{getD-drop}
-use lib.Dec.{ltb}
 use borrow.Author.Tests.{lt-ltb}
-use Rattle.rules.specs.Sheet.{Row}
 use Rattle.rules.specs.Style.{topBorder, headerLines, headerRule, contentLines, rowRule, bottomBorder, anyJunction}
 use Rattle.rules.specs.Widths.{visible}
-use Rattle.rules.specs.Page.{areaAt, areas, height, rowText, textLine}
+use Rattle.rules.specs.Page.{areaAt, areas, rowText, textLine}
 use Rattle.rules.proofs.Areas.{length-areas, line-at}
 use Rattle.rules.proofs.Lists.{getD-map}
 use Rattle.sheet.specs.Held.{tableOf}
@@ -26,7 +24,6 @@ use Rattle.page.specs.Ahead.{widthsIn, ruleLine, textLines, moreFrom, af
 use Rattle.page.specs.declared.cursor.Page.{Page}
 use Rattle.page.specs.declared.cursor.Look.{Look}
 use Rattle.page.specs.declared.cursor.Cursor.{Cursor}
-use Rattle.page.specs.declared.cursor.Stage.{Stage}
 use Rattle.page.specs.declared.cursor.Stage.the-variants.{Top, Header, HeaderRule, Text, Rule, Bottom, End}
 use Rattle.page.proofs.Ahead.{text-count}
 

@@ -10,6 +10,7 @@ ghost use Rattle.sheet.specs.Held.{Passes};
 ghost use Rattle.sheet.specs.Walk.{rowsIn, rowsEnd};
 ghost use Rattle.formatting.specs.Stand.{inLimit, lastOf};
 ghost use Rattle.page.specs.Ahead.{RowsAt, Opened, Ahead, At, ahead, lastLines, rowsFrom, moreFrom, afterTop, afterHeader, allLines, RowAt, Next, headLine, Drew};
+use cells::CellCursor;
 use formatting::borders;
 use formatting::borders::RuleStyle;
 use formatting::content_format;
@@ -19,7 +20,6 @@ use formatting::content_format::View;
 use formatting::row;
 use sheet::records::Rows;
 use sheet::walk;
-use cells::CellCursor;
 
 // The characters of the six kinds of line, and which borders and rules are visible.
 pub struct Look {
@@ -221,7 +221,13 @@ fn is_last(limit: usize, line: usize) -> bool
 }
 
 // After a line of the header.
-fn next_header_line(sheet: &[u8], p: Page, c: Cursor, standings: [Standing; 12], more: bool) -> Cursor
+fn next_header_line(
+    sheet: &[u8],
+    p: Page,
+    c: Cursor,
+    standings: [Standing; 12],
+    more: bool,
+) -> Cursor
     requires { ⌜ Opened (now sheet) p × ((c .stage ≡ Stage.Header) × (RowAt (now sheet) p c × Next (now sheet) p c standings more)) ⌝ }
     ensures { λ r. ⌜ Ahead (now (sheet .entry)) p r (drop 1 (ahead (now (sheet .entry)) c)) ⌝ }
 {

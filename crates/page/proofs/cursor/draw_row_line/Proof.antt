@@ -1,6 +1,6 @@
 use native.Mathlib.Omega.{arith}
 use denote.Ref.{now}
-use mathlib.Core.Path.{_≡_, sym, ap, _∙_}
+use mathlib.Core.Path.{ap, _∙_}
 use lib.ListN.{length}
 use Rattle.buffer.specs.Put.{over}
 use Rattle.page.proofs.Draws.{text-head}
@@ -8,44 +8,24 @@ use Rattle.page.proofs.Steps.{at-text, row-ready}
 use borrow.Author.Needs.{needs}
 use Rattle.page.proofs.cursor.draw_row_line.Statement.{statement}
 use Rattle.page.proofs.cursor.draw_row_line.Tie as tie
-use Rattle.page.proofs.cursor.draw_row_line.Reads as reads
-use Rattle.page.proofs.cursor.draw_row_line.Lts as lts
-use Rattle.formatting.proofs.content_format.draw_text_line.Reads as draw-text-line-reads
-use Rattle.page.proofs.cursor.is_last.Reads as is-last-reads
-use Rattle.page.proofs.cursor.next_text_line.Reads as next-text-line-reads
-
--- src/cursor.rt:401:9
-is-last-requires : tie.Need-is-last-requires
-is-last-requires c κs = search needs
-
--- src/cursor.rt:402:9
-draw-text-line-requires : tie.Need-draw-text-line-requires
-draw-text-line-requires c κs = let s = c  .before .before .before .before .before .before .before .before in
-    let a = s .args in
-    let r = at-text (now (a .sheet)) (a .p) (a .c) (s .pre .0 .1 .1) (s .pre .0 .1 .0) in
-    (row-ready (now (a .sheet)) (a .p) (s .pre .0 .0) (a .c) r, omega (arith, s .pre .1, ap length (text-head (now (a .sheet)) (a .p) (s .pre .0 .0) (a .c) r (c  .before .is-last .result) (s .pre .0 .1 .1) (c  .before .is-last .ensures))))
-
--- src/cursor.rt:404:9
-next-text-line-requires : tie.Need-next-text-line-requires
-next-text-line-requires c κs = let s = c  .before .before .before .before .before .before .before .before .before .before .before .before in
-    let a = s .args in
-    let l = c  .before .before .before .draw-text-line in
-    (s .pre .0 .0, (s .pre .0 .1 .1, (at-text (now (a .sheet)) (a .p) (a .c) (s .pre .0 .1 .1) (s .pre .0 .1 .0), record { after = l .ensures .1 .0 .0; found = l .ensures .1 .0 .1 })))
-
--- src/cursor.rt:391:1
-same-length : tie.Need-same-length
-same-length c = search needs
-
--- src/cursor.rt:391:1
-returns : tie.Need-returns
-returns c = let s = c  .before .before .before .before .before .before .before .before .before .before .before .before .before in
-    let a = s .args in
-    let l = c  .before .before .before .before .draw-text-line in
-    let r = at-text (now (a .sheet)) (a .p) (a .c) (s .pre .0 .1 .1) (s .pre .0 .1 .0) in
-    let h = text-head (now (a .sheet)) (a .p) (s .pre .0 .0) (a .c) r (c  .before .before .before .before .before .before .is-last .result) (s .pre .0 .1 .1) (c  .before .before .before .before .before .before .is-last .ensures) in
-    (record { written = l .ensures .0 ∙ ap length h; next = c .next-text-line .ensures }, l .ensures .1 .1 ∙ ap (λ x. over x (now (a .page))) h)
 
 pub draw-row-line-spec : {M : Type 1} → statement M
 draw-row-line-spec =
     tie.close
-    (tie.spec is-last-requires draw-text-line-requires next-text-line-requires same-length returns)
+    (tie.spec
+    (λ c κs. search needs)
+    (λ c κs. let s = c .before .before .before .before .before .before .before .before in
+    let a = s .args in
+    let r = at-text (now (a .sheet)) (a .p) (a .c) (s .pre .0 .1 .1) (s .pre .0 .1 .0) in
+    (row-ready (now (a .sheet)) (a .p) (s .pre .0 .0) (a .c) r, omega (arith, s .pre .1, ap length (text-head (now (a .sheet)) (a .p) (s .pre .0 .0) (a .c) r (c .before .is-last .result) (s .pre .0 .1 .1) (c .before .is-last .ensures)))))
+    (λ c κs. let s = c .before .before .before .before .before .before .before .before .before .before .before .before in
+    let a = s .args in
+    let l = c .before .before .before .draw-text-line in
+    (s .pre .0 .0, (s .pre .0 .1 .1, (at-text (now (a .sheet)) (a .p) (a .c) (s .pre .0 .1 .1) (s .pre .0 .1 .0), record { after = l .ensures .1 .0 .0; found = l .ensures .1 .0 .1 }))))
+    (λ c. search needs)
+    (λ c. let s = c .before .before .before .before .before .before .before .before .before .before .before .before .before in
+    let a = s .args in
+    let l = c .before .before .before .before .draw-text-line in
+    let r = at-text (now (a .sheet)) (a .p) (a .c) (s .pre .0 .1 .1) (s .pre .0 .1 .0) in
+    let h = text-head (now (a .sheet)) (a .p) (s .pre .0 .0) (a .c) r (c .before .before .before .before .before .before .is-last .result) (s .pre .0 .1 .1) (c .before .before .before .before .before .before .is-last .ensures) in
+    (record { written = l .ensures .0 ∙ ap length h; next = c .next-text-line .ensures }, l .ensures .1 .1 ∙ ap (λ x. over x (now (a .page))) h)))

@@ -3,22 +3,11 @@ use Rattle.page.proofs.Steps.{row-ready}
 use borrow.Author.Needs.{needs}
 use Rattle.page.proofs.cursor.skip_header.Statement.{statement}
 use Rattle.page.proofs.cursor.skip_header.Tie as tie
-use Rattle.page.proofs.cursor.skip_header.Reads as reads
-use Rattle.page.proofs.cursor.skip_header.Lts as lts
-use Rattle.formatting.proofs.content_format.skip_text_line.Reads as skip-text-line-reads
-use Rattle.page.proofs.cursor.next_header_line.Reads as next-header-line-reads
-
--- src/cursor.rt:265:9
-skip-text-line-requires : tie.Need-skip-text-line-requires
-skip-text-line-requires c κs = let s = c  .before .before .before in row-ready (now (s .args .sheet)) (s .args .p) (s .pre .0) (s .args .c) (s .pre .1 .1)
-
--- src/cursor.rt:267:5
-next-header-line-requires : tie.Need-next-header-line-requires
-next-header-line-requires c κs = let s = c  .before .before .before .before .before in (s .pre .0, (s .pre .1 .0, (s .pre .1 .1, record { after = c  .before .skip-text-line .ensures .0; found = c  .before .skip-text-line .ensures .1 })))
-
--- src/cursor.rt:259:1
-returns : tie.Need-returns
-returns c = search needs
 
 pub skip-header-spec : {M : Type 1} → statement M
-skip-header-spec = tie.close (tie.spec skip-text-line-requires next-header-line-requires returns)
+skip-header-spec =
+    tie.close
+    (tie.spec
+    (λ c κs. let s = c .before .before .before in row-ready (now (s .args .sheet)) (s .args .p) (s .pre .0) (s .args .c) (s .pre .1 .1))
+    (λ c κs. let s = c .before .before .before .before .before in (s .pre .0, (s .pre .1 .0, (s .pre .1 .1, record { after = c .before .skip-text-line .ensures .0; found = c .before .skip-text-line .ensures .1 }))))
+    (λ c. search needs))
