@@ -63,7 +63,7 @@ module _ (s : List ℕ) (p : Page) (O : Opened s p) (c : Cursor) where
         first false b e = e
 
     -- line j of the row, and what comes after the row
-    row-first : (k : ℕ) (F : List (List ℕ)) → getD (drop (c .line) (textLines s k (firstRow s (c .here))) ++ F) 0 []
+    pub row-first : (k : ℕ) (F : List (List ℕ)) → getD (drop (c .line) (textLines s k (firstRow s (c .here))) ++ F) 0 []
         ≡ textLine (tableOf s .style) k (map (areaAt (tableOf s) (widthsIn s) (firstRow s (c .here)) (c .line)) (visible (tableOf s)))
     unfolding rowText
     row-first k F =

@@ -145,3 +145,13 @@ headLine s c = getD (ahead s c) 0 [] ++ (10 ∷ [])
 pub record Drew (s : List ℕ) (p : Page) (c : Cursor) (r : Drawn) : Type 0 where
   pub written : r .written ≡ length (headLine s c)
   pub next : Ahead s p (r .cursor) (drop 1 (ahead s c))
+
+-- no line comes next
+abbrev pub isEnd : Stage → Bool
+isEnd Top = false
+isEnd Header = false
+isEnd HeaderRule = false
+isEnd Text = false
+isEnd Rule = false
+isEnd Bottom = false
+isEnd End = true

@@ -1,0 +1,35 @@
+-- How long a page's lines are. Assumes nothing.
+use Prim.Native.Nat.{ℕ, zero, suc, _+_, _≤_}
+use mathlib.Core.Path.{_≡_}
+use mathlib.Core.List.{List}
+use mathlib.Core.Bool.{false}
+use lib.ListN.{drop}
+use Rattle.rules.specs.Page.{lineCount}
+use Rattle.rules.proofs.Lines.{lineLength, borderLength}
+use Rattle.sheet.specs.Held.{tableOf}
+use Rattle.formatting.specs.Line.{shownAt}
+use Rattle.formatting.specs.declared.content_format.View.{View}
+use Rattle.page.specs.Ahead.{widthsIn, ahead, allLines, At, isEnd}
+use Rattle.page.specs.declared.cursor.Page.{Page}
+use Rattle.page.specs.declared.lines.Sought.{Sought}
+use Rattle.page.specs.declared.lines.Lengths.{Lengths}
+
+-- the visible widths of the first n columns
+unfoldable pub widthUpTo : View → ℕ → ℕ
+widthUpTo view zero = 0
+widthUpTo view (suc n) = widthUpTo view n + (shownAt view n .left + (shownAt view n .width + shownAt view n .right))
+
+-- the lengths are the page's
+pub record LengthsAre (s : List ℕ) (l : Lengths) : Type 0 where
+  pub line : l .line ≡ lineLength (tableOf s) (widthsIn s)
+  pub border : l .border ≡ borderLength (tableOf s) (widthsIn s)
+  pub line-small : l .line ≤ 10200
+  pub border-small : l .border ≤ 10200
+
+-- the cursor stands before line `passed`, which is line k, or at the end before it
+pub record SoughtIs (s : List ℕ) (p : Page) (k : ℕ) (r : Sought) : Type 0 where
+  pub lines : ahead s (r .cursor) ≡ drop (r .passed) (allLines s)
+  pub at : At s p (r .cursor)
+  pub within : r .passed ≤ k
+  pub passed : r .passed ≤ lineCount (tableOf s)
+  pub reached : isEnd (r .cursor .stage) ≡ false → r .passed ≡ k

@@ -1,0 +1,176 @@
+// A page's lines counted, and written one after another.
+ghost use mathlib.Core.Path.{_≡_};
+ghost use mathlib.Core.List.{[], _∷_, _++_};
+ghost use mathlib.Core.Bool.{Bool, cond};
+ghost use Prim.Native.Nat.{ℕ, _+_, _-_, _≤_, _<_};
+ghost use lib.ListN.{length, drop, getD};
+ghost use lib.Dec.{ltb};
+ghost use Rattle.rules.specs.Page.{closed, lineCount, byteCount, page as pageOf};
+ghost use Rattle.rules.proofs.Lines.{lineLength, borderLength};
+ghost use Rattle.buffer.specs.Put.{over};
+ghost use Rattle.sheet.specs.Held.{tableOf};
+ghost use Rattle.formatting.specs.Line.{shownAt};
+ghost use Rattle.page.specs.Ahead.{widthsIn, Opened, Ahead, At, ahead, allLines, headLine, isEnd};
+ghost use Rattle.page.specs.Count.{widthUpTo, LengthsAre, SoughtIs};
+use crate::cursor;
+use crate::cursor::Cursor;
+use crate::cursor::Page;
+use crate::cursor::Stage;
+use formatting::content_format::View;
+
+// How long lines are, without their 0A: text lines and rules, and borders.
+pub struct Lengths {
+    pub line: usize,
+    pub border: usize,
+}
+
+// A page's lines and bytes.
+pub struct Totals {
+    pub lines: usize,
+    pub bytes: usize,
+}
+
+// A count where something is drawn.
+fn where_drawn(drawn: bool, n: usize) -> usize
+    ensures { λ r. ⌜ (r ≡ cond drawn n 0) × (r ≤ n) ⌝ }
+{
+    if drawn { n } else { 0 }
+}
+
+// The places between n columns.
+fn between(n: usize) -> usize
+    ensures { λ r. ⌜ (r ≡ n - 1) × (r ≤ n) ⌝ }
+{
+    if n == 0 {
+        return 0;
+    }
+    n - 1
+}
+
+// The visible widths of the first n columns.
+fn visible_width(view: View, n: usize) -> usize
+    requires { ⌜ (n ≤ view .count) × (view .count ≤ 12) × ((i : ℕ) → i < view .count → shownAt view i .left + (shownAt view i .width + shownAt view i .right) < 65536) ⌝ }
+    ensures { λ r. ⌜ (r ≡ widthUpTo view n) × (r ≤ 786432) ⌝ }
+{
+    let mut sum: usize = 0;
+    let mut i: usize = 0;
+    while i < n {
+        let v = view.columns[i];
+        sum += v.left + (v.width + v.right);
+        i += 1;
+    }
+    sum
+}
+
+// How long the lines of a page are.
+pub fn measure_lines(sheet: &[u8], p: Page) -> Lengths
+    requires { ⌜ Opened (now sheet) p ⌝ }
+    ensures { λ r. ⌜ LengthsAre (now (sheet .entry)) r ⌝ }
+{
+    let view = p.view;
+    let look = p.look;
+    let style = look.row_rule;
+    let n = view.count;
+    let inside = between(n);
+    let edges = where_drawn(style.opens, 1) + where_drawn(style.closes, 1);
+    let sum = visible_width(view, n);
+    let line = edges + where_drawn(style.joined, inside) + sum;
+    let border = edges + inside + sum;
+    Lengths { line, border }
+}
+
+// A cursor that has no line before it.
+pub fn is_end(c: Cursor) -> bool
+    ensures { λ r. ⌜ r ≡ isEnd (c .stage) ⌝ }
+{
+    let stage = c.stage;
+    match stage {
+        Stage::Top => false,
+        Stage::Header => false,
+        Stage::HeaderRule => false,
+        Stage::Text => false,
+        Stage::Rule => false,
+        Stage::Bottom => false,
+        Stage::End => true,
+    }
+}
+
+// The next line's length, its 0A included.
+pub fn line_length(sheet: &[u8], p: Page, l: Lengths, c: Cursor) -> usize
+    requires { ⌜ Opened (now sheet) p × (LengthsAre (now sheet) l × (At (now sheet) p c × (isEnd (c .stage) ≡ Bool.false))) ⌝ }
+    ensures { λ r. ⌜ r ≡ length (headLine (now (sheet .entry)) c) ⌝ }
+{
+    let stage = c.stage;
+    match stage {
+        Stage::Top => l.border + 1,
+        Stage::Header => l.line + 1,
+        Stage::HeaderRule => l.line + 1,
+        Stage::Text => l.line + 1,
+        Stage::Rule => l.line + 1,
+        Stage::Bottom => l.border + 1,
+        Stage::End => 0,
+    }
+}
+
+// Every line of the page passed over once, and none drawn.
+pub fn count_lines(sheet: &[u8], p: Page) -> Totals
+    requires { ⌜ Opened (now sheet) p ⌝ }
+    ensures { λ r. ⌜ (r .lines ≡ lineCount (tableOf (now (sheet .entry)))) × (r .bytes ≡ byteCount (tableOf (now (sheet .entry)))) ⌝ }
+{
+    let l = measure_lines(sheet, p);
+    let mut c = cursor::start(sheet, p);
+    let mut lines: usize = 0;
+    let mut bytes: usize = 0;
+    while !is_end(c) {
+        bytes += line_length(sheet, p, l, c);
+        lines += 1;
+        c = cursor::step(sheet, p, c);
+    }
+    Totals { lines, bytes }
+}
+
+// The page at the start of the buffer: each line is written from the byte after the last one.
+pub fn write_page(page: &mut [u8], sheet: &[u8], p: Page) -> usize
+    requires { ⌜ Opened (now sheet) p ⌝ }
+    requires { ⌜ byteCount (tableOf (now sheet)) ≤ length (now page) ⌝ }
+    ensures { λ r. ⌜ r ≡ byteCount (tableOf (now (sheet .entry))) ⌝ }
+    ensures { λ _. ⌜ now (page .exit) ≡ over (pageOf (tableOf (now (sheet .entry)))) (now (page .entry)) ⌝ }
+{
+    let mut c = cursor::start(sheet, p);
+    let mut at: usize = 0;
+    while !is_end(c) {
+        let d = cursor::draw(&mut page[at..], sheet, p, c);
+        at += d.written;
+        c = d.cursor;
+    }
+    at
+}
+
+// A line's cursor, and how many lines were passed over to reach it.
+pub struct Sought {
+    pub cursor: Cursor,
+    pub passed: usize,
+}
+
+// The cursor at line k, or at the end, where the lines passed over are all there are.
+pub fn seek(sheet: &[u8], p: Page, k: usize) -> Sought
+    requires { ⌜ Opened (now sheet) p ⌝ }
+    ensures { λ r. ⌜ SoughtIs (now (sheet .entry)) p k r ⌝ }
+{
+    let mut c = cursor::start(sheet, p);
+    let mut i: usize = 0;
+    while i < k {
+        if is_end(c) {
+            return Sought {
+                cursor: c,
+                passed: i,
+            };
+        }
+        c = cursor::step(sheet, p, c);
+        i += 1;
+    }
+    Sought {
+        cursor: c,
+        passed: i,
+    }
+}
