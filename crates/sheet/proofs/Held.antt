@@ -9,13 +9,18 @@ use Rattle.rules.specs.Sheet.{Table, noColumn}
 use Rattle.rules.specs.declared.Column.{Column}
 use Rattle.rules.specs.Field.{got}
 use Rattle.rules.specs.Format.{sheet}
-use Rattle.rules.specs.Calls.{padded}
+use Rattle.rules.specs.Calls.{check, padded}
+use Rattle.rules.specs.declared.Checked.{Checked}
 use Rattle.rules.proofs.Accepted.{accepted-limits, accepted-fields}
 use Rattle.rules.proofs.Places.{byteAt, wordAt, textAt, columnHere, headerPlace, rowsPlace, stylePlace, lineStop, tableHere, accepted-places}
 use Rattle.rules.proofs.Stands as stands
 use Rattle.rules.proofs.Numbers.{checked-reading}
 use Rattle.sheet.proofs.Copies.{Copied, copied-done, drop-replicate}
 use Rattle.sheet.specs.Held.{Passes, tableOf, settingsOf, indicatorOf, columnsOf}
+
+-- a caller that has asked the check knows that the sheet passes
+pub passes : (s : List ℕ) (r : Checked) → r ≡ check s → r .number ≡ 0 → Passes s
+passes s r e h = ap (λ (x : Checked). x .number) (sym e) ∙ h
 
 -- the definition reads that table
 pub record Held (s : List ℕ) : Type 0 where

@@ -13,6 +13,8 @@ use Rattle.sheet.specs.Walk.{rowsIn, cellsIn, linesIn, rowsEnd, cellsEnd
 use Rattle.sheet.specs.declared.records.Rows.{Rows}
 use Rattle.sheet.specs.declared.records.Cells.{Cells}
 use Rattle.sheet.specs.declared.records.Lines.{Lines}
+use Rattle.sheet.specs.declared.records.Row.{Row}
+use Rattle.sheet.specs.declared.records.Cell.{Cell}
 use Rattle.sheet.proofs.Held.{held, table-here, room}
 
 -- with i of n parts passed and standing at p, the last of them ends at w
@@ -148,6 +150,13 @@ module _ (s : List ℕ) (c : Lines) (some : 0 < c .left) where
     left = omega arith;
     ends = rw e (other-past (c .left) (lineStop s) (c .at) some);
   }
+
+-- the cells of a row and the lines of a cell are inside the sheet where the rows and the cells are
+pub cells-inside : (s : List ℕ) (c : Rows) (r : Row) → 0 < c .left → rowsEnd s c ≤ length s → RowIs s c r → cellsEnd s (r .cells) ≤ length s
+cells-inside s c r some h is = rw (is .ends) (row-whole s c some h)
+
+pub lines-inside : (s : List ℕ) (c : Cells) (x : Cell) → 0 < c .left → cellsEnd s c ≤ length s → CellIs s c x → linesEnd s (x .lines) ≤ length s
+lines-inside s c x some h is = rw (is .ends) (cell-whole s c some h)
 
 -- where the walk over the header begins, and that over the rows
 pub header-is : (s : List ℕ) (p n : ℕ) → Passes s → p ≡ headerPlace s → n ≡ byteAt s p

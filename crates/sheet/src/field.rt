@@ -10,7 +10,7 @@ pub enum Step {
     Refused { number: u64, place: usize },
 }
 
-// A field of one byte that has been read: its value is used even where it is turned down, as a count that no loop then follows.
+// A field of one byte. It has its value even where it is turned down: a loop that goes by it only hands the refusal on.
 pub struct Field {
     pub value: u8,
     pub next: Step,
@@ -102,6 +102,7 @@ pub fn wide(byte: u8) -> u16
     byte as u16
 }
 
+// A byte as a count or a position.
 pub fn size(byte: u8) -> usize
     ensures { λ r. ⌜ (r ≡ byte) × (r < 256) ⌝ }
 {

@@ -73,6 +73,7 @@ fn of_row(sheet: &[u8], cells: Cells, before: [u16; 12]) -> LongestLines
     LongestLines { longest, end: c.at }
 }
 
+// Row after row, from the columns' longest so far.
 fn of_rows(sheet: &[u8], rows: Rows, before: [u16; 12]) -> LongestLines
     requires { ⌜ Narrow (rowsIn (now sheet) rows) × (rowsEnd (now sheet) rows ≤ length (now sheet)) ⌝ }
     ensures { λ r. ⌜ RowsWalked (now (sheet .entry)) rows before r ⌝ }

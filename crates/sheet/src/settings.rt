@@ -21,6 +21,7 @@ fn word_at(sheet: &[u8], at: usize) -> u16
     low + high * 256
 }
 
+// Arrangement, target and table delimiter stand at fixed places, so no byte before them is read.
 pub fn settings(sheet: &[u8]) -> Settings
     requires { ⌜ Passes (now sheet) ⌝ }
     ensures { λ r. ⌜ r ≡ settingsOf (tableOf (now (sheet .entry))) ⌝ }
@@ -32,6 +33,7 @@ pub fn settings(sheet: &[u8]) -> Settings
     }
 }
 
+// The indicator is copied, since every cut cell is ended by it.
 pub fn indicator(sheet: &[u8]) -> Indicator
     requires { ⌜ Passes (now sheet) ⌝ }
     ensures { λ r. ⌜ r ≡ indicatorOf (tableOf (now (sheet .entry))) ⌝ }
@@ -101,6 +103,7 @@ const NONE: Column = Column {
     second: Width { unit: 0, value: 0 },
 };
 
+// The columns are copied once: widths and drawing ask for them again and again.
 pub fn columns(sheet: &[u8]) -> Columns
     requires { ⌜ Passes (now sheet) ⌝ }
     ensures { λ r. ⌜ r ≡ columnsOf (tableOf (now (sheet .entry))) ⌝ }
