@@ -160,14 +160,18 @@ fn fit_step(t: Layout, i: usize, s: State, a: u16) -> State
     )
 }
 
+// The average that counts is that of the state which the last visit left.
 fn fit_pass(t: Layout, s: State) -> State
     requires { ⌜ t .count ≤ 12 ⌝ }
     ensures { λ r. ⌜ r ≡ pass fitRule t s ⌝ }
 {
     let n = t.count as usize;
     let mut r = s;
+    let mut last = s;
     for i in 0..n {
-        r = fit_step(t, i, r, constraint::average_space(r));
+        let before = last;
+        r = fit_step(t, i, r, constraint::average_space(before));
+        last = r;
     }
     r
 }
