@@ -1,4 +1,4 @@
--- A pass over columns, and passes repeated until one fixes nothing: the laws that steps 1 to 3 share.
+-- A pass over columns, and passes repeated until one fixes nothing: the laws that steps 1 to 3 share. Assumes nothing.
 use Prim.Native.Nat.{ℕ, zero, suc, _+_, _-_, _^_, _≤_, _<_}
 use mathlib.Core.Path.{_≡_, refl, sym, ap, _∙_, subst}
 use mathlib.Core.Bool.{Bool, true, false, not}

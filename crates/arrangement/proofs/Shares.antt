@@ -1,4 +1,4 @@
--- Sharing: the parts, and the ways out of the functions that hand them out.
+-- Sharing: the parts, and the ways out of the functions that hand them out. Assumes nothing.
 use Prim.Native.Nat.{ℕ, _+_, _-_, _/_, _%_, _≤_, _<_, max}
 use mathlib.Core.Path.{_≡_, refl, sym, ap, _∙_, subst}
 use mathlib.Core.Bool.{Bool, true, false}

@@ -1,4 +1,4 @@
--- The arrangement: untargeted widths, the remaining width, steps 1 to 4, full width.
+-- The arrangement: untargeted widths, the remaining width, steps 1 to 4, full width. Assumes nothing.
 use Prim.Native.Nat.{ℕ, zero, suc, _+_, _-_, _/_, _%_, max}
 use mathlib.Core.Bool.{true, false}
 use lib.ListN.{getD, set, replicate}

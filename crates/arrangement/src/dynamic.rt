@@ -85,15 +85,7 @@ fn lower_step(t: Layout, i: usize, s: State, a: u16) -> State
         return s;
     }
     let c = t.columns[i];
-    constraint::take(
-        s,
-        i,
-        raised_offer(
-            constraint::average_space(s),
-            c,
-            constraint::min(t, c, s.visible),
-        ),
-    )
+    constraint::take(s, i, raised_offer(a, c, constraint::min(t, c, s.visible)))
 }
 
 // The average is that of the moment: a column that is fixed changes it for those after it.
@@ -104,8 +96,7 @@ fn lower_pass(t: Layout, s: State) -> State
     let n = t.count as usize;
     let mut r = s;
     for i in 0..n {
-        let a = constraint::average_space(r);
-        r = lower_step(t, i, r, a);
+        r = lower_step(t, i, r, constraint::average_space(r));
     }
     r
 }
@@ -165,24 +156,22 @@ fn fit_step(t: Layout, i: usize, s: State, a: u16) -> State
     constraint::take(
         s,
         i,
-        fitting_offer(
-            constraint::average_space(s),
-            c,
-            n,
-            constraint::max(t, c, s.visible),
-        ),
+        fitting_offer(a, c, n, constraint::max(t, c, s.visible)),
     )
 }
 
+// The average that counts is that of the state which the last visit left.
 fn fit_pass(t: Layout, s: State) -> State
     requires { ⌜ t .count ≤ 12 ⌝ }
     ensures { λ r. ⌜ r ≡ pass fitRule t s ⌝ }
 {
     let n = t.count as usize;
     let mut r = s;
+    let mut last = s;
     for i in 0..n {
-        let a = constraint::average_space(r);
-        r = fit_step(t, i, r, a);
+        let before = last;
+        r = fit_step(t, i, r, constraint::average_space(before));
+        last = r;
     }
     r
 }
@@ -242,8 +231,7 @@ fn split_pass(sheet: &[u8], t: Layout, s: State) -> State
     let n = t.count as usize;
     let mut r = s;
     for i in 0..n {
-        let a = constraint::average_space(r);
-        r = split_step(sheet, t, i, r, a);
+        r = split_step(sheet, t, i, r, constraint::average_space(r));
     }
     r
 }

@@ -54,6 +54,7 @@ fn arrange(sheet: &[u8], t: Layout) -> State
     dynamic::arrange(sheet, t, s)
 }
 
+// Callers skip hidden columns without looking at constraints.
 fn hidden_columns(t: Layout) -> [bool; 12]
     requires { ⌜ t .count ≤ 12 ⌝ }
     ensures { λ r. ⌜ r ≡ marked t ⌝ }

@@ -1,4 +1,4 @@
--- A set of columns in a number's binary digits, and adding an absent one.
+-- A set of columns in a number's binary digits, and adding an absent one. Assumes nothing.
 use mathlib.Core.Path.{_≡_, refl, sym, ap, _∙_}
 use mathlib.Core.Bool.{false}
 use Prim.Native.Nat.{ℕ, zero, suc, _+_, _-_, _*_, _/_, _%_, _^_, _<_}
@@ -41,6 +41,7 @@ bit-zero s i e = let n : bit s i ≡ 1 → ⊥ = eqb-false (bit s i) 1 e in omeg
 pub shift : (i : ℕ) → i < 12 → 1 * 2 ^ i % 65536 ≡ 2 ^ i
 shift i h = shl-exact {a = 1} 1 i 16 (omega arith) (omega arith) ∙ one-mul (2 ^ i)
 
+-- a digit of the half
 bit-suc : (s i : ℕ) → bit s (suc i) ≡ bit (s / 2) i
 bit-suc s i = sym (ap (λ (k : ℕ). k % 2) (shr-shr s 1 i ∙ ap (λ (k : ℕ). s / 2 ^ k) (one-add i)))
 
@@ -64,6 +65,7 @@ bit-other (suc i) (suc j) s e n =
     bit-suc (s + 2 ^ suc i) j ∙ ap (λ (k : ℕ). bit k j) (half-add s i)
     ∙ bit-other i j (s / 2) (sym (bit-suc s i) ∙ e) (λ z. n (ap suc z)) ∙ sym (bit-suc s j)
 
+-- nothing is in the empty set
 pub zero-bit : (i : ℕ) → bit 0 i ≡ 0
 zero-bit zero = refl
 zero-bit (suc i) = bit-suc 0 i ∙ zero-bit i

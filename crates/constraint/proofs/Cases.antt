@@ -1,4 +1,4 @@
--- What a choice comes to, by the test that the code made.
+-- What a choice comes to, by the test that the code made. Assumes nothing.
 use Prim.Native.Nat.{ℕ, _-_, _≤_, _<_}
 use mathlib.Core.Path.{_≡_, sym, _∙_}
 use mathlib.Core.Bool.{Bool, true, false}

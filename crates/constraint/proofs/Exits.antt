@@ -1,4 +1,4 @@
--- One law for each way out of a function: its premises are what the code tested and what its callees ensure.
+-- One law for each way out of a function: its premises are what the code tested and what its callees ensure. Assumes nothing.
 use Prim.Native.Nat.{ℕ, _+_, _-_, _^_, _≤_, _<_}
 use mathlib.Core.Path.{_≡_, refl, sym, ap, _∙_}
 use mathlib.Core.Bool.{Bool, true, false}

@@ -1,4 +1,4 @@
--- Laws of the definitions: content, percent, the loop over columns.
+-- Laws of the definitions: content, percent, the loop over columns. Assumes nothing.
 use Prim.Native.Nat.{ℕ, _+_, _-_, _*_, _/_, _≤_, _<_, min, max}
 use mathlib.Core.Path.{_≡_, refl, sym, ap, _∙_}
 use mathlib.Core.Bool.{Bool, true, false}

@@ -1,4 +1,4 @@
--- Widths: padding, borders, percent, bounds, the average, and fixing a column.
+-- Widths: padding, borders, percent, bounds, the average, and fixing a column. Assumes nothing.
 use Prim.Native.Nat.{ℕ, zero, suc, _+_, _-_, _*_, _/_, _%_, _^_, _≤_, _<_, min, max}
 use mathlib.Core.Path.{_≡_}
 use mathlib.Core.Bool.{Bool, true, false}
@@ -116,7 +116,7 @@ first t i s =
     (choose (eqb (column t i .constraint) 3) (absolute (column t i) (value t (s .visible) (column t i .first)))
     (covered (column t i) (longest t i) (lower t (s .visible) (column t i))))
 
--- a isHidden column's width is its longest; it is not in the set
+-- a hidden column's width is its longest; it is not in the set
 abbrev pub hide : Layout → ℕ → State → State
 hide t i s =
     record { widths = set (s .widths) i (lifted (longest t i .0)); decided = s .decided; remaining = s .remaining; visible = s .visible }

@@ -45,12 +45,14 @@ pub enum Offer {
     Take(ContentWidth),
 }
 
+// `Hidden` has a code of its own: such a column has no other part in the page.
 pub fn is_hidden(c: Column) -> bool
     ensures { λ r. ⌜ r ≡ isHidden c ⌝ }
 {
     c.constraint == 1
 }
 
+// The sum is made before the test, so that it is proved to fit for every column.
 pub fn one_more(c: Column, n: u16) -> u16
     requires { ⌜ n < 65535 ⌝ }
     ensures { λ r. ⌜ r ≡ choose (isHidden c) n (n + 1) ⌝ }
@@ -62,6 +64,7 @@ pub fn one_more(c: Column, n: u16) -> u16
     more
 }
 
+// The divisor of the average is counted from these.
 pub fn count_visible_columns(t: Layout) -> u16
     requires { ⌜ t .count ≤ 12 ⌝ }
     ensures { λ r. ⌜ r ≡ visible t ⌝ }
@@ -92,6 +95,7 @@ fn between(b: bool, v: u16) -> usize
     0
 }
 
+// Junctions stand between visible columns only.
 pub fn count_border_columns(t: Layout, v: u16) -> usize
     ensures { λ r. ⌜ r ≡ borders t v ⌝ }
 {
@@ -110,6 +114,7 @@ pub fn room(t: Layout, v: u16) -> u16
     (target - b) as u16
 }
 
+// More than 100 percent is 100: the product can't exceed the room.
 pub fn percent_of(room: u16, p: u16) -> u16
     ensures { λ r. ⌜ r ≡ percent room p ⌝ }
 {
@@ -119,6 +124,7 @@ pub fn percent_of(room: u16, p: u16) -> u16
     (room as u32 * p as u32 / 100) as u16
 }
 
+// A percent of no target is no width.
 pub fn absolute_value_from_width(t: Layout, w: Width, v: u16) -> Bound
     ensures { λ r. ⌜ r ≡ value t v w ⌝ }
 {
@@ -164,6 +170,7 @@ pub fn max(t: Layout, c: Column, v: u16) -> Bound
     }
 }
 
+// What remains for each undecided column; 0 where none is left, since nothing is then asked of it.
 pub fn average_space(s: State) -> u16
     ensures { λ r. ⌜ r ≡ average s ⌝ }
 {
@@ -174,6 +181,7 @@ pub fn average_space(s: State) -> u16
     s.remaining / (s.visible - n)
 }
 
+// The set holds the decided visible columns, one bit for each.
 pub fn is_in(s: u16, i: usize) -> bool
     requires { ⌜ i < 16 ⌝ }
     ensures { λ r. ⌜ r ≡ eqb (bit s i) 1 ⌝ }
@@ -181,6 +189,7 @@ pub fn is_in(s: u16, i: usize) -> bool
     (s >> i) % 2 == 1
 }
 
+// A hidden column is decided from the start, though it is never in the set.
 pub fn is_decided(t: Layout, i: usize, s: State) -> bool
     requires { ⌜ i < 12 ⌝ }
     ensures { λ r. ⌜ r ≡ decided t i s ⌝ }
@@ -200,7 +209,7 @@ fn one_at_least(n: u16) -> u16
     n
 }
 
-// Fixes column i.
+// The width offered is taken off before 0 becomes 1: a column without cells costs nothing.
 pub fn fix_column(s: State, i: usize, w: ContentWidth) -> State
     requires { ⌜ (i < 12) × (bit (s .decided) i ≡ 0) ⌝ }
     ensures { λ r. ⌜ r ≡ fixed s i w ⌝ }
@@ -213,6 +222,7 @@ pub fn fix_column(s: State, i: usize, w: ContentWidth) -> State
     r
 }
 
+// An offer that keeps the column open changes nothing.
 pub fn take(s: State, i: usize, o: Offer) -> State
     requires { ⌜ (i < 12) × (bit (s .decided) i ≡ 0) ⌝ }
     ensures { λ r. ⌜ r ≡ taking s i o ⌝ }
@@ -271,6 +281,7 @@ fn hidden_column(t: Layout, i: usize, s: State) -> State
     r
 }
 
+// The first step: what a constraint settles without knowing the other columns.
 pub fn evaluate(t: Layout, i: usize, s: State) -> State
     requires { ⌜ i < 12 ⌝ }
     ensures { λ r. ⌜ r ≡ evaluated t i s ⌝ }

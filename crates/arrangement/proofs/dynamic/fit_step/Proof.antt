@@ -18,6 +18,5 @@ fit-step-spec =
     (λ c. search needs)
     (λ c κs. search needs)
     (λ c κs. search needs)
-    (λ c κs. search needs)
     (λ c κs. (omega arith, search (needs, open-by)))
     (λ c. search (needs, step-open, fit-rule)))

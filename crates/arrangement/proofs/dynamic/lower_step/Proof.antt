@@ -16,6 +16,5 @@ lower-step-spec =
     (λ c. search needs)
     (λ c κs. search needs)
     (λ c κs. search needs)
-    (λ c κs. search needs)
     (λ c κs. (omega arith, search (needs, open-by)))
     (λ c. search (needs, step-open, lower-rule)))
