@@ -1,3 +1,5 @@
 pub mod Ahead
 pub mod Steps
 pub mod Draws
+pub mod Opening
+pub mod Measured
