@@ -43,7 +43,7 @@ module _ (t : Table) (limits : TableLimits t) (x : Columns) (columns : x ≡ col
   unfolding columnsOf
   count-fits = omega (arith, ap (λ (y : Columns). y .count) columns, limits .columns)
 
-  column-at : (j : ℕ) → j < x .count → getD (x .each) j noColumn ≡ columnAt t j
+  pub column-at : (j : ℕ) → j < x .count → getD (x .each) j noColumn ≡ columnAt t j
   unfolding columnsOf padded
   column-at j h = rw columns (List·getD-append (t .columns) (replicate (mostColumns - length (t .columns)) noColumn) noColumn j (omega (arith, ap (λ (y : Columns). y .count) columns)))
 

@@ -16,7 +16,7 @@ use sheet::records::Cells;
 use sheet::walk;
 
 // A code, or what stands for it where it is 0.
-fn or_else(a: u8, b: u8) -> u8
+pub fn or_else(a: u8, b: u8) -> u8
     ensures { λ r. ⌜ r ≡ orElse a b ⌝ }
 {
     if a == 0 {

@@ -3,3 +3,5 @@ pub mod Steps
 pub mod Draws
 pub mod Count
 pub mod Pages
+pub mod Opening
+pub mod Measured

@@ -1,0 +1,38 @@
+-- What the call for widths answers. Assumes nothing.
+use Prim.Native.Nat.{ℕ}
+use mathlib.Core.Path.{_≡_, refl, sym, ap, _∙_}
+use mathlib.Core.List.{List}
+use mathlib.Core.Bool.{false}
+use native.Mathlib.Omega.{arith}
+use lib.ListN.{replicate}
+use Rattle.rules.specs.declared.Checked.{Checked}
+use Rattle.rules.specs.declared.Measured.{Measured}
+use Rattle.rules.specs.Sheet.{Table}
+use Rattle.rules.specs.Field.{Read, got, refused}
+use Rattle.rules.specs.Format.{sheet}
+use Rattle.rules.specs.Calls.{check, checkOf, measure, measureOf}
+use Rattle.sheet.specs.Held.{Passes, tableOf}
+use Rattle.sheet.proofs.Held.{held}
+use Rattle.arrangement.specs.declared.Widths.{Widths}
+use Rattle.arrangement.specs.Widths.{widthsOf}
+
+module _ (s : List ℕ) (c : Checked) (checked : c ≡ check s) where
+  pub check-passes : c .number ≡ 0 → Passes s
+  check-passes h = sym (ap (λ (x : Checked). x .number) checked) ∙ h
+
+  -- a refused sheet: number and place of the check
+  pub measure-refused : (c .number ≡ 0 → ⊥)
+      → _≡_ {A = Measured} (record { number = c .number; place = c .place; columns = 0; content = replicate 12 0; hidden = replicate 12 false }) (measure s)
+  unfolding check measure checkOf measureOf
+  measure-refused h = go (sheet s) refl
+    where
+      go : (y : Read Table) → sheet s ≡ y
+          → _≡_ {A = Measured} (record { number = c .number; place = c .place; columns = 0; content = replicate 12 0; hidden = replicate 12 false }) (measureOf (sheet s))
+      go (got t p) e = let z : c .number ≡ 0 = ap (λ (x : Checked). x .number) checked ∙ rw e in absurd (h z)
+      go (refused n p) e = let k : c ≡ record { number = n; place = p } = checked ∙ rw e in rw (e, k)
+
+-- an accepted one: its widths
+pub measure-accepted : (s : List ℕ) (w : Widths) → Passes s → w ≡ widthsOf (tableOf s)
+    → _≡_ {A = Measured} (record { number = 0; place = 0; columns = w .count; content = w .content; hidden = w .hidden }) (measure s)
+unfolding measure measureOf widthsOf
+measure-accepted s w h e = let r = held s h .reads in rw (e, r)

@@ -1,0 +1,12 @@
+-- `page::open::glyph` meets its contract. Assumes nothing.
+use Rattle.page.proofs.Opening.{glyph-is}
+use borrow.Author.Needs.{needs}
+use Rattle.page.proofs.open.glyph.Statement.{statement}
+use Rattle.page.proofs.open.glyph.Tie as tie
+
+pub glyph-spec : {M : Type 1} → statement M
+glyph-spec =
+    tie.close
+    (tie.spec
+    (λ c κs. search needs)
+    (λ c. glyph-is (c .before .args .c) (c .or-else .result) (c .or-else .ensures)))
