@@ -1,0 +1,14 @@
+-- `page::widths` meets its contract. Assumes nothing.
+use Rattle.page.proofs.Measured.{check-passes, measure-refused, measure-accepted}
+use borrow.Author.Needs.{needs}
+use Rattle.page.proofs.widths.Statement.{statement}
+use Rattle.page.proofs.widths.Tie as tie
+
+pub widths-spec : {M : Type 1} → statement M
+widths-spec =
+    tie.close
+    (tie.spec
+    (λ c κs. search needs)
+    (λ c. search (needs, measure-refused))
+    (λ c κs. search (needs, check-passes))
+    (λ c. search (needs, measure-accepted, check-passes)))
