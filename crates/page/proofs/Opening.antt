@@ -76,11 +76,19 @@ pub look-is : (S : List ℕ) (y : TableStyle) (joined : Bool) (top header row bo
     → row ≡ ruleStyleOf S joined rowRule → bottom ≡ ruleStyleOf S true bottomBorder
     → a ≡ isVisible (bytesOf y) topBorder → b ≡ isVisible (bytesOf y) headerRule → c ≡ isVisible (bytesOf y) rowRule → d ≡ isVisible (bytesOf y) bottomBorder
     → _≡_ {A = Look}
-      (record {
-        top = top; «header_lines» = head; «header_rule» = header; «content_lines» = text; «row_rule» = row; bottom = bottom;
-        «has_top» = a; «has_header_rule» = b; «has_row_rule» = c; «has_bottom» = d;
-      })
-      (lookOf S)
+    (record {
+      top = top;
+      «header_lines» = head;
+      «header_rule» = header;
+      «content_lines» = text;
+      «row_rule» = row;
+      bottom = bottom;
+      «has_top» = a;
+      «has_header_rule» = b;
+      «has_row_rule» = c;
+      «has_bottom» = d;
+    })
+    (lookOf S)
 unfolding lookOf
 look-is S y joined top header row bottom head text a b c d e f g h i j k l m n o p = rw (g, h, i, j, k, l, f, m, n, o, p, e)
 
