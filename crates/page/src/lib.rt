@@ -49,11 +49,11 @@ pub fn widths(sheet: &[u8]) -> Measured
 pub fn count(sheet: &[u8]) -> Counted
     ensures { λ r. ⌜ r ≡ calls.count (now (sheet .entry)) ⌝ }
 {
-    let checked = sheet::check(sheet);
-    if checked.number != 0 {
+    let refusal = sheet::check(sheet);
+    if refusal.number != 0 {
         return Counted {
-            number: checked.number,
-            place: checked.place,
+            number: refusal.number,
+            place: refusal.place,
             lines: 0,
             bytes: 0,
         };
@@ -159,15 +159,15 @@ pub fn print_lines(sheet: &[u8], line: usize, page: &mut [u8]) -> PrintedLines
     }
     let p = open::open(sheet);
     let sought = lines::seek(sheet, p, line);
-    let c = sought.cursor;
-    if lines::is_end(c) {
+    let first = sought.cursor;
+    if lines::is_end(first) {
         return no_lines(21, sought.passed as u64);
     }
-    let needed = lines::next_length(sheet, p, c);
+    let needed = lines::next_length(sheet, p, first);
     if page.len() < needed {
         return no_lines(20, needed as u64);
     }
-    let wrote = lines::write_lines(page, sheet, p, c);
+    let wrote = lines::write_lines(page, sheet, p, first);
     PrintedLines {
         number: 0,
         place: 0,
