@@ -1,7 +1,9 @@
 pub mod Ahead
 pub mod Steps
 pub mod Draws
-pub mod Count
+pub mod LineLengths
 pub mod Pages
 pub mod Opening
 pub mod Measured
+pub mod Answers
+pub mod Filling

@@ -35,7 +35,6 @@ use Rattle.sheet.specs.declared.records.Columns.{Columns}
 use Rattle.sheet.proofs.Held.{held, room}
 use Rattle.arrangement.specs.declared.Widths.{Widths}
 use Rattle.arrangement.specs.Widths.{styleFrom, widthsOf}
-use Rattle.formatting.specs.Line as line
 use Rattle.formatting.specs.Line.{noShown, shownAt}
 use Rattle.formatting.specs.Open.{Rising, WideAll}
 use Rattle.formatting.specs.Rule.{NarrowAll}
@@ -76,11 +75,19 @@ pub look-is : (S : List ℕ) (y : TableStyle) (joined : Bool) (top header row bo
     → row ≡ ruleStyleOf S joined rowRule → bottom ≡ ruleStyleOf S true bottomBorder
     → a ≡ isVisible (bytesOf y) topBorder → b ≡ isVisible (bytesOf y) headerRule → c ≡ isVisible (bytesOf y) rowRule → d ≡ isVisible (bytesOf y) bottomBorder
     → _≡_ {A = Look}
-      (record {
-        top = top; «header_lines» = head; «header_rule» = header; «content_lines» = text; «row_rule» = row; bottom = bottom;
-        «has_top» = a; «has_header_rule» = b; «has_row_rule» = c; «has_bottom» = d;
-      })
-      (lookOf S)
+    (record {
+      top = top;
+      «header_lines» = head;
+      «header_rule» = header;
+      «content_lines» = text;
+      «row_rule» = row;
+      bottom = bottom;
+      «has_top» = a;
+      «has_header_rule» = b;
+      «has_row_rule» = c;
+      «has_bottom» = d;
+    })
+    (lookOf S)
 unfolding lookOf
 look-is S y joined top header row bottom head text a b c d e f g h i j k l m n o p = rw (g, h, i, j, k, l, f, m, n, o, p, e)
 
@@ -144,7 +151,7 @@ module _ (t : Table) (marks : Indicator) (j : ℕ) (view : View) (S : Showing t 
           let b = S .few in
           rw k (getD-set-same (view .columns) (view .count) v noShown (omega arith) ∙ (e ∙ ap (shownOf t (contents t)) (sym (getD-at (visibleTo t j) j [] 0 (view .count) (sym (S .count))))))
 
-  -- and column j is
+  -- column j has been looked at too
   pub showing-on : (c : Column) (w d : ℕ) (u : View) → j < 12 → c ≡ columnAt t j → w ≡ getD (contents t) j 0 → d ≡ orElse (t .delimiter) 32 → u ≡ showing view j c w d → Showing t marks (j + 1) u
   unfolding showing
   showing-on c w d u l e f g h =
@@ -157,7 +164,7 @@ module _ (t : Table) (marks : Indicator) (j : ℕ) (view : View) (S : Showing t 
       go true p v = skipped p
       go false p v = added l p (shownFrom j c w d) v
 
--- what is read for column j
+-- what was read: how many columns, column j's content width, the delimiter where a column sets none
 pub columns-count : (t : Table) (x : Columns) → x ≡ columnsOf t → x .count ≡ length (t .columns)
 unfolding columnsOf
 columns-count t x e = rw e

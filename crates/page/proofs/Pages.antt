@@ -1,23 +1,22 @@
 -- A page's lines counted, sought and written one after another. Assumes nothing.
-use Prim.Native.Nat.{ℕ, zero, suc, _+_, _-_, _≤_, _<_}
+use Prim.Native.Nat.{ℕ, _+_, _-_, _≤_, _<_}
 use mathlib.Core.Path.{_≡_, refl, sym, ap, _∙_}
-use mathlib.Core.List.{List, [], _∷_, _++_}
+use mathlib.Core.List.{List, [], _++_}
 use mathlib.Core.Bool.{Bool, true, false, not}
 use native.Mathlib.Omega.{arith}
-use lib.ListN.{length, take, drop, getD, length-append, length-drop, length-take}
+use lib.ListN.{length, take, drop, length-append, length-drop}
 use lib.Seq.{drop-drop, drop-at, take-at, take-add, take-all, length-take-le}
-use Rattle.rules.specs.Page.{closed, lineCount, byteCount, page as pageOf, pageLines}
+use Rattle.rules.specs.Page.{closed, lineCount, byteCount, page as pageOf}
 use Rattle.rules.proofs.Sizes.{closed-first}
 use Rattle.rules.proofs.Counts.{line-count-bound, byte-count-bound}
 use Rattle.sheet.specs.Held.{tableOf}
 use Rattle.buffer.specs.Put.{over, putAt}
-use Rattle.buffer.proofs.Laws.{over-put, length-over, length-put}
+use Rattle.buffer.proofs.Laws.{over-put, length-over}
 use Rattle.page.specs.Ahead.{ahead, allLines, headLine, Ahead, At, Opened, isEnd}
 use Rattle.page.specs.Count.{SoughtIs}
 use Rattle.page.specs.declared.cursor.Page.{Page}
 use Rattle.page.specs.declared.cursor.Cursor.{Cursor}
-use Rattle.page.specs.declared.lines.Sought.{Sought}
-use Rattle.page.proofs.Count.{end-lines, some-lines, limits-of}
+use Rattle.page.proofs.LineLengths.{end-lines, some-lines, limits-of}
 
 -- ---- the next line and those after it
 
@@ -28,7 +27,7 @@ first-bytes s c h = closed-first (ahead s c) h
 first-length : (s : List ℕ) (c : Cursor) → 0 < length (ahead s c) → length (closed (ahead s c)) ≡ length (headLine s c) + length (closed (drop 1 (ahead s c)))
 first-length s c h = ap length (first-bytes s c h) ∙ length-append (headLine s c) (closed (drop 1 (ahead s c)))
 
-closed-none : closed [] ≡ []
+pub closed-none : closed [] ≡ []
 unfolding closed
 closed-none = refl
 
@@ -120,9 +119,12 @@ module _ (s : List ℕ) (p : Page) (page₀ B page : List ℕ) (c : Cursor) (at 
   pub writing-room : at + length (headLine s c) ≤ length B
   writing-room = omega (arith, w .within, length-drop at B, ap length next-bytes, length-append (headLine s c) (closed (drop 1 (ahead s c))))
 
+  pub writing-taken : (n : ℕ) → n ≡ length (headLine s c) → take (at + n) B ≡ take at B ++ headLine s c
+  writing-taken n en = take-add at n B ∙ ap (λ l. take at B ++ take n l) next-bytes ∙ ap (λ l. take at B ++ l) (take-at (headLine s c) (closed (drop 1 (ahead s c))) n (sym en))
+
   pub writing-on : (r : Cursor) (n : ℕ) (page' : List ℕ) → Ahead s p r (drop 1 (ahead s c)) → n ≡ length (headLine s c) → page' ≡ putAt page at (headLine s c) → at + n ≤ length page₀ → Writing s p page₀ B page' r (at + n)
   writing-on r n page' A en ep k =
-      let t : take (at + n) B ≡ take at B ++ headLine s c = take-add at n B ∙ ap (λ l. take at B ++ take n l) next-bytes ∙ ap (λ l. take at B ++ l) (take-at (headLine s c) (closed (drop 1 (ahead s c))) n (sym en)) in
+      let t = writing-taken n en in
       let d : page' ≡ over (take (at + n) B) page₀ =
       ep ∙ ap (λ q. putAt q at (headLine s c)) (w .done) ∙ over-put (take at B) page₀ (headLine s c) at (length-take-le at B (w .within)) ∙ ap (λ l. over l page₀) (sym t) in
       record {

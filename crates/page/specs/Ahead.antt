@@ -1,12 +1,12 @@
 -- The lines that a cursor has before it. Assumes nothing.
-use Prim.Native.Nat.{ℕ, zero, suc, _+_, _≤_, _<_}
+use Prim.Native.Nat.{ℕ, _+_, _≤_, _<_}
 use mathlib.Core.Path.{_≡_}
 use mathlib.Core.List.{List, [], _∷_, _++_}
-use mathlib.Core.Bool.{Bool, true, false, _||_}
+use mathlib.Core.Bool.{Bool, true, false}
 use lib.ListN.{length, drop, getD}
 use Rattle.rules.specs.Text.{All}
 use Rattle.rules.specs.Limits.{RowLimits}
-use Rattle.rules.specs.Sheet.{Row, Table}
+use Rattle.rules.specs.Sheet.{Row}
 use Rattle.rules.specs.Style.{topBorder, headerLines, headerRule, contentLines, rowRule, bottomBorder, anyJunction, isVisible}
 use Rattle.rules.specs.Widths.{contents}
 use Rattle.rules.specs.Page.{visibleWidths, height, rowText, ruled, shown, headed, ruledRows, ruledMore, pageLines}

@@ -1,3 +1,4 @@
 pub mod Ahead
 pub mod Count
 pub mod Opening
+pub mod Several

@@ -4,9 +4,13 @@ pub mod lines;
 pub mod open;
 
 ghost use mathlib.Core.Path.{_≡_};
+ghost use mathlib.Core.List.{[]};
 ghost use Rattle.rules.specs.Calls as calls;
+ghost use Rattle.page.specs.Several.{printLines, turned};
 use rules::Checked;
+use rules::Counted;
 use rules::Measured;
+use rules::Printed;
 
 // Number and place of the first refusal from the input, both 0 where the sheet is accepted.
 pub fn check(sheet: &[u8]) -> Checked
@@ -38,5 +42,136 @@ pub fn widths(sheet: &[u8]) -> Measured
         columns: found.count as u64,
         content,
         hidden,
+    }
+}
+
+// The page's line count and byte count; of a refused sheet, number and place.
+pub fn count(sheet: &[u8]) -> Counted
+    ensures { λ r. ⌜ r ≡ calls.count (now (sheet .entry)) ⌝ }
+{
+    let checked = sheet::check(sheet);
+    if checked.number != 0 {
+        return Counted {
+            number: checked.number,
+            place: checked.place,
+            lines: 0,
+            bytes: 0,
+        };
+    }
+    let p = open::open(sheet);
+    let totals = lines::count_lines(sheet, p);
+    Counted {
+        number: 0,
+        place: 0,
+        lines: totals.lines as u64,
+        bytes: totals.bytes as u64,
+    }
+}
+
+// An answer that writes nothing.
+fn turned_down(number: u64, place: u64) -> Printed
+    ensures { λ r. ⌜ r ≡ calls.turned number place [] .answer ⌝ }
+{
+    Printed {
+        number,
+        place,
+        written: 0,
+    }
+}
+
+// The page over the buffer's start. It is counted before it is written, so that a short buffer keeps every byte.
+pub fn print_page(sheet: &[u8], page: &mut [u8]) -> Printed
+    ensures { λ r. ⌜ r ≡ calls.printPage (now (sheet .entry)) (now (page .entry)) .answer ⌝ }
+    ensures { λ _. ⌜ now (page .exit) ≡ calls.printPage (now (sheet .entry)) (now (page .entry)) .buffer ⌝ }
+{
+    let checked = sheet::check(sheet);
+    if checked.number != 0 {
+        return turned_down(checked.number, checked.place);
+    }
+    let p = open::open(sheet);
+    let totals = lines::count_lines(sheet, p);
+    if page.len() < totals.bytes {
+        return turned_down(20, totals.bytes as u64);
+    }
+    let written = lines::write_page(page, sheet, p);
+    Printed {
+        number: 0,
+        place: 0,
+        written: written as u64,
+    }
+}
+
+// Line k over the buffer's start: the lines before it are passed over, and none of them is drawn.
+pub fn print_line(sheet: &[u8], line: usize, page: &mut [u8]) -> Printed
+    ensures { λ r. ⌜ r ≡ calls.printLine (now (sheet .entry)) line (now (page .entry)) .answer ⌝ }
+    ensures { λ _. ⌜ now (page .exit) ≡ calls.printLine (now (sheet .entry)) line (now (page .entry)) .buffer ⌝ }
+{
+    let checked = sheet::check(sheet);
+    if checked.number != 0 {
+        return turned_down(checked.number, checked.place);
+    }
+    let p = open::open(sheet);
+    let sought = lines::seek(sheet, p, line);
+    let c = sought.cursor;
+    if lines::is_end(c) {
+        return turned_down(21, sought.passed as u64);
+    }
+    let needed = lines::next_length(sheet, p, c);
+    if page.len() < needed {
+        return turned_down(20, needed as u64);
+    }
+    let d = cursor::draw(page, sheet, p, c);
+    Printed {
+        number: 0,
+        place: 0,
+        written: d.written as u64,
+    }
+}
+
+// What the call for several lines answers: beside the bytes written, the number of the line after them.
+#[repr(C)]
+pub struct PrintedLines {
+    pub number: u64,
+    pub place: u64,
+    pub written: u64,
+    pub next: u64,
+}
+
+fn no_lines(number: u64, place: u64) -> PrintedLines
+    ensures { λ r. ⌜ r ≡ turned number place [] .answer ⌝ }
+{
+    PrintedLines {
+        number,
+        place,
+        written: 0,
+        next: 0,
+    }
+}
+
+// Lines from line k on over the buffer's start, as many whole ones as it holds.
+pub fn print_lines(sheet: &[u8], line: usize, page: &mut [u8]) -> PrintedLines
+    ensures { λ r. ⌜ r ≡ printLines (now (sheet .entry)) line (now (page .entry)) .answer ⌝ }
+    ensures { λ _. ⌜ now (page .exit) ≡ printLines (now (sheet .entry)) line (now (page .entry)) .buffer ⌝ }
+{
+    let checked = sheet::check(sheet);
+    if checked.number != 0 {
+        return no_lines(checked.number, checked.place);
+    }
+    let p = open::open(sheet);
+    let sought = lines::seek(sheet, p, line);
+    let c = sought.cursor;
+    if lines::is_end(c) {
+        return no_lines(21, sought.passed as u64);
+    }
+    let needed = lines::next_length(sheet, p, c);
+    if page.len() < needed {
+        return no_lines(20, needed as u64);
+    }
+    let wrote = lines::write_lines(page, sheet, p, c);
+    PrintedLines {
+        number: 0,
+        place: 0,
+        written: wrote.bytes as u64,
+        next: (line + wrote.lines) as u64,
     }
 }

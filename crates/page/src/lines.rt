@@ -11,7 +11,8 @@ ghost use Rattle.buffer.specs.Put.{over};
 ghost use Rattle.sheet.specs.Held.{tableOf};
 ghost use Rattle.formatting.specs.Line.{shownAt};
 ghost use Rattle.page.specs.Ahead.{widthsIn, Opened, Ahead, At, ahead, allLines, headLine, isEnd};
-ghost use Rattle.page.specs.Count.{widthUpTo, LengthsAre, SoughtIs};
+ghost use Rattle.page.specs.Count.{widthUpTo, LengthsAre, SoughtIs, Wrote};
+ghost use Rattle.page.specs.Several.{fitting};
 use crate::cursor;
 use crate::cursor::Cursor;
 use crate::cursor::Page;
@@ -172,5 +173,44 @@ pub fn seek(sheet: &[u8], p: Page, k: usize) -> Sought
     Sought {
         cursor: c,
         passed: i,
+    }
+}
+
+// The length of a page's next line, its 0A included.
+pub fn next_length(sheet: &[u8], p: Page, c: Cursor) -> usize
+    requires { ⌜ Opened (now sheet) p × (At (now sheet) p c × (isEnd (c .stage) ≡ Bool.false)) ⌝ }
+    ensures { λ r. ⌜ r ≡ length (headLine (now (sheet .entry)) c) ⌝ }
+{
+    let l = measure_lines(sheet, p);
+    line_length(sheet, p, l, c)
+}
+
+// Lines from the cursor's on, one after another, as long as the next one fits.
+pub fn write_lines(page: &mut [u8], sheet: &[u8], p: Page, first: Cursor) -> Totals
+    requires { ⌜ Opened (now sheet) p × At (now sheet) p first ⌝ }
+    requires { ⌜ length (ahead (now sheet) first) ≤ 1000000 ⌝ }
+    ensures { λ r. ⌜ Wrote (now (sheet .entry)) first (now (page .entry)) r ⌝ }
+    ensures { λ _. ⌜ now (page .exit) ≡ over (closed (fitting (length (now (page .entry))) (ahead (now (sheet .entry)) first))) (now (page .entry)) ⌝ }
+{
+    let l = measure_lines(sheet, p);
+    let mut c = first;
+    let mut at: usize = 0;
+    let mut i: usize = 0;
+    while !is_end(c) {
+        let n = line_length(sheet, p, l, c);
+        if page.len() - at < n {
+            return Totals {
+                lines: i,
+                bytes: at,
+            };
+        }
+        let d = cursor::draw(&mut page[at..], sheet, p, c);
+        at += d.written;
+        c = d.cursor;
+        i += 1;
+    }
+    Totals {
+        lines: i,
+        bytes: at,
     }
 }

@@ -1,9 +1,7 @@
 use native.Mathlib.Omega.{arith}
-use mathlib.Core.Path.{sym, _∙_}
-use denote.Ref.{now}
 use lib.ListN.{length}
 use Rattle.page.specs.Ahead.{ahead}
-use Rattle.page.proofs.Pages.{going, gone, Counting, counting-begin, counting-on, counting-less, lines-small, bytes-small, bytes-on-small, all-lines, whole-bytes}
+use Rattle.page.proofs.Pages.{going, gone, Counting, counting-begin, counting-on, counting-less, lines-small, bytes-on-small, all-lines, whole-bytes}
 use Rattle.page.proofs.lines.count_lines.Statement.{statement}
 use Rattle.page.proofs.lines.count_lines.Tie as tie
 

@@ -1,10 +1,9 @@
 use native.Mathlib.Omega.{arith}
 use Prim.Native.Nat.{ℕ}
 use mathlib.Core.Path.{_≡_, sym, ap, _∙_}
-use mathlib.Core.Bool.{true, false}
 use Rattle.page.specs.Ahead.{isEnd}
 use denote.Ref.{now}
-use Rattle.page.proofs.Count.{top-length, header-length, header-rule-length, text-line-length, row-rule-length, bottom-length}
+use Rattle.page.proofs.LineLengths.{top-length, header-length, header-rule-length, text-line-length, row-rule-length, bottom-length}
 use borrow.Author.Needs.{needs}
 use Rattle.page.proofs.lines.line_length.Statement.{statement}
 use Rattle.page.proofs.lines.line_length.Tie as tie

@@ -1,6 +1,6 @@
 use denote.Ref.{now}
 use native.Mathlib.Omega.{arith}
-use Rattle.page.proofs.Count.{lengths-are}
+use Rattle.page.proofs.LineLengths.{lengths-are}
 use borrow.Author.Needs.{needs}
 use Rattle.page.proofs.lines.measure_lines.Statement.{statement}
 use Rattle.page.proofs.lines.measure_lines.Tie as tie

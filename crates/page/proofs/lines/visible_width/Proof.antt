@@ -1,8 +1,8 @@
 use native.Mathlib.Omega.{arith}
-use Prim.Native.Nat.{ℕ, _+_, _*_, _-_, _≤_}
-use mathlib.Core.Path.{_≡_, sym, _∙_}
+use Prim.Native.Nat.{_*_, _-_, _≤_}
+use mathlib.Core.Path.{_≡_}
 use Rattle.page.specs.Count.{widthUpTo}
-use Rattle.page.proofs.Count.{width-none, width-on, width-done}
+use Rattle.page.proofs.LineLengths.{width-none, width-on, width-done}
 use Rattle.page.proofs.lines.visible_width.Statement.{statement}
 use Rattle.page.proofs.lines.visible_width.Tie as tie
 use Rattle.page.proofs.lines.visible_width.Reads as reads

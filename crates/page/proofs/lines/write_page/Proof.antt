@@ -1,6 +1,6 @@
 use native.Mathlib.Omega.{arith}
 use Prim.Native.Nat.{_+_, _≤_, _<_}
-use mathlib.Core.Path.{sym, ap, _∙_}
+use mathlib.Core.Path.{ap, _∙_}
 use denote.Ref.{now}
 use lib.ListN.{length, length-drop}
 use borrow.Author.Needs.{needs}
@@ -8,7 +8,7 @@ use Rattle.rules.specs.Page.{closed}
 use Rattle.buffer.specs.Put.{over}
 use Rattle.buffer.proofs.Laws.{lent, lent-back}
 use Rattle.page.specs.Ahead.{ahead, allLines, headLine}
-use Rattle.page.proofs.Count.{some-lines}
+use Rattle.page.proofs.LineLengths.{some-lines}
 use Rattle.page.proofs.Pages.{going, gone, Writing, writing-begin, writing-room, writing-on, writing-all, writing-done, cursor-less, all-bytes, page-bytes}
 use Rattle.page.proofs.lines.write_page.Statement.{statement}
 use Rattle.page.proofs.lines.write_page.Tie as tie

@@ -2,7 +2,7 @@
 use Prim.Native.Nat.{ℕ, zero, suc, _+_, _-_, _≤_, _<_}
 use mathlib.Core.Path.{_≡_, refl, sym, ap, _∙_}
 use mathlib.Core.List.{List, [], _∷_, _++_, map}
-use mathlib.Core.Bool.{Bool, true, false, cond, _||_}
+use mathlib.Core.Bool.{Bool, true, false, cond}
 use native.Mathlib.Omega.{arith}
 use native.Mathlib.Numerals.{add-one}
 use lib.ListN.{length, drop, getD, length-append, length-drop}
@@ -20,7 +20,6 @@ use Rattle.rules.proofs.Numbers.{checked-reading}
 use Rattle.sheet.specs.Held.{Passes, tableOf}
 use Rattle.sheet.specs.Walk.{rowsIn, firstRow}
 use Rattle.formatting.specs.Line.{shownAt}
-use Rattle.formatting.specs.Rule.{NarrowAll}
 use Rattle.formatting.specs.Stand.{Views, shownOf, numberOf, ruleStyleOf}
 use Rattle.formatting.specs.declared.content_format.View.{View}
 use Rattle.formatting.proofs.Whole.{map-numbered}
