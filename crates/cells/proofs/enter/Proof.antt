@@ -217,9 +217,7 @@ enter-spec =
           .wide
           .ensures
           .0)
-          (c
-          .if1
-          .taken),
+          (omega (arith, c .if1 .taken)),
       omega (
         arith,
         b
@@ -280,9 +278,7 @@ enter-spec =
           .wide
           .ensures
           .0)
-          (c
-          .if1
-          .left),
+          (omega (arith, c .if1 .left)),
       omega (
         arith,
         b
