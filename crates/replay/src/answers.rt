@@ -25,7 +25,7 @@ pub fn differs(answer: &[u8], same: bool) -> u64 {
         return 0;
     }
     io::write_all(STDOUT_FILENO, answer);
-    io::write_all(STDOUT_FILENO, b" differs ");
+    io::write_all(STDOUT_FILENO, b" differs, ");
     1
 }
 

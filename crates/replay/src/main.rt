@@ -28,7 +28,7 @@ struct Replayed {
     next: usize,
 }
 
-// The stored answers take 151,987 bytes. Were they cut short here, the totals would show it.
+// The stored answers take 151,987 bytes. Were they cut short here, the totals written would show it.
 fn text_space() -> [u8; 200000]
     ensures { λ r. ⌜ 200000 ≡ length r ⌝ }
 {
@@ -140,6 +140,9 @@ fn main() {
     let n = io::read_full(STDIN_FILENO, &mut text);
     let mut buffer = page_space();
     let t = replay_all(&text[..n], &mut buffer);
+    // a byte past the end reads as 0, so that an end cut off shows here alone
+    io::print_decimal(STDOUT_FILENO, n as u64);
+    io::write_all(STDOUT_FILENO, b" bytes, ");
     io::print_decimal(STDOUT_FILENO, t.sheets);
     io::write_all(STDOUT_FILENO, b" sheets, ");
     io::print_decimal(STDOUT_FILENO, t.lines);
