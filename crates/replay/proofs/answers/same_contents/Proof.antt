@@ -1,0 +1,28 @@
+-- `replay::answers::same_contents` meets its contract. The loop: i is at most 12. Assumes nothing.
+use borrow.Author.Needs.{needs}
+use Prim.Native.Nat.{_-_, _≤_}
+use Rattle.replay.proofs.answers.same_contents.Statement.{statement}
+use Rattle.replay.proofs.answers.same_contents.Tie as tie
+
+abbrev Inv-loop : tie.InvT-loop
+Inv-loop text widths columns content i₀ i = i ≤ 12
+
+abbrev μ-loop : tie.MeasureT-loop
+μ-loop text widths columns content i₀ i = 12 - i
+
+pub same-contents-spec : {M : Type 1} → statement M
+same-contents-spec =
+    tie.close
+    (tie.spec
+    Inv-loop
+    μ-loop
+    (λ c. search needs)
+    (λ c. search needs)
+    (λ c. search needs)
+    (λ c κs. search needs)
+    (λ c κs. search needs)
+    (λ c. search needs)
+    (λ c. search needs)
+    (λ c. search needs)
+    (λ c. search needs)
+    (λ c. search needs))
