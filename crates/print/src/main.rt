@@ -39,15 +39,8 @@ fn part(sheet: &[u8], line: usize, lines: usize, space: &mut [u8]) -> usize
         return lines;
     }
     let written = printed.written as usize;
-    let next = printed.next as usize;
-    if space.len() < written {
-        return lines;
-    }
-    if next <= line {
-        return lines;
-    }
     if io::write_all(STDOUT_FILENO, &space[..written]) {
-        return next;
+        return printed.next as usize;
     }
     lines
 }

@@ -2,6 +2,7 @@
 use lib.Seq.{length-take-le}
 use mathlib.Core.Path.{sym}
 use borrow.Author.Needs.{needs}
+use Rattle.print.proofs.Parts.{part-fits, part-on}
 use Rattle.print.proofs.part.Statement.{statement}
 use Rattle.print.proofs.part.Tie as tie
 
@@ -13,14 +14,10 @@ part-spec =
     (λ c κs. search needs)
     (λ c. search needs)
     (λ c. search needs)
-    (λ c. search needs)
-    (λ c. search needs)
-    (λ c. search needs)
-    (λ c. search needs)
-    (λ c. search needs)
-    (λ c. sym (length-take-le _ _ (search needs)))
+    (λ c. search (needs, part-fits))
+    (λ c. sym (length-take-le _ _ (search (needs, part-fits))))
     (λ c κs. search needs)
     (λ c. search needs)
-    (λ c. search needs)
+    (λ c. search (needs, part-on))
     (λ c. search needs)
     (λ c. search needs))
