@@ -1,5 +1,5 @@
 -- What stands ready for a row is what the document's rules say: its lines, its cut, its height. Assumes nothing.
-use Prim.Native.Nat.{ℕ, zero, suc, _+_, _-_, _<_}
+use Prim.Native.Nat.{ℕ, zero, suc, _+_, _-_, _≤_, _<_}
 use mathlib.Core.Path.{_≡_, refl, sym, ap, _∙_}
 use mathlib.Core.List.{List, [], _∷_, _++_}
 use mathlib.Core.Bool.{Bool, true, false, _&&_}
@@ -7,7 +7,7 @@ use native.Mathlib.Omega.{arith}
 use lib.ListN.{length, take, drop, getD, length-append, length-drop, List·getD-append}
 use lib.Seq.{drop-drop, getD-drop, getD-at, getD-take, length-take-le}
 use lib.Dec.{ltb, eqb}
-use borrow.Author.Tests.{ltb-true, ltb-false, lt-ltb, le-ltb, eqb-true, eqb-false}
+use borrow.Author.Tests.{ltb-true, ltb-false, lt-ltb, le-ltb, eq-eqb, ne-eqb, eqb-true, eqb-false}
 use Rattle.rules.specs.Sheet.{Row, Table, columnAt, cellAt}
 use Rattle.rules.specs.Wrap.{exceeds, cutLine, cut}
 use Rattle.rules.specs.Page.{area, areaAt, alignmentOf, wrapped, cellLines, height}
@@ -148,6 +148,24 @@ cut-has w ind (suc h) j ls = go (ltb (suc h) (length ls)) refl (ltb j (suc h)) r
         more false e l = e
     go false f true g = refl
     go false f false g = let a = ltb-false j (suc h) g in let l = ltb-false (suc h) (length ls) f in le-ltb j (length ls) (omega arith)
+
+-- ---- the limit, exit by exit
+
+pub stays-out : (limit line : ℕ) (more : Bool) → (limit ≡ 0 → ⊥) → limit - 1 ≤ line → false ≡ (inLimit limit (line + 1) && more)
+stays-out zero line more h k = absurd (h refl)
+stays-out (suc l) line more h k = let e : ltb (line + 1) (suc l) ≡ false = le-ltb (line + 1) (suc l) (omega arith) in rw e
+
+pub stays-in : (limit line : ℕ) (more : Bool) → (limit ≡ 0 → ⊥) → line < limit - 1 → more ≡ (inLimit limit (line + 1) && more)
+stays-in zero line more h k = absurd (h refl)
+stays-in (suc l) line more h k = let e : ltb (line + 1) (suc l) ≡ true = lt-ltb (line + 1) (suc l) (omega arith) in rw e
+
+pub last-line : (limit line : ℕ) → (limit ≡ 0 → ⊥) → eqb line (limit - 1) ≡ lastOf limit line
+last-line zero line h = absurd (h refl)
+last-line (suc l) line h = go (eqb line (suc l - 1)) refl
+  where
+    go : (b : Bool) → eqb line (suc l - 1) ≡ b → eqb line (suc l - 1) ≡ eqb (line + 1) (suc l)
+    go true e = let q = eqb-true line (suc l - 1) e in e ∙ sym (eq-eqb (line + 1) (suc l) (omega arith))
+    go false e = let q = eqb-false line (suc l - 1) e in e ∙ sym (ne-eqb (line + 1) (suc l) (λ x. q (omega arith)))
 
 -- ---- one column of a row
 

@@ -19,10 +19,12 @@ use Rattle.formatting.specs.Area.{columnPiece}
 use Rattle.formatting.specs.Line.{lead, shownAt, standingAt, indicatorOf, linePiece, lineBytes, anyFound, AfterAll, ReadyAll}
 use Rattle.formatting.specs.Rule.{ruleArea, rulePiece, ruleBytes}
 use Rattle.formatting.specs.Open.{OpenedAt, OpenedRow}
+use Rattle.formatting.specs.RowText.{styled}
 use Rattle.formatting.specs.Stand.{shownOf, numberOf, Views, StandsCell, StandsRow, inLimit, lastOf, textStyleOf, ruleStyleOf}
 use Rattle.formatting.specs.declared.content_format.Shown.{Shown}
 use Rattle.formatting.specs.declared.content_format.Standing.{Standing}
 use Rattle.formatting.specs.declared.content_format.View.{View}
+use Rattle.formatting.specs.declared.content_format.TextStyle.{TextStyle}
 use Rattle.formatting.proofs.Stand.{piece-area, stands-found, cut-has, stands-on}
 
 -- ---- parts one after another, with a junction between each two
@@ -84,18 +86,26 @@ edge-same false c = refl
 
 -- ---- a text line
 
+-- a line drawn by the characters at k is the document's
+pub styled-text : (S : List ℕ) (k : ℕ) (ps : List (List ℕ)) → styled (textStyleOf S k) ps ≡ textLine S k ps
+unfolding styled textStyleOf textLine
+styled-text S k ps = rw (edge-same (anyLeft S) (glyphAt S k), edge-same (anyJunction S) (glyphAt S (k + 1)), edge-same (anyRight S) (glyphAt S (k + 2)))
+
 module _ (s : List ℕ) (t : Table) (ws : List ℕ) (r : Row) (view : View) (W : Views t ws view) (j : ℕ) (ts : List Standing) (R : StandsRow s t ws r view j ts) where
+  pub line-styled : (y : TextStyle) → inLimit (r .limit) j ≡ true
+      → lineBytes s view y ts (lastOf (r .limit) j) ≡ styled y (map (areaAt t ws r j) (visible t)) ++ (10 ∷ [])
+  unfolding lineBytes linePiece styled lineOf
+  line-styled y e =
+      let g : ℕ → List ℕ = λ i. areaAt t ws r j (numberOf t i) in
+      let p : build (λ i. edge (lead i (y .joined)) (y .junction) ++ columnPiece s (shownAt view i) (standingAt ts i) (indicatorOf view) (lastOf (r .limit) j)) (view .count)
+      ≡ build (λ i. edge (lead i (y .joined)) (y .junction) ++ g i) (view .count) =
+      build-same _ _ (view .count) (λ i h. ap (λ l. edge (lead i (y .joined)) (y .junction) ++ l) (piece-area s t ws r view W j i (standingAt ts i) h (R .each i h) e)) in
+      let q : map (areaAt t ws r j) (visible t) ≡ map g (upFrom 0 (view .count)) = map-numbered (areaAt t ws r j) 0 (visible t) ∙ ap (λ n. map g (upFrom 0 n)) (sym (W .count)) in
+      rw (p, build-joined (y .joined) (y .junction) g (view .count), q) (simp append-assoc)
+
   pub line-drawn : (S : List ℕ) (k : ℕ) → inLimit (r .limit) j ≡ true
       → lineBytes s view (textStyleOf S k) ts (lastOf (r .limit) j) ≡ textLine S k (map (areaAt t ws r j) (visible t)) ++ (10 ∷ [])
-  unfolding lineBytes linePiece textStyleOf textLine lineOf
-  line-drawn S k e =
-      let g : ℕ → List ℕ = λ i. areaAt t ws r j (numberOf t i) in
-      let p : build (λ i. edge (lead i (anyJunction S)) (glyph (glyphAt S (k + 1))) ++ columnPiece s (shownAt view i) (standingAt ts i) (indicatorOf view) (lastOf (r .limit) j)) (view .count)
-      ≡ build (λ i. edge (lead i (anyJunction S)) (glyph (glyphAt S (k + 1))) ++ g i) (view .count) =
-      build-same _ _ (view .count) (λ i h. ap (λ l. edge (lead i (anyJunction S)) (glyph (glyphAt S (k + 1))) ++ l) (piece-area s t ws r view W j i (standingAt ts i) h (R .each i h) e)) in
-      let q : map (areaAt t ws r j) (visible t) ≡ map g (upFrom 0 (view .count)) = map-numbered (areaAt t ws r j) 0 (visible t) ∙ ap (λ n. map g (upFrom 0 n)) (sym (W .count)) in
-      rw (p, build-joined (anyJunction S) (glyph (glyphAt S (k + 1))) g (view .count), q, edge-same (anyLeft S) (glyphAt S k), edge-same (anyJunction S) (glyphAt S (k + 1)), edge-same (anyRight S) (glyphAt S (k + 2)))
-      (simp append-assoc)
+  line-drawn S k e = line-styled (textStyleOf S k) e ∙ ap (λ l. l ++ (10 ∷ [])) (styled-text S k (map (areaAt t ws r j) (visible t)))
 
 -- ---- a border or a rule
 

@@ -1,6 +1,6 @@
 // The text lines of a row, drawn one after another. A cell's next wrapped line is found one line ahead, so that each is found once.
 ghost use mathlib.Core.Path.{_≡_};
-ghost use mathlib.Core.List.{_++_};
+ghost use mathlib.Core.List.{[], _∷_, _++_};
 ghost use mathlib.Core.Bool.{_&&_, _||_};
 ghost use Prim.Native.Nat.{ℕ, _+_, _-_, _≤_, _<_, min};
 ghost use lib.ListN.{length, take};
@@ -10,8 +10,13 @@ ghost use Rattle.buffer.specs.Put.{over, putAt, edge};
 ghost use Rattle.cells.specs.Cell.{rest, Inside};
 ghost use Rattle.formatting.specs.Area.{areaIn, marksShown, shownText, InSheet, After, columnPiece};
 ghost use Rattle.formatting.specs.Line.{lead, lineBytes, ReadyAll, AfterAll, anyFound};
+ghost use Rattle.formatting.specs.Stand.{inLimit, lastOf};
+ghost use Rattle.formatting.specs.RowText.{Drawable, rowBytes};
+use crate::row;
 use cells::CellCursor;
 use sheet::records::Indicator;
+use sheet::records::Rows;
+use sheet::walk;
 
 // A visible column as it is drawn: its number in the sheet, its content width and paddings, and what a cell takes that chooses nothing.
 pub struct Shown {
@@ -260,6 +265,96 @@ pub fn draw_text_line(
         standings: ts,
         more,
     }
+}
+
+// A row goes on to its next line if one stands ready and the limit leaves it.
+pub fn stays(limit: usize, line: usize, more: bool) -> bool
+    ensures { λ r. ⌜ r ≡ (inLimit limit (line + 1) && more) ⌝ }
+{
+    if limit == 0 {
+        return more;
+    }
+    if limit - 1 <= line {
+        return false;
+    }
+    more
+}
+
+// The last line that the limit leaves.
+pub fn is_last(limit: usize, line: usize) -> bool
+    ensures { λ r. ⌜ r ≡ lastOf limit line ⌝ }
+{
+    if limit == 0 {
+        return false;
+    }
+    line == limit - 1
+}
+
+// A line's right edge and its 0A.
+fn close_line(page: &mut [u8], at: usize, style: TextStyle) -> usize
+    requires { ⌜ at + (length (edge (style .closes) (style .right)) + 1) ≤ length (now page) ⌝ }
+    ensures { λ r. ⌜ r ≡ at + (length (edge (style .closes) (style .right)) + 1) ⌝ }
+    ensures { λ _. ⌜ now (page .exit) ≡ putAt (now (page .entry)) at (edge (style .closes) (style .right) ++ (10 ∷ [])) ⌝ }
+{
+    let e = buffer::draw_edge(page, at, style.closes, style.right);
+    page[e] = 10;
+    e + 1
+}
+
+// A row's text lines at the start of the page. Its cells' lines are kept in one array that every line changes in place: a function for
+// a line would copy it in and out, which takes longer than to draw a short line.
+pub fn draw_row(
+    page: &mut [u8],
+    sheet: &[u8],
+    view: View,
+    style: TextStyle,
+    here: Rows,
+) -> usize
+    requires { ⌜ Drawable (now sheet) view here ⌝ }
+    requires { ⌜ length (rowBytes (now sheet) style here) ≤ length (now page) ⌝ }
+    ensures { λ r. ⌜ r ≡ length (rowBytes (now (sheet .entry)) style here) ⌝ }
+    ensures { λ _. ⌜ now (page .exit) ≡ over (rowBytes (now (sheet .entry)) style here) (now (page .entry)) ⌝ }
+{
+    let r = walk::row(sheet, here);
+    let cells = r.cells;
+    let opened = row::format_row(sheet, view, cells);
+    let mut ts = opened.standings;
+    let mut more = opened.more;
+    let indicator = view.indicator;
+    let n = view.count;
+    let mut at: usize = 0;
+    let mut line: usize = 0;
+    while more {
+        let last = is_last(r.limit, line);
+        at = buffer::draw_edge(page, at, style.opens, style.left);
+        let mut found = false;
+        let mut i: usize = 0;
+        while i < n {
+            let v = view.columns[i];
+            let t = ts[i];
+            let joins = joins_before(i, style.joined);
+            let d = draw_column(
+                page,
+                at,
+                sheet,
+                v,
+                t,
+                indicator,
+                last,
+                joins,
+                style.junction,
+            );
+            at = d.at;
+            let u = d.standing;
+            found = either(found, u.found);
+            ts[i] = u;
+            i += 1;
+        }
+        at = close_line(page, at, style);
+        more = stays(r.limit, line, found);
+        line += 1;
+    }
+    at
 }
 
 // The next lines of a row's cells, with nothing drawn.

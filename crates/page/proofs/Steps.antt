@@ -26,24 +26,6 @@ use Rattle.page.specs.declared.cursor.Stage.{Stage}
 use Rattle.page.specs.declared.cursor.Stage.the-variants.{Top, Header, HeaderRule, Text, Rule, Bottom, End}
 use Rattle.page.proofs.Ahead.{rows-split, text-count, text-none}
 
--- ---- the limit, exit by exit
-
-pub stays-out : (limit line : ℕ) (more : Bool) → (limit ≡ 0 → ⊥) → limit - 1 ≤ line → false ≡ (inLimit limit (line + 1) && more)
-stays-out zero line more h k = absurd (h refl)
-stays-out (suc l) line more h k = let e : ltb (line + 1) (suc l) ≡ false = le-ltb (line + 1) (suc l) (omega arith) in rw e
-
-pub stays-in : (limit line : ℕ) (more : Bool) → (limit ≡ 0 → ⊥) → line < limit - 1 → more ≡ (inLimit limit (line + 1) && more)
-stays-in zero line more h k = absurd (h refl)
-stays-in (suc l) line more h k = let e : ltb (line + 1) (suc l) ≡ true = lt-ltb (line + 1) (suc l) (omega arith) in rw e
-
-pub last-line : (limit line : ℕ) → (limit ≡ 0 → ⊥) → eqb line (limit - 1) ≡ lastOf limit line
-last-line zero line h = absurd (h refl)
-last-line (suc l) line h = go (eqb line (suc l - 1)) refl
-  where
-    go : (b : Bool) → eqb line (suc l - 1) ≡ b → eqb line (suc l - 1) ≡ eqb (line + 1) (suc l)
-    go true e = let q = eqb-true line (suc l - 1) e in e ∙ sym (eq-eqb (line + 1) (suc l) (omega arith))
-    go false e = let q = eqb-false line (suc l - 1) e in e ∙ sym (ne-eqb (line + 1) (suc l) (λ x. q (omega arith)))
-
 -- ---- lines of a row
 
 drop-line : (j : ℕ) (T F : List (List ℕ)) → j < length T → drop 1 (drop j T ++ F) ≡ drop (j + 1) T ++ F

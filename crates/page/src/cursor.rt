@@ -2,13 +2,11 @@
 // the same way, so that counting, printing a page and printing a line agree.
 ghost use mathlib.Core.Path.{_≡_};
 ghost use mathlib.Core.List.{[], _∷_, _++_};
-ghost use mathlib.Core.Bool.{_&&_};
 ghost use Prim.Native.Nat.{ℕ, _+_, _≤_, _<_};
 ghost use lib.ListN.{length, drop, getD};
 ghost use Rattle.buffer.specs.Put.{over};
 ghost use Rattle.sheet.specs.Held.{Passes};
 ghost use Rattle.sheet.specs.Walk.{rowsIn, rowsEnd};
-ghost use Rattle.formatting.specs.Stand.{inLimit, lastOf};
 ghost use Rattle.page.specs.Ahead.{RowsAt, Opened, Ahead, At, ahead, lastLines, rowsFrom, moreFrom, afterTop, afterHeader, allLines, RowAt, Next, headLine, Drew};
 use cells::CellCursor;
 use formatting::borders;
@@ -197,29 +195,6 @@ pub fn start(sheet: &[u8], p: Page) -> Cursor
     after_top(sheet, p)
 }
 
-// A row goes on to its next line if one stands ready and the limit leaves it.
-fn stays(limit: usize, line: usize, more: bool) -> bool
-    ensures { λ r. ⌜ r ≡ (inLimit limit (line + 1) && more) ⌝ }
-{
-    if limit == 0 {
-        return more;
-    }
-    if limit - 1 <= line {
-        return false;
-    }
-    more
-}
-
-// The last line that the limit leaves.
-fn is_last(limit: usize, line: usize) -> bool
-    ensures { λ r. ⌜ r ≡ lastOf limit line ⌝ }
-{
-    if limit == 0 {
-        return false;
-    }
-    line == limit - 1
-}
-
 // After a line of the header.
 fn next_header_line(
     sheet: &[u8],
@@ -232,7 +207,7 @@ fn next_header_line(
     ensures { λ r. ⌜ Ahead (now (sheet .entry)) p r (drop 1 (ahead (now (sheet .entry)) c)) ⌝ }
 {
     let here = c.here;
-    if stays(c.limit, c.line, more) {
+    if content_format::stays(c.limit, c.line, more) {
         return Cursor {
             stage: Stage::Header,
             here,
@@ -250,7 +225,7 @@ fn next_text_line(sheet: &[u8], p: Page, c: Cursor, standings: [Standing; 12], m
     ensures { λ r. ⌜ Ahead (now (sheet .entry)) p r (drop 1 (ahead (now (sheet .entry)) c)) ⌝ }
 {
     let here = c.here;
-    if stays(c.limit, c.line, more) {
+    if content_format::stays(c.limit, c.line, more) {
         return Cursor {
             stage: Stage::Text,
             here,
@@ -383,7 +358,7 @@ fn draw_header_line(page: &mut [u8], sheet: &[u8], p: Page, c: Cursor) -> Drawn
     let look = p.look;
     let style = look.header_lines;
     let from = c.standings;
-    let last = is_last(c.limit, c.line);
+    let last = content_format::is_last(c.limit, c.line);
     let l = content_format::draw_text_line(page, sheet, view, style, last, from);
     let standings = l.standings;
     let cursor = next_header_line(sheet, p, c, standings, l.more);
@@ -404,7 +379,7 @@ fn draw_row_line(page: &mut [u8], sheet: &[u8], p: Page, c: Cursor) -> Drawn
     let look = p.look;
     let style = look.content_lines;
     let from = c.standings;
-    let last = is_last(c.limit, c.line);
+    let last = content_format::is_last(c.limit, c.line);
     let l = content_format::draw_text_line(page, sheet, view, style, last, from);
     let standings = l.standings;
     let cursor = next_text_line(sheet, p, c, standings, l.more);

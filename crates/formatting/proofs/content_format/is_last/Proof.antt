@@ -1,7 +1,7 @@
-use Rattle.page.proofs.Steps.{last-line}
+use Rattle.formatting.proofs.Stand.{last-line}
 use borrow.Author.Needs.{needs}
-use Rattle.page.proofs.cursor.is_last.Statement.{statement}
-use Rattle.page.proofs.cursor.is_last.Tie as tie
+use Rattle.formatting.proofs.content_format.is_last.Statement.{statement}
+use Rattle.formatting.proofs.content_format.is_last.Tie as tie
 
 pub is-last-spec : {M : Type 1} → statement M
 is-last-spec =

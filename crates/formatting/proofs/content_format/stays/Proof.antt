@@ -1,7 +1,7 @@
-use Rattle.page.proofs.Steps.{stays-out, stays-in}
+use Rattle.formatting.proofs.Stand.{stays-out, stays-in}
 use borrow.Author.Needs.{needs}
-use Rattle.page.proofs.cursor.stays.Statement.{statement}
-use Rattle.page.proofs.cursor.stays.Tie as tie
+use Rattle.formatting.proofs.content_format.stays.Statement.{statement}
+use Rattle.formatting.proofs.content_format.stays.Tie as tie
 
 pub stays-spec : {M : Type 1} → statement M
 stays-spec =
