@@ -14,7 +14,7 @@ use Rattle.rules.specs.Widths.{visible, contents}
 use Rattle.rules.specs.Page.{areaAt, areas, height, closed}
 use Rattle.rules.proofs.Areas.{length-areas, line-at}
 use Rattle.rules.proofs.Lists.{getD-map}
-use Rattle.rules.proofs.Sizes.{closed-append, closed-cons}
+use Rattle.rules.proofs.Sizes.{closed-append}
 use Rattle.sheet.specs.Held.{tableOf}
 use Rattle.sheet.specs.Walk.{firstRow, cellsIn, RowIs}
 use Rattle.sheet.specs.declared.records.Rows.{Rows}

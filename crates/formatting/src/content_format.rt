@@ -303,13 +303,7 @@ fn close_line(page: &mut [u8], at: usize, style: TextStyle) -> usize
 
 // A row's text lines at the start of the page. Its cells' lines are kept in one array that every line changes in place: a function for
 // a line would copy it in and out, which takes longer than to draw a short line.
-pub fn draw_row(
-    page: &mut [u8],
-    sheet: &[u8],
-    view: View,
-    style: TextStyle,
-    here: Rows,
-) -> usize
+pub fn draw_row(page: &mut [u8], sheet: &[u8], view: View, style: TextStyle, here: Rows) -> usize
     requires { ⌜ Drawable (now sheet) view here ⌝ }
     requires { ⌜ length (rowBytes (now sheet) style here) ≤ length (now page) ⌝ }
     ensures { λ r. ⌜ r ≡ length (rowBytes (now (sheet .entry)) style here) ⌝ }

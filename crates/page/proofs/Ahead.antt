@@ -57,7 +57,7 @@ pub more-first : (s : List ℕ) (r : Row) (rs : List Row) → moreFrom s (r ∷ 
 unfolding moreFrom ruledMore rowsFrom ruledRows
 more-first s r rs = simp append-assoc
 
-rows-count : (s : List ℕ) (c : Rows) → length (rowsIn s c) ≡ c .left
+pub rows-count : (s : List ℕ) (c : Rows) → length (rowsIn s c) ≡ c .left
 unfolding rowsIn
 rows-count s c = parts-count (c .left) (rowHere s) (rowStop s) (c .at)
 
@@ -72,6 +72,13 @@ rows-split s c h = go (rowsIn s c) (rows-count s c)
 pub rows-empty : (s : List ℕ) (c : Rows) → c .left ≤ 0 → rowsIn s c ≡ []
 unfolding rowsIn parts
 rows-empty s c h = let z : c .left ≡ 0 = omega arith in rw z
+
+pub one-row : (s : List ℕ) (c : Rows) → 0 < c .left → c .left ≤ 1 → rowsIn s c ≡ firstRow s c ∷ []
+one-row s c h k = rows-split s c h ∙ ap (λ l. firstRow s c ∷ l) (none (drop 1 (rowsIn s c)) (omega (arith, length-drop 1 (rowsIn s c), rows-count s c)))
+  where
+    none : (rs : List Row) → length rs ≡ 0 → rs ≡ []
+    none [] e = refl
+    none (r ∷ rs) e = absurd (omega arith)
 
 -- the rows after the first are within the sheet and the limits too
 pub rows-at-next : (s : List ℕ) (c n : Rows) → RowsAt s c → RowsNext s c n → RowsAt s n
@@ -207,14 +214,8 @@ module _ (s : List ℕ) (p : Page) (O : Opened s p) where
   header-lines : 0 < p .header .left → afterTop s ≡ textLines s headerLines (firstRow s (p .header)) ++ afterHeader s
   unfolding afterTop headed afterHeader
   header-lines h =
-      let one : drop 1 (rowsIn s (p .header)) ≡ [] = none (drop 1 (rowsIn s (p .header))) (omega (arith, length-drop 1 (rowsIn s (p .header)), rows-count s (p .header), O .header-one)) in
-      let e : tableOf s .header ≡ firstRow s (p .header) ∷ [] = sym (O .header) ∙ rows-split s (p .header) h ∙ ap (λ l. firstRow s (p .header) ∷ l) one in
-      ap (λ hs. headed (textLines s headerLines) (ruleLines s false headerRule) hs ++ rowsFrom s (tableOf s .rows)) e
+      ap (λ hs. headed (textLines s headerLines) (ruleLines s false headerRule) hs ++ rowsFrom s (tableOf s .rows)) (sym (O .header) ∙ one-row s (p .header) h (O .header-one))
       ∙ one-header (textLines s headerLines) (ruleLines s false headerRule) (firstRow s (p .header)) (rowsFrom s (tableOf s .rows))
-    where
-      none : (rs : List Row) → length rs ≡ 0 → rs ≡ []
-      none [] e = refl
-      none (r ∷ rs) e = absurd (omega arith)
 
   pub header-ready : (r : records.Row) (ts : List Standing) (more : Bool) → 0 < p .header .left → RowIs s (p .header) r → OpenedRow s (cellsIn s (r .cells)) (p .view) ts
       → more ≡ anyFound ts (p .view .count) → more ≡ true → Ahead s p (record { stage = Header; here = p .header; limit = r .limit; line = 0; standings = ts }) (afterTop s)

@@ -1,13 +1,13 @@
 -- One line further: within a row, from it, and by the kind of line. Assumes nothing.
-use Prim.Native.Nat.{ℕ, zero, suc, _+_, _-_, _≤_, _<_}
+use Prim.Native.Nat.{ℕ, _+_, _-_, _<_}
 use mathlib.Core.Path.{_≡_, refl, sym, ap, _∙_, subst}
 use mathlib.Core.List.{List, [], _∷_, _++_}
 use mathlib.Core.Bool.{Bool, true, false, _&&_}
 use native.Mathlib.Omega.{arith}
 use lib.ListN.{length, drop, length-drop}
 use lib.Seq.{drop-drop}
-use lib.Dec.{ltb, eqb}
-use borrow.Author.Tests.{ltb-true, ltb-false, lt-ltb, le-ltb, eq-eqb, ne-eqb, eqb-true, eqb-false}
+use lib.Dec.{ltb}
+use borrow.Author.Tests.{ltb-true, ltb-false}
 use Rattle.rules.specs.Limits.{RowLimits}
 use Rattle.rules.specs.Sheet.{Row}
 use Rattle.rules.specs.Style.{headerLines, contentLines}
@@ -16,7 +16,7 @@ use Rattle.rules.proofs.Counts.{height-bound}
 use Rattle.sheet.specs.Held.{tableOf}
 use Rattle.sheet.specs.Walk.{rowsIn, firstRow}
 use Rattle.formatting.specs.Line.{ReadyAll}
-use Rattle.formatting.specs.Stand.{StandsRow, inLimit, lastOf}
+use Rattle.formatting.specs.Stand.{StandsRow, inLimit}
 use Rattle.formatting.specs.declared.content_format.Standing.{Standing}
 use Rattle.formatting.proofs.Whole.{height-has, stands-after, stands-ready}
 use Rattle.page.specs.Ahead.{widthsIn, textLines, moreFrom, rowsFrom, afterHeader, afterTop, ahead, RowsAt, Opened, RowAt, Next, AtBy, At, Ahead}

@@ -1,4 +1,5 @@
 pub mod Ahead
 pub mod Count
 pub mod Opening
+pub mod Parts
 pub mod Several

@@ -1,4 +1,5 @@
 // The page of a sheet, and the calls.
+pub mod borders;
 pub mod cursor;
 pub mod lines;
 pub mod open;
@@ -93,7 +94,7 @@ pub fn print_page(sheet: &[u8], page: &mut [u8]) -> Printed
     if page.len() < totals.bytes {
         return turned_down(20, totals.bytes as u64);
     }
-    let written = lines::write_page(page, sheet, p);
+    let written = borders::draw_borders(page, sheet, p);
     Printed {
         number: 0,
         place: 0,

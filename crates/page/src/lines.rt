@@ -5,7 +5,7 @@ ghost use mathlib.Core.Bool.{Bool, cond};
 ghost use Prim.Native.Nat.{ℕ, _+_, _-_, _≤_, _<_};
 ghost use lib.ListN.{length, drop, getD};
 ghost use lib.Dec.{ltb};
-ghost use Rattle.rules.specs.Page.{closed, lineCount, byteCount, page as pageOf};
+ghost use Rattle.rules.specs.Page.{closed, lineCount, byteCount};
 ghost use Rattle.rules.proofs.Lines.{lineLength, borderLength};
 ghost use Rattle.buffer.specs.Put.{over};
 ghost use Rattle.sheet.specs.Held.{tableOf};
@@ -128,23 +128,6 @@ pub fn count_lines(sheet: &[u8], p: Page) -> Totals
         c = cursor::step(sheet, p, c);
     }
     Totals { lines, bytes }
-}
-
-// The page at the start of the buffer: each line is written from the byte after the last one.
-pub fn write_page(page: &mut [u8], sheet: &[u8], p: Page) -> usize
-    requires { ⌜ Opened (now sheet) p ⌝ }
-    requires { ⌜ byteCount (tableOf (now sheet)) ≤ length (now page) ⌝ }
-    ensures { λ r. ⌜ r ≡ byteCount (tableOf (now (sheet .entry))) ⌝ }
-    ensures { λ _. ⌜ now (page .exit) ≡ over (pageOf (tableOf (now (sheet .entry)))) (now (page .entry)) ⌝ }
-{
-    let mut c = cursor::start(sheet, p);
-    let mut at: usize = 0;
-    while !is_end(c) {
-        let d = cursor::draw(&mut page[at..], sheet, p, c);
-        at += d.written;
-        c = d.cursor;
-    }
-    at
 }
 
 // A line's cursor, and how many lines were passed over to reach it.
