@@ -1,4 +1,5 @@
 pub mod Rules
 pub mod Text
 pub mod Steps
+pub mod Back
 pub mod Found

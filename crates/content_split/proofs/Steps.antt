@@ -1,4 +1,4 @@
--- The steps of `split_line`, as its proof cites them. Assumes nothing.
+-- How a text is split piece by piece: the line so far, and what each next piece does to it, by positions. Assumes nothing.
 use Prim.Native.Nat.{ℕ, zero, suc, _+_, _-_, _≤_, _<_}
 use mathlib.Core.Path.{_≡_, refl, _∙_}
 use mathlib.Core.List.{List, [], _∷_}
@@ -19,6 +19,10 @@ use Rattle.content_split.proofs.Text.{after, none-left, skip-one, first
 
 below-suc : (s e : ℕ) (P : ℕ → Type 0) → ((k : ℕ) → s ≤ k → k < e → P k) → P e → (k : ℕ) → s ≤ k → k < suc e → P k
 below-suc s e P f p k a b = ⊎-elim (λ q. rw q p) (λ q. f k a q) (eq-or-lt-of-le (le-of-suc-le-suc b))
+
+-- what holds from e on and just before e
+pub one-down : (e z : ℕ) (P : ℕ → Type 0) → ((k : ℕ) → e ≤ k → k < z → P k) → P (e - 1) → (k : ℕ) → e - 1 ≤ k → k < z → P k
+one-down e z P f p k a b = ⊎-elim (λ q. rw q at p) (λ q. f k (omega arith) b) (eq-or-lt-of-le a)
 
 -- the line from s to m is begun, and nothing of it is settled yet
 pub record Going (w d : ℕ) (T : List ℕ) (a s m : ℕ) : Type 0 where
@@ -49,6 +53,10 @@ module _ (d : ℕ) (T : List ℕ) (s : ℕ) where
           let r = i (below-suc s e (λ k. getD T k 0 ≡ d → ⊥) c (eqb-false (getD T e 0) d q)) in
           (r .0, omega (arith, r .1), r .2)
 
+  -- where the piece from s on ends
+  pub piece : s ≤ length T → (x : ℕ) × Cut d T s x
+  piece h = let r = ends-from (length T - s) s (omega arith) (omega arith) (λ k a b. absurd (omega arith)) in (r .0, r .2)
+
   pub ends : (m e : ℕ) → Near d T s m e → Ends d T s m e
   ends m e c = go (leb (e - s) m) refl
     where
@@ -73,7 +81,7 @@ module _ (w d : ℕ) (pos : 0 < w) (T : List ℕ) where
       ∙ skip-many n (suc a) (omega arith) (λ k x y. f k (omega arith) (omega arith))
       ∙ rw (add-suc, suc-add)
 
-  skipped : {a s : ℕ} → Start d T a s → wrapping w d (drop a T) ≡ wrapping w d (drop s T)
+  pub skipped : {a s : ℕ} → Start d T a s → wrapping w d (drop a T) ≡ wrapping w d (drop s T)
   skipped {a} {s} c =
       let f = c .from in
       let g = c .within in
@@ -86,7 +94,7 @@ module _ (w d : ℕ) (pos : 0 < w) (T : List ℕ) where
   pub none : {a s : ℕ} → Start d T a s → length T ≤ s → split w d (drop a T) ≡ []
   none {a} {s} c h = split-is w d (drop a T) ∙ skipped c ∙ none-left w d pos T s h
 
-  fills-cut : {a s e : ℕ} → Start d T a s → Cut d T s e → w < e - s → LineIs w d T a s (s + w) (s + w)
+  pub fills-cut : {a s e : ℕ} → Start d T a s → Cut d T s e → w < e - s → LineIs w d T a s (s + w) (s + w)
   fills-cut {a} {s} {e} b c h =
       record {
         after = b .from;
@@ -97,7 +105,7 @@ module _ (w d : ℕ) (pos : 0 < w) (T : List ℕ) where
         wraps = rw (split-is, split-is) (skipped b ∙ first-fills w d pos T s e c h);
       }
 
-  begins-cut : {a s e : ℕ} → Start d T a s → s < length T → Cut d T s e → e - s ≤ w → Going w d T a s e
+  pub begins-cut : {a s e : ℕ} → Start d T a s → s < length T → Cut d T s e → e - s ≤ w → Going w d T a s e
   begins-cut {a} {s} {e} b l c h =
       record {
         from = b .from;
@@ -107,13 +115,6 @@ module _ (w d : ℕ) (pos : 0 < w) (T : List ℕ) where
         stop = c .stop;
         so-far = skipped b ∙ first-joins w d pos T s e c h;
       }
-
-  -- the first piece, as far as it was followed
-  pub fills-first : {a s e : ℕ} → Start d T a s → Near d T s w e → w < e - s → LineIs w d T a s (s + w) (s + w)
-  fills-first {a} {s} {e} b c h = let x = ends d T s w e c in fills-cut b (x .cut) (omega (arith, x .past))
-
-  pub begins : {a s e : ℕ} → Start d T a s → s < length T → Near d T s w e → e - s ≤ w → Going w d T a s e
-  begins {a} {s} {e} b l c h = let x = ends d T s w e c in let q = x .same h in rw q (begins-cut b l (x .cut) (rw q at h))
 
   module _ {a s m : ℕ} (g : Going w d T a s m) where
     pub ends-text : length T ≤ m → LineIs w d T a s m m
@@ -138,7 +139,7 @@ module _ (w d : ℕ) (pos : 0 < w) (T : List ℕ) where
       cut : Cut d T (suc m) e
       cut = rw add-one at c
 
-      joins-cut : e - s ≤ w → Going w d T a s e
+      pub joins-cut : e - s ≤ w → Going w d T a s e
       joins-cut h =
           record {
             from = g .from;
@@ -149,13 +150,13 @@ module _ (w d : ℕ) (pos : 0 < w) (T : List ℕ) where
             so-far = g .so-far ∙ next-joins w d pos T s m e (g .some) more (g .stop more) cut (omega arith) h;
           }
 
-      tight-cut : w < e - s → w - (m + 1 - s) ≤ 2 → LineIs w d T a s m (m + 1)
+      pub tight-cut : w < e - s → w - (m + 1 - s) ≤ 2 → LineIs w d T a s m (m + 1)
       tight-cut h k = wrapped more (next-tight w d pos T s m e (g .some) more (g .stop more) cut (omega arith) h (omega arith))
 
-      wrap-cut : w < e - s → 2 < w - (m + 1 - s) → e - (m + 1) ≤ w → LineIs w d T a s m (m + 1)
+      pub wrap-cut : w < e - s → 2 < w - (m + 1 - s) → e - (m + 1) ≤ w → LineIs w d T a s m (m + 1)
       wrap-cut h k l = wrapped more (next-wraps w d pos T s m e (g .some) more (g .stop more) cut (omega arith) h (omega arith) (omega arith))
 
-      fill-cut : w < e - s → 2 < w - (m + 1 - s) → w < e - (m + 1) → LineIs w d T a s (s + w) (s + w)
+      pub fill-cut : w < e - s → 2 < w - (m + 1 - s) → w < e - (m + 1) → LineIs w d T a s (s + w) (s + w)
       fill-cut h k l =
           record {
             after = g .from;
@@ -165,21 +166,3 @@ module _ (w d : ℕ) (pos : 0 < w) (T : List ℕ) where
             within = omega arith;
             wraps = rw (split-is, split-is) (g .so-far ∙ next-fills w d pos T s m e (g .some) more (g .stop more) cut (omega arith) h (omega arith) (omega arith));
           }
-
-    -- the next piece, as far as it was followed
-    module _ {e : ℕ} (more : m < length T) (free : m - s + 2 ≤ w) (c : Near d T (m + 1) w e) where
-      pub joins : e - s ≤ w → Going w d T a s e
-      joins h =
-          let x = ends d T (m + 1) w e c in
-          let f = c .from in
-          let q = x .same (omega (arith, g .some)) in
-          rw q (joins-cut more free (x .cut) (rw q at h))
-
-      pub ends-tight : w < e - s → w - (m + 1 - s) ≤ 2 → LineIs w d T a s m (m + 1)
-      ends-tight h k = let x = ends d T (m + 1) w e c in tight-cut more free (x .cut) (omega (arith, x .past)) k
-
-      pub ends-wrap : w < e - s → 2 < w - (m + 1 - s) → e - (m + 1) ≤ w → LineIs w d T a s m (m + 1)
-      ends-wrap h k l = let x = ends d T (m + 1) w e c in let q = x .same l in wrap-cut more free (x .cut) (rw q at h) k (rw q at l)
-
-      pub ends-fill : w < e - s → 2 < w - (m + 1 - s) → w < e - (m + 1) → LineIs w d T a s (s + w) (s + w)
-      ends-fill h k l = let x = ends d T (m + 1) w e c in fill-cut more free (x .cut) (omega (arith, x .past)) k (omega (arith, x .past))

@@ -18,7 +18,7 @@ use Rattle.content_split.proofs.Rules.{wrapping, settled, settled-full,
 
 -- ---- numbers
 
-le-or-lt : (a b : ℕ) → (a ≤ b) ⊎ (b < a)
+pub le-or-lt : (a b : ℕ) → (a ≤ b) ⊎ (b < a)
 le-or-lt zero b = inl zero-le
 le-or-lt (suc a) zero = inr (suc-le-suc zero-le)
 le-or-lt (suc a) (suc b) = ⊎-elim (λ p. inl (suc-le-suc p)) (λ q. inr (suc-le-suc q)) (le-or-lt a b)

@@ -7,7 +7,7 @@ ghost use lib.ListN.{length, drop};
 ghost use mathlib.Core.List.{map};
 ghost use Rattle.rules.specs.Text.{textWidth, greatest};
 ghost use Rattle.rules.specs.Wrap.{split};
-ghost use Rattle.content_split.specs.Cut.{Near, Start};
+ghost use Rattle.content_split.specs.Cut.{Near, Start, Back, Straddle};
 ghost use Rattle.content_split.specs.Parts.{PartIs};
 
 // The next wrapped line, from `start` up to `end`, with the place where the search goes on; or that none is left.
@@ -54,7 +54,50 @@ pub fn line_start(text: &[u8], from: usize, delimiter: u8) -> usize
     s
 }
 
-// The next line that `text` is split into, from `from` on.
+// The last delimiter of `text` after `from` and before `to`; or `from`, where there is none.
+fn last_before(text: &[u8], from: usize, to: usize, delimiter: u8) -> usize
+    requires { ⌜ (from < to) × (to ≤ length (now text)) ⌝ }
+    ensures { λ r. ⌜ Back delimiter (now (text .entry)) from to r ⌝ }
+{
+    let mut e = to;
+    while from < e {
+        if text[e - 1] == delimiter {
+            return e - 1;
+        }
+        e -= 1;
+    }
+    from
+}
+
+// The line from `start` on, where a piece goes on past the width: the line ends before that piece, or is filled with it.
+fn straddled(text: &[u8], start: usize, width: usize, delimiter: u8) -> Part
+    requires { ⌜ Straddle width delimiter (now text) start ⌝ }
+    ensures { λ r. ⌜ PartIs width delimiter (now (text .entry)) start r ⌝ }
+{
+    let stop = start + width;
+    let end = last_before(text, start, stop, delimiter);
+    if end == start {
+        return Part::Line {
+            start,
+            end: stop,
+            next: stop,
+        };
+    }
+    let next = end + 1;
+    if 2 < stop - next {
+        let e = piece_end(text, next, delimiter, width);
+        if width < e - next {
+            return Part::Line {
+                start,
+                end: stop,
+                next: stop,
+            };
+        }
+    }
+    Part::Line { start, end, next }
+}
+
+// The next line that `text` is split into, from `from` on. It is looked for backwards from the width: most bytes of the line aren't read.
 pub fn split_line(text: &[u8], from: usize, width: usize, delimiter: u8) -> Part
     requires { ⌜ (from ≤ length (now text)) × (0 < width) ⌝ }
     ensures { λ r. ⌜ PartIs width delimiter (now (text .entry)) from r ⌝ }
@@ -63,39 +106,36 @@ pub fn split_line(text: &[u8], from: usize, width: usize, delimiter: u8) -> Part
     if text.len() <= start {
         return Part::Nothing;
     }
-    let mut end = piece_end(text, start, delimiter, width);
-    if width < end - start {
+    if text.len() - start < width {
         return Part::Line {
             start,
-            end: start + width,
-            next: start + width,
+            end: text.len(),
+            next: text.len(),
         };
     }
-    while end < text.len() {
-        let next = end + 1;
-        if width < end - start + 2 {
-            return Part::Line { start, end, next };
-        }
-        let e = piece_end(text, next, delimiter, width);
-        if width < e - start {
-            if 2 < width - (next - start) {
-                if width < e - next {
-                    return Part::Line {
-                        start,
-                        end: start + width,
-                        next: start + width,
-                    };
-                }
-            }
-            return Part::Line { start, end, next };
-        }
-        end = e;
+    let stop = start + width;
+    if text[stop - 1] == delimiter {
+        return Part::Line {
+            start,
+            end: stop - 1,
+            next: stop,
+        };
     }
-    Part::Line {
-        start,
-        end,
-        next: end,
+    if text.len() == stop {
+        return Part::Line {
+            start,
+            end: text.len(),
+            next: text.len(),
+        };
     }
+    if text[stop] == delimiter {
+        return Part::Line {
+            start,
+            end: stop,
+            next: stop + 1,
+        };
+    }
+    straddled(text, start, width, delimiter)
 }
 
 // How many lines `text` wraps into.
