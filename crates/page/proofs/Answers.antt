@@ -24,6 +24,7 @@ use Rattle.page.specs.Several as several
 use Rattle.page.specs.declared.cursor.Page.{Page}
 use Rattle.page.specs.declared.lines.Sought.{Sought}
 use Rattle.page.specs.declared.lines.Totals.{Totals}
+use Rattle.page.specs.declared.lines.WrittenLines.{WrittenLines}
 use Rattle.page.proofs.LineLengths.{end-lines, some-lines, limits-of}
 
 -- ---- tests
@@ -188,7 +189,7 @@ module _ (s : List ℕ) (h : Passes s) where
           lines-put k b before-count ∙ passed-over (leb m (length b)) (told b) (several.turned 20 m b) (le-false m (length b) (omega (arith, size-there)))
           ∙ ap (λ j. several.turned 20 j b) (size-there ∙ sym en)
 
-      pub lines-whole : (b : List ℕ) (n : ℕ) (w : Totals) → n ≡ length (headLine s (r .cursor)) → n ≤ length b → Wrote s (r .cursor) b w
+      pub lines-whole : (b : List ℕ) (n : ℕ) (w : WrittenLines) → n ≡ length (headLine s (r .cursor)) → n ≤ length b → Wrote s p (r .cursor) b w
           → several.printLines s k b ≡ record { answer = record { number = 0; place = 0; written = w .bytes; next = k + w .lines }; buffer = over (closed (several.fitting (length b) (ahead s (r .cursor)))) b }
       unfolding several.putLines over allLines
       lines-whole b n w en f W =

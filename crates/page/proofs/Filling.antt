@@ -2,20 +2,24 @@
 use Prim.Native.Nat.{ℕ, _+_, _-_, _≤_, _<_}
 use mathlib.Core.Path.{_≡_, refl, sym, ap, _∙_}
 use mathlib.Core.List.{List, [], _∷_, _++_, append-assoc, append-nil}
-use mathlib.Core.Bool.{true, false}
+use mathlib.Core.Bool.{Bool, true, false}
 use native.Mathlib.Omega.{arith}
 use lib.ListN.{length, take, drop, getD, length-append, length-drop}
-use lib.Seq.{length-take-le}
+use lib.Seq.{length-take-le, drop-drop}
 use lib.Dec.{leb}
-use Rattle.rules.specs.Page.{closed}
+use borrow.Author.Tests.{leb-true}
+use Rattle.rules.specs.Page.{closed, lineCount}
 use Rattle.rules.proofs.Sizes.{closed-cons}
+use Rattle.rules.proofs.Counts.{line-count-bound}
+use Rattle.sheet.specs.Held.{tableOf}
 use Rattle.buffer.specs.Put.{over, putAt}
-use Rattle.page.specs.Ahead.{ahead, headLine, Ahead, At, isEnd}
+use Rattle.page.specs.Ahead.{ahead, allLines, headLine, Ahead, At, Opened, isEnd}
 use Rattle.page.specs.Count.{Wrote}
 use Rattle.page.specs.Several.{fitting}
 use Rattle.page.specs.declared.cursor.Page.{Page}
 use Rattle.page.specs.declared.cursor.Cursor.{Cursor}
-use Rattle.page.proofs.LineLengths.{end-lines, some-lines}
+use Rattle.page.specs.declared.lines.WrittenLines.{WrittenLines}
+use Rattle.page.proofs.LineLengths.{end-lines, some-lines, head-small, limits-of}
 use Rattle.page.proofs.Pages.{Writing, writing-begin, writing-on, writing-taken, closed-none}
 use Rattle.page.proofs.Answers.{le-true, le-false, chosen, passed-over}
 
@@ -30,12 +34,25 @@ unfolding fitting
 fitting-more n [] h k = absurd (omega arith)
 fitting-more n (l ∷ ls) h k = chosen (leb (length l + 1) n) (l ∷ fitting (n - (length l + 1)) ls) [] (le-true (length l + 1) n k)
 
+pub first-fits : (n : ℕ) (ls : List (List ℕ)) → 0 < length ls → length (getD ls 0 []) + 1 ≤ n → 0 < length (fitting n ls)
+first-fits n ls h k = omega (arith, ap length (fitting-more n ls h k))
+
+-- what fits is no longer than the room
+pub fitted : (n : ℕ) (ls : List (List ℕ)) → length (closed (fitting n ls)) ≤ n
+unfolding fitting closed
+fitted n [] = omega arith
+fitted n (l ∷ ls) = step (leb (length l + 1) n) refl (fitted (n - (length l + 1)) ls)
+  where
+    step : (b : Bool) → leb (length l + 1) n ≡ b → length (closed (fitting (n - (length l + 1)) ls)) ≤ n - (length l + 1) → length (closed (elim b [ true ↦ l ∷ fitting (n - (length l + 1)) ls | false ↦ [] ])) ≤ n
+    step true e ih = omega (arith, leb-true (length l + 1) n e, length-append l (10 ∷ closed (fitting (n - (length l + 1)) ls)), ih)
+    step false e ih = omega arith
+
 fitting-stops : (n : ℕ) (ls : List (List ℕ)) → 0 < length ls → n < length (getD ls 0 []) + 1 → fitting n ls ≡ []
 unfolding fitting
 fitting-stops n [] h k = absurd (omega arith)
 fitting-stops n (l ∷ ls) h k = passed-over (leb (length l + 1) n) (l ∷ fitting (n - (length l + 1)) ls) [] (le-false (length l + 1) n k)
 
-head-length : (s : List ℕ) (c : Cursor) → length (headLine s c) ≡ length (getD (ahead s c) 0 []) + 1
+pub head-length : (s : List ℕ) (c : Cursor) → length (headLine s c) ≡ length (getD (ahead s c) 0 []) + 1
 unfolding headLine
 head-length s c = length-append (getD (ahead s c) 0 []) (10 ∷ [])
 
@@ -53,6 +70,7 @@ pub record Filling (s : List ℕ) (p : Page) (first : Cursor) (page₀ page : Li
   pub writing : Writing s p page₀ (closed (ahead s first)) page c at
   pub within : at ≤ length page₀
   pub count : i + length (ahead s c) ≡ length (ahead s first)
+  pub rest : ahead s c ≡ drop i (ahead s first)
   pub lines : i + length (fitting (length page₀ - at) (ahead s c)) ≡ length (fitting (length page₀) (ahead s first))
   pub bytes : take at (closed (ahead s first)) ++ closed (fitting (length page₀ - at) (ahead s c)) ≡ whole s first page₀
 
@@ -64,6 +82,7 @@ filling-begin s p first page₀ A =
       writing = writing-begin s p page₀ (ahead s first) first (record { lines = refl; at = A });
       within = omega arith;
       count = omega arith;
+      rest = refl;
       lines = omega (arith, ap length g);
       bytes = ap closed g;
     }
@@ -83,6 +102,7 @@ module _ (s : List ℕ) (p : Page) (first : Cursor) (page₀ page : List ℕ) (c
         writing = writing-on s p page₀ B page c at (F .writing) h r n page' A en ep k;
         within = k;
         count = omega (arith, F .count, ap length (A .lines), length-drop 1 (ahead s c), h);
+        rest = A .lines ∙ ap (drop 1) (F .rest) ∙ drop-drop 1 i (ahead s first);
         lines = omega (arith, F .lines, ap length g);
         bytes = ap (λ l. l ++ closed (fitting (m - (at + n)) (ahead s r))) t ∙ append-assoc (take at B) (headLine s c) (closed (fitting (m - (at + n)) (ahead s r)))
             ∙ ap (λ l. take at B ++ l) (sym (head-closed s c (fitting (m - (at + n)) (ahead s r)))) ∙ ap (λ ls. take at B ++ closed ls) (sym g) ∙ F .bytes;
@@ -98,12 +118,13 @@ module _ (s : List ℕ) (p : Page) (first : Cursor) (page₀ page : List ℕ) (c
     pub filled-page : page ≡ over (whole s first page₀) page₀
     filled-page = F .writing .done ∙ ap (λ l. over l page₀) taken-all
 
-    pub filled : length (ahead s first) ≤ 1000000 → Wrote s first page₀ (record { lines = i; bytes = at })
+    pub filled : length (ahead s first) ≤ 1000000 → Wrote s p first page₀ (record { lines = i; bytes = at; next = c })
     filled h =
         record {
           bytes-are = sym (length-take-le at (closed (ahead s first)) (F .writing .within)) ∙ ap length taken-all;
           lines-are = omega (arith, F .lines, ap length f);
           few = few-lines h;
+          onward = record { lines = F .rest; at = F .writing .cursor };
         }
 
   pub stops : isEnd (c .stage) ≡ false → (n : ℕ) → n ≡ length (headLine s c) → length page₀ - at < n → fitting (length page₀ - at) (ahead s c) ≡ []
@@ -111,3 +132,25 @@ module _ (s : List ℕ) (p : Page) (first : Cursor) (page₀ page : List ℕ) (c
 
   pub ended : isEnd (c .stage) ≡ true → fitting (length page₀ - at) (ahead s c) ≡ []
   ended e = ap (fitting (length page₀ - at)) (end-lines s c e) ∙ fitting-none (length page₀ - at)
+
+-- ---- part after part
+
+module _ (s : List ℕ) (p : Page) (c : Cursor) (b : List ℕ) (r : WrittenLines) (W : Wrote s p c b r) where
+  -- the bytes are in the buffer
+  pub part-fits : r .bytes ≤ length b
+  part-fits = omega (arith, W .bytes-are, fitted (length b) (ahead s c))
+
+  -- a buffer that holds any line leaves fewer of them
+  pub part-less : Opened s p → At s p c → isEnd (c .stage) ≡ false → 10201 ≤ length b → length (ahead s (r .next)) < length (ahead s c)
+  part-less O A e k =
+      let h = some-lines s p c A e in
+      let f = first-fits (length b) (ahead s c) h (omega (arith, head-small s p O c A e, head-length s c)) in
+      omega (arith, W .lines-are, f, h, ap length (W .onward .lines), length-drop (r .lines) (ahead s c))
+
+  pub part-few : length (ahead s c) ≤ 1000000 → length (ahead s (r .next)) ≤ 1000000
+  part-few h = omega (arith, ap length (W .onward .lines), length-drop (r .lines) (ahead s c))
+
+-- the whole page is few lines
+pub all-few : (s : List ℕ) (p : Page) (c : Cursor) → Opened s p → Ahead s p c (allLines s) → length (ahead s c) ≤ 1000000
+unfolding allLines lineCount
+all-few s p c O A = omega (arith, ap length (A .lines), line-count-bound (tableOf s) (limits-of s (O .passes)))

@@ -185,3 +185,22 @@ lengths-are s p O a b i j n ea eb ei ej en =
       line-small = omega (arith, e, line-length-bound (tableOf s) L);
       border-small = omega (arith, f, border-length-bound (tableOf s) L);
     }
+
+-- no line is longer than a small buffer
+pub head-small : (s : List ℕ) (p : Page) → Opened s p → (c : Cursor) → At s p c → isEnd (c .stage) ≡ false → length (headLine s c) ≤ 10201
+head-small s p O c A e = go (c .stage) refl
+  where
+    l : Lengths
+    l = record { line = lineLength (tableOf s) (widthsIn s); border = borderLength (tableOf s) (widthsIn s) }
+
+    L : LengthsAre s l
+    L = record { line = refl; border = refl; line-small = line-length-bound (tableOf s) (limits-of s (O .passes)); border-small = border-length-bound (tableOf s) (limits-of s (O .passes)) }
+
+    go : (x : Stage) → c .stage ≡ x → length (headLine s c) ≤ 10201
+    go Top f = omega (arith, top-length s p O l L c A f, L .border-small)
+    go Header f = omega (arith, header-length s p O l L c A f, L .line-small)
+    go HeaderRule f = omega (arith, header-rule-length s p O l L c A f, L .line-small)
+    go Text f = omega (arith, text-line-length s p O l L c A f, L .line-small)
+    go Rule f = omega (arith, row-rule-length s p O l L c A f, L .line-small)
+    go Bottom f = omega (arith, bottom-length s p O l L c A f, L .border-small)
+    go End f = let g = sym (ap isEnd f) ∙ e in let z : _≡_ {A = ℕ} 0 1 = cc in absurd (omega arith)

@@ -9,12 +9,12 @@ use Rattle.rules.proofs.Lines.{lineLength, borderLength}
 use Rattle.sheet.specs.Held.{tableOf}
 use Rattle.formatting.specs.Line.{shownAt}
 use Rattle.formatting.specs.declared.content_format.View.{View}
-use Rattle.page.specs.Ahead.{widthsIn, ahead, allLines, At, isEnd}
+use Rattle.page.specs.Ahead.{widthsIn, ahead, allLines, At, Ahead, isEnd}
 use Rattle.page.specs.declared.cursor.Page.{Page}
 use Rattle.page.specs.Several.{fitting}
 use Rattle.page.specs.declared.cursor.Cursor.{Cursor}
 use Rattle.page.specs.declared.lines.Sought.{Sought}
-use Rattle.page.specs.declared.lines.Totals.{Totals}
+use Rattle.page.specs.declared.lines.WrittenLines.{WrittenLines}
 use Rattle.page.specs.declared.lines.Lengths.{Lengths}
 
 -- the visible widths of the first n columns
@@ -37,8 +37,9 @@ pub record SoughtIs (s : List ℕ) (p : Page) (k : ℕ) (r : Sought) : Type 0 wh
   pub passed : r .passed ≤ lineCount (tableOf s)
   pub reached : isEnd (r .cursor .stage) ≡ false → r .passed ≡ k
 
--- as many lines as fit were written, and so many bytes
-pub record Wrote (s : List ℕ) (c : Cursor) (b : List ℕ) (r : Totals) : Type 0 where
+-- as many lines as fit were written, and so many bytes; the others come next
+pub record Wrote (s : List ℕ) (p : Page) (c : Cursor) (b : List ℕ) (r : WrittenLines) : Type 0 where
   pub bytes-are : r .bytes ≡ length (closed (fitting (length b) (ahead s c)))
   pub lines-are : r .lines ≡ length (fitting (length b) (ahead s c))
   pub few : r .lines ≤ 1000000
+  pub onward : Ahead s p (r .next) (drop (r .lines) (ahead s c))

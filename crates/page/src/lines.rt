@@ -168,11 +168,18 @@ pub fn next_length(sheet: &[u8], p: Page, c: Cursor) -> usize
     line_length(sheet, p, l, c)
 }
 
+// What was written, and the cursor after it.
+pub struct WrittenLines {
+    pub lines: usize,
+    pub bytes: usize,
+    pub next: Cursor,
+}
+
 // Lines from the cursor's on, one after another, as long as the next one fits.
-pub fn write_lines(page: &mut [u8], sheet: &[u8], p: Page, first: Cursor) -> Totals
+pub fn write_lines(page: &mut [u8], sheet: &[u8], p: Page, first: Cursor) -> WrittenLines
     requires { ⌜ Opened (now sheet) p × At (now sheet) p first ⌝ }
     requires { ⌜ length (ahead (now sheet) first) ≤ 1000000 ⌝ }
-    ensures { λ r. ⌜ Wrote (now (sheet .entry)) first (now (page .entry)) r ⌝ }
+    ensures { λ r. ⌜ Wrote (now (sheet .entry)) p first (now (page .entry)) r ⌝ }
     ensures { λ _. ⌜ now (page .exit) ≡ over (closed (fitting (length (now (page .entry))) (ahead (now (sheet .entry)) first))) (now (page .entry)) ⌝ }
 {
     let l = measure_lines(sheet, p);
@@ -182,9 +189,10 @@ pub fn write_lines(page: &mut [u8], sheet: &[u8], p: Page, first: Cursor) -> Tot
     while !is_end(c) {
         let n = line_length(sheet, p, l, c);
         if page.len() - at < n {
-            return Totals {
+            return WrittenLines {
                 lines: i,
                 bytes: at,
+                next: c,
             };
         }
         let d = cursor::draw(&mut page[at..], sheet, p, c);
@@ -192,8 +200,9 @@ pub fn write_lines(page: &mut [u8], sheet: &[u8], p: Page, first: Cursor) -> Tot
         c = d.cursor;
         i += 1;
     }
-    Totals {
+    WrittenLines {
         lines: i,
         bytes: at,
+        next: c,
     }
 }

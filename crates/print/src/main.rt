@@ -1,9 +1,13 @@
 // A sheet on standard input becomes its page on standard output, or `refused N at P`.
-// A page can be far larger than memory: it goes out by as many whole lines at a time as the lent space holds.
+// A page can be far larger than memory: it goes out by as many whole lines at a time as the space holds, and the cursor is kept between them,
+// so that no line is passed over.
 use libc::STDIN_FILENO;
 use libc::STDOUT_FILENO;
+use page::cursor;
+use page::lines;
+use page::open;
 ghost use mathlib.Core.Path.{_≡_};
-ghost use Prim.Native.Nat.{_<_};
+ghost use Prim.Native.Nat.{_≤_};
 ghost use lib.ListN.{length};
 
 // Room for a sheet that is one byte too long, which is enough to refuse any longer one.
@@ -13,11 +17,11 @@ fn sheet_space() -> [u8; 32769]
     [0; 32769]
 }
 
-// Each part of a page passes over the lines before it, so the fewer parts the better: a large space on the stack.
-fn page_space() -> [u8; 1048576]
-    ensures { λ r. ⌜ 1048576 ≡ length r ⌝ }
+// Room for many lines of a page: the longest has 10,201 bytes.
+fn page_space() -> [u8; 65536]
+    ensures { λ r. ⌜ 65536 ≡ length r ⌝ }
 {
-    [0; 1048576]
+    [0; 65536]
 }
 
 fn report(number: u64, place: u64) {
@@ -28,34 +32,24 @@ fn report(number: u64, place: u64) {
     io::write_all(STDOUT_FILENO, b"\n");
 }
 
-// Lines from `line` on; answers the line after them, or `lines` where nothing more can be written.
-fn part(sheet: &[u8], line: usize, lines: usize, space: &mut [u8]) -> usize
-    requires { ⌜ line < lines ⌝ }
-    ensures { λ r. ⌜ line < r ⌝ }
+// Part after part, each from the line after the last one; ends where no more can be written.
+fn print(sheet: &[u8], space: &mut [u8])
+    requires { ⌜ 10201 ≤ length (now space) ⌝ }
 {
-    let printed = page::print_lines(sheet, line, space);
-    if printed.number != 0 {
-        report(printed.number, printed.place);
-        return lines;
-    }
-    let written = printed.written as usize;
-    if io::write_all(STDOUT_FILENO, &space[..written]) {
-        return printed.next as usize;
-    }
-    lines
-}
-
-// Part after part, until the last line is written.
-fn print(sheet: &[u8], space: &mut [u8]) {
-    let counted = page::count(sheet);
-    if counted.number != 0 {
-        report(counted.number, counted.place);
+    let checked = page::check(sheet);
+    if checked.number != 0 {
+        report(checked.number, checked.place);
         return;
     }
-    let lines = counted.lines as usize;
-    let mut line: usize = 0;
-    while line < lines {
-        line = part(sheet, line, lines, space);
+    let p = open::open(sheet);
+    let mut c = cursor::start(sheet, p);
+    while !lines::is_end(c) {
+        let part = lines::write_lines(space, sheet, p, c);
+        let n = part.bytes;
+        if !io::write_all(STDOUT_FILENO, &space[..n]) {
+            return;
+        }
+        c = part.next;
     }
 }
 

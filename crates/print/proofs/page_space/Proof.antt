@@ -6,4 +6,4 @@ use Rattle.print.proofs.page_space.Statement.{statement}
 use Rattle.print.proofs.page_space.Tie as tie
 
 pub page-space-spec : {M : Type 1} → statement M
-page-space-spec = tie.close (tie.spec (λ c. sym (length-replicate {0} {A = ℕ} 1048576 0)))
+page-space-spec = tie.close (tie.spec (λ c. sym (length-replicate {0} {A = ℕ} 65536 0)))
