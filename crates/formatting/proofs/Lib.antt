@@ -4,3 +4,4 @@ pub mod Rule
 pub mod Stand
 pub mod Whole
 pub mod Open
+pub mod Heights

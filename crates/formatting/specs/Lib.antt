@@ -3,3 +3,4 @@ pub mod Line
 pub mod Rule
 pub mod Stand
 pub mod Open
+pub mod Height
