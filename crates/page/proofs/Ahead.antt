@@ -57,7 +57,7 @@ pub more-first : (s : List ℕ) (r : Row) (rs : List Row) → moreFrom s (r ∷ 
 unfolding moreFrom ruledMore rowsFrom ruledRows
 more-first s r rs = simp append-assoc
 
-rows-count : (s : List ℕ) (c : Rows) → length (rowsIn s c) ≡ c .left
+pub rows-count : (s : List ℕ) (c : Rows) → length (rowsIn s c) ≡ c .left
 unfolding rowsIn
 rows-count s c = parts-count (c .left) (rowHere s) (rowStop s) (c .at)
 

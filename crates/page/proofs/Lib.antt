@@ -7,3 +7,4 @@ pub mod Opening
 pub mod Measured
 pub mod Answers
 pub mod Filling
+pub mod Counted

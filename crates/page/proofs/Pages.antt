@@ -1,4 +1,4 @@
--- A page's lines counted, sought and written one after another. Assumes nothing.
+-- A page's lines sought and written one after another. Assumes nothing.
 use Prim.Native.Nat.{ℕ, _+_, _-_, _≤_, _<_}
 use mathlib.Core.Path.{_≡_, refl, sym, ap, _∙_}
 use mathlib.Core.List.{List, [], _++_}
@@ -8,7 +8,7 @@ use lib.ListN.{length, take, drop, length-append, length-drop}
 use lib.Seq.{drop-drop, drop-at, take-at, take-add, take-all, length-take-le}
 use Rattle.rules.specs.Page.{closed, lineCount, byteCount, page as pageOf}
 use Rattle.rules.proofs.Sizes.{closed-first}
-use Rattle.rules.proofs.Counts.{line-count-bound, byte-count-bound}
+use Rattle.rules.proofs.Counts.{line-count-bound}
 use Rattle.sheet.specs.Held.{tableOf}
 use Rattle.buffer.specs.Put.{over, putAt}
 use Rattle.buffer.proofs.Laws.{over-put, length-over}
@@ -24,14 +24,11 @@ first-bytes : (s : List ℕ) (c : Cursor) → 0 < length (ahead s c) → closed 
 unfolding headLine
 first-bytes s c h = closed-first (ahead s c) h
 
-first-length : (s : List ℕ) (c : Cursor) → 0 < length (ahead s c) → length (closed (ahead s c)) ≡ length (headLine s c) + length (closed (drop 1 (ahead s c)))
-first-length s c h = ap length (first-bytes s c h) ∙ length-append (headLine s c) (closed (drop 1 (ahead s c)))
-
 pub closed-none : closed [] ≡ []
 unfolding closed
 closed-none = refl
 
-all-count : (s : List ℕ) → length (allLines s) ≡ lineCount (tableOf s)
+pub all-count : (s : List ℕ) → length (allLines s) ≡ lineCount (tableOf s)
 unfolding allLines lineCount
 all-count s = refl
 
@@ -51,49 +48,6 @@ going false x e f = sym e
 pub gone : (b x : Bool) → b ≡ x → not b ≡ false → x ≡ true
 gone true x e f = sym e
 gone false x e f = cc
-
--- ---- counting
-
-pub record Counting (s : List ℕ) (p : Page) (c : Cursor) (lines bytes : ℕ) : Type 0 where
-  pub at : At s p c
-  pub lines-are : lines + length (ahead s c) ≡ lineCount (tableOf s)
-  pub bytes-are : bytes + length (closed (ahead s c)) ≡ byteCount (tableOf s)
-
-pub counting-begin : (s : List ℕ) (p : Page) (c : Cursor) → Ahead s p c (allLines s) → Counting s p c 0 0
-counting-begin s p c A =
-    record {
-      at = A .at;
-      lines-are = omega (arith, ap length (A .lines), all-count s);
-      bytes-are = omega (arith, ap (λ ls. length (closed ls)) (A .lines), ap length (all-bytes s), page-bytes s);
-    }
-
-module _ (s : List ℕ) (p : Page) (c : Cursor) (lines bytes : ℕ) (C : Counting s p c lines bytes) where
-  pub counting-on : isEnd (c .stage) ≡ false → (n : ℕ) → n ≡ length (headLine s c) → (r : Cursor) → Ahead s p r (drop 1 (ahead s c)) → Counting s p r (lines + 1) (bytes + n)
-  counting-on e n en r A =
-      let h = some-lines s p c (C .at) e in
-      record {
-        at = A .at;
-        lines-are = omega (arith, C .lines-are, ap length (A .lines), length-drop 1 (ahead s c), h);
-        bytes-are = omega (arith, C .bytes-are, ap (λ ls. length (closed ls)) (A .lines), first-length s c h, en);
-      }
-
-  pub counting-less : isEnd (c .stage) ≡ false → (r : Cursor) → Ahead s p r (drop 1 (ahead s c)) → length (ahead s r) < length (ahead s c)
-  counting-less e r A = omega (arith, ap length (A .lines), length-drop 1 (ahead s c), some-lines s p c (C .at) e)
-
-  pub lines-small : Opened s p → lines ≤ 1000000
-  lines-small O = omega (arith, C .lines-are, line-count-bound (tableOf s) (limits-of s (O .passes)))
-
-  pub bytes-small : Opened s p → bytes ≤ 10201000000
-  bytes-small O = omega (arith, C .bytes-are, byte-count-bound (tableOf s) (limits-of s (O .passes)))
-
-  pub bytes-on-small : Opened s p → isEnd (c .stage) ≡ false → (n : ℕ) → n ≡ length (headLine s c) → bytes + n ≤ 10201000000
-  bytes-on-small O e n en = omega (arith, C .bytes-are, first-length s c (some-lines s p c (C .at) e), en, byte-count-bound (tableOf s) (limits-of s (O .passes)))
-
-  pub all-lines : isEnd (c .stage) ≡ true → lines ≡ lineCount (tableOf s)
-  all-lines e = omega (arith, C .lines-are, ap length (end-lines s c e))
-
-  pub whole-bytes : isEnd (c .stage) ≡ true → bytes ≡ byteCount (tableOf s)
-  whole-bytes e = omega (arith, C .bytes-are, ap (λ ls. length (closed ls)) (end-lines s c e), ap length closed-none)
 
 -- ---- writing, over lines from any of the page's on
 
