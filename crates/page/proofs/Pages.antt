@@ -5,18 +5,26 @@ use mathlib.Core.List.{List, [], _++_}
 use mathlib.Core.Bool.{Bool, true, false, not}
 use native.Mathlib.Omega.{arith}
 use lib.ListN.{length, take, drop, length-append, length-drop}
+use lib.Dec.{eqb}
+use borrow.Author.Tests.{eqb-true}
 use lib.Seq.{drop-drop, drop-at, take-at, take-add, take-all, length-take-le}
-use Rattle.rules.specs.Page.{closed, lineCount, byteCount, page as pageOf}
+use Rattle.rules.specs.Style.{contentLines}
+use Rattle.rules.specs.Page.{height, closed, lineCount, byteCount, page as pageOf}
 use Rattle.rules.proofs.Sizes.{closed-first}
-use Rattle.rules.proofs.Counts.{line-count-bound}
 use Rattle.sheet.specs.Held.{tableOf}
+use Rattle.sheet.specs.Walk.{rowsIn, firstRow}
 use Rattle.buffer.specs.Put.{over, putAt}
 use Rattle.buffer.proofs.Laws.{over-put, length-over}
-use Rattle.page.specs.Ahead.{ahead, allLines, headLine, Ahead, At, Opened, isEnd}
-use Rattle.page.specs.Count.{SoughtIs}
+use Rattle.page.specs.Ahead.{widthsIn, textLines, moreFrom, ahead, allLines, headLine, Ahead, At, RowAt, isEnd, startsRow}
+use Rattle.page.specs.Count.{PassedIs, SoughtIs}
 use Rattle.page.specs.declared.cursor.Page.{Page}
 use Rattle.page.specs.declared.cursor.Cursor.{Cursor}
-use Rattle.page.proofs.LineLengths.{end-lines, some-lines, limits-of}
+use Rattle.page.specs.declared.cursor.Stage.{Stage}
+use Rattle.page.specs.declared.cursor.Stage.the-variants.{Top, Header, HeaderRule, Text, Rule, Bottom, End}
+use Rattle.page.specs.declared.lines.Sought.{Sought}
+use Rattle.page.proofs.Ahead.{text-count}
+use Rattle.page.proofs.Steps.{at-text}
+use Rattle.page.proofs.LineLengths.{end-lines, some-lines}
 
 -- ---- the next line and those after it
 
@@ -39,6 +47,9 @@ all-bytes s = refl
 pub page-bytes : (s : List ℕ) → length (pageOf (tableOf s)) ≡ byteCount (tableOf s)
 unfolding byteCount
 page-bytes s = refl
+
+never : false ≡ true → ⊥
+never e = let z : _≡_ {A = ℕ} 0 1 = cc in omega arith
 
 -- what `!` says of a call's answer
 pub going : (b x : Bool) → b ≡ x → not b ≡ true → x ≡ false
@@ -100,6 +111,47 @@ module _ (s : List ℕ) (p : Page) (page₀ B page : List ℕ) (c : Cursor) (at 
   pub writing-done : page ≡ over B page₀
   writing-done = w .done ∙ ap (λ l. over l page₀) (take-all at B (omega (arith, writing-all)))
 
+-- ---- lines passed over
+
+pub starts-text : (x : Stage) (j : ℕ) → startsRow x j ≡ true → (x ≡ Text) × (j ≡ 0)
+starts-text Top j e = absurd (never e)
+starts-text Header j e = absurd (never e)
+starts-text HeaderRule j e = absurd (never e)
+starts-text Text j e = (refl, eqb-true j 0 e)
+starts-text Rule j e = absurd (never e)
+starts-text Bottom j e = absurd (never e)
+starts-text End j e = absurd (never e)
+
+pub starts-here : (x : Stage) (j : ℕ) → x ≡ Text → eqb j 0 ≡ startsRow x j
+starts-here x j e = rw e
+
+pub row-here : (s : List ℕ) (p : Page) (c : Cursor) → At s p c → startsRow (c .stage) (c .line) ≡ true → RowAt s p c
+row-here s p c A e = at-text s p c (starts-text (c .stage) (c .line) e .0) A
+
+module _ (s : List ℕ) (p : Page) (c : Cursor) (A : At s p c) (most : ℕ) where
+  -- one line
+  pub passed-line : isEnd (c .stage) ≡ false → 0 < most → (r : Cursor) → Ahead s p r (drop 1 (ahead s c)) → PassedIs s p c most (record { cursor = r; passed = 1 })
+  passed-line e h r B = record { some = omega arith; within = omega arith; there = omega (arith, some-lines s p c A e); next = B }
+
+  -- a row from its first line on
+  pub passed-row : startsRow (c .stage) (c .line) ≡ true → (n : ℕ) → n ≡ height (tableOf s) (widthsIn s) (firstRow s (c .here)) → n ≤ most
+      → (r : Cursor) → Ahead s p r (moreFrom s (drop 1 (rowsIn s (c .here)))) → PassedIs s p c most (record { cursor = r; passed = n })
+  unfolding ahead
+  passed-row e n en h r B =
+      let t = starts-text (c .stage) (c .line) e in
+      let R = row-here s p c A e in
+      let z = t .1 in
+      let T = textLines s contentLines (firstRow s (c .here)) in
+      let F = moreFrom s (drop 1 (rowsIn s (c .here))) in
+      let a : ahead s c ≡ T ++ F = rw (t .0, t .1) in
+      let l : length T ≡ n = text-count s contentLines (firstRow s (c .here)) ∙ sym en in
+      record {
+        some = omega (arith, R .has);
+        within = h;
+        there = omega (arith, ap length a, length-append T F);
+        next = record { lines = B .lines ∙ sym (ap (drop n) a ∙ drop-at T F n l); at = B .at };
+      }
+
 -- ---- seeking
 
 pub record Seeking (s : List ℕ) (p : Page) (k : ℕ) (c : Cursor) (i : ℕ) : Type 0 where
@@ -112,24 +164,17 @@ pub seeking-begin : (s : List ℕ) (p : Page) (k : ℕ) (c : Cursor) → Ahead s
 seeking-begin s p k c A = record { at = A .at; lines = A .lines; within = omega arith; passed = omega arith }
 
 module _ (s : List ℕ) (p : Page) (k : ℕ) (c : Cursor) (i : ℕ) (S : Seeking s p k c i) where
-  pub seeking-on : isEnd (c .stage) ≡ false → i < k → (r : Cursor) → Ahead s p r (drop 1 (ahead s c)) → Seeking s p k r (i + 1)
-  seeking-on e h r A =
+  pub seeking-on : i < k → (r : Sought) → PassedIs s p c (k - i) r → Seeking s p k (r .cursor) (i + r .passed)
+  seeking-on h r P =
       record {
-        at = A .at;
-        lines = A .lines ∙ ap (drop 1) (S .lines) ∙ drop-drop 1 i (allLines s);
-        within = omega arith;
-        passed = omega (arith, some-lines s p c (S .at) e, ap length (S .lines), length-drop i (allLines s), all-count s);
+        at = P .next .at;
+        lines = P .next .lines ∙ ap (drop (r .passed)) (S .lines) ∙ drop-drop (r .passed) i (allLines s);
+        within = omega (arith, P .within);
+        passed = omega (arith, P .there, ap length (S .lines), length-drop i (allLines s), all-count s, S .passed);
       }
 
-  pub seeking-small : Opened s p → i ≤ 1000000
-  seeking-small O = omega (arith, S .passed, line-count-bound (tableOf s) (limits-of s (O .passes)))
-
   pub sought-end : isEnd (c .stage) ≡ true → SoughtIs s p k (record { cursor = c; passed = i })
-  sought-end e = record { lines = S .lines; at = S .at; within = S .within; passed = S .passed; reached = λ f. absurd (no (isEnd (c .stage)) e f) }
-    where
-      no : (b : Bool) → b ≡ true → b ≡ false → ⊥
-      no true e f = let z : _≡_ {A = ℕ} 0 1 = cc in omega arith
-      no false e f = let z : _≡_ {A = ℕ} 0 1 = cc in omega arith
+  sought-end e = record { lines = S .lines; at = S .at; within = S .within; passed = S .passed; reached = λ f. absurd (never (sym f ∙ e)) }
 
   pub sought-there : k ≤ i → SoughtIs s p k (record { cursor = c; passed = i })
   sought-there h = record { lines = S .lines; at = S .at; within = S .within; passed = S .passed; reached = λ f. omega (arith, S .within) }

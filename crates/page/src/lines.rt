@@ -12,8 +12,8 @@ ghost use Rattle.sheet.specs.Held.{tableOf};
 ghost use Rattle.sheet.specs.Walk.{rowsIn, rowsEnd, firstRow};
 ghost use Rattle.formatting.specs.Height.{limited};
 ghost use Rattle.formatting.specs.Line.{shownAt};
-ghost use Rattle.page.specs.Ahead.{widthsIn, Opened, Ahead, At, ahead, allLines, headLine, isEnd};
-ghost use Rattle.page.specs.Count.{widthUpTo, LengthsAre, Shows, textCount, insideLines, SoughtIs, Wrote};
+ghost use Rattle.page.specs.Ahead.{widthsIn, Opened, Ahead, At, ahead, allLines, headLine, isEnd, startsRow};
+ghost use Rattle.page.specs.Count.{widthUpTo, LengthsAre, Shows, textCount, insideLines, PassedIs, SoughtIs, Wrote};
 ghost use Rattle.page.specs.Several.{fitting};
 use crate::cursor;
 use crate::cursor::Cursor;
@@ -222,6 +222,45 @@ pub struct Sought {
     pub passed: usize,
 }
 
+// A cursor before the first line of a row.
+fn starts_row(stage: Stage, line: usize) -> bool
+    ensures { λ r. ⌜ r ≡ startsRow stage line ⌝ }
+{
+    match stage {
+        Stage::Top => false,
+        Stage::Header => false,
+        Stage::HeaderRule => false,
+        Stage::Text => line == 0,
+        Stage::Rule => false,
+        Stage::Bottom => false,
+        Stage::End => false,
+    }
+}
+
+// Passes over a whole row from its first line, if that is at most so many lines, else over one line.
+fn pass(sheet: &[u8], p: Page, c: Cursor, most: usize) -> Sought
+    requires { ⌜ Opened (now sheet) p × (At (now sheet) p c × ((isEnd (c .stage) ≡ Bool.false) × (0 < most))) ⌝ }
+    ensures { λ r. ⌜ PassedIs (now (sheet .entry)) p c most r ⌝ }
+{
+    let view = p.view;
+    let stage = c.stage;
+    let here = c.here;
+    if !starts_row(stage, c.line) {
+        let cursor = cursor::step(sheet, p, c);
+        return Sought { cursor, passed: 1 };
+    }
+    let lines = row_lines(sheet, view, here);
+    if most < lines {
+        let cursor = cursor::step(sheet, p, c);
+        return Sought { cursor, passed: 1 };
+    }
+    let cursor = cursor::after_row(sheet, p, here);
+    Sought {
+        cursor,
+        passed: lines,
+    }
+}
+
 // The cursor at line k, or at the end, where the lines passed over are all there are.
 pub fn seek(sheet: &[u8], p: Page, k: usize) -> Sought
     requires { ⌜ Opened (now sheet) p ⌝ }
@@ -236,8 +275,10 @@ pub fn seek(sheet: &[u8], p: Page, k: usize) -> Sought
                 passed: i,
             };
         }
-        c = cursor::step(sheet, p, c);
-        i += 1;
+        let over = pass(sheet, p, c, k - i);
+        let next = over.cursor;
+        c = next;
+        i += over.passed;
     }
     Sought {
         cursor: c,
