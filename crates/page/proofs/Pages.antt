@@ -16,7 +16,7 @@ use Rattle.sheet.specs.Walk.{rowsIn, firstRow}
 use Rattle.buffer.specs.Put.{over, putAt}
 use Rattle.buffer.proofs.Laws.{over-put, length-over}
 use Rattle.page.specs.Ahead.{widthsIn, textLines, moreFrom, ahead, allLines, headLine, Ahead, At, RowAt, isEnd, startsRow}
-use Rattle.page.specs.Count.{PassedIs, SoughtIs}
+use Rattle.page.specs.Count.{PassedIs, Seeking, SoughtIs}
 use Rattle.page.specs.declared.cursor.Page.{Page}
 use Rattle.page.specs.declared.cursor.Cursor.{Cursor}
 use Rattle.page.specs.declared.cursor.Stage.{Stage}
@@ -131,7 +131,7 @@ row-here s p c A e = at-text s p c (starts-text (c .stage) (c .line) e .0) A
 module _ (s : List ℕ) (p : Page) (c : Cursor) (A : At s p c) (most : ℕ) where
   -- one line
   pub passed-line : isEnd (c .stage) ≡ false → 0 < most → (r : Cursor) → Ahead s p r (drop 1 (ahead s c)) → PassedIs s p c most (record { cursor = r; passed = 1 })
-  passed-line e h r B = record { some = omega arith; within = omega arith; there = omega (arith, some-lines s p c A e); next = B }
+  passed-line e h r B = record { within = omega arith; there = omega (arith, some-lines s p c A e); next = B }
 
   -- a row from its first line on
   pub passed-row : startsRow (c .stage) (c .line) ≡ true → (n : ℕ) → n ≡ height (tableOf s) (widthsIn s) (firstRow s (c .here)) → n ≤ most
@@ -139,26 +139,17 @@ module _ (s : List ℕ) (p : Page) (c : Cursor) (A : At s p c) (most : ℕ) wher
   unfolding ahead
   passed-row e n en h r B =
       let t = starts-text (c .stage) (c .line) e in
-      let R = row-here s p c A e in
-      let z = t .1 in
       let T = textLines s contentLines (firstRow s (c .here)) in
       let F = moreFrom s (drop 1 (rowsIn s (c .here))) in
       let a : ahead s c ≡ T ++ F = rw (t .0, t .1) in
       let l : length T ≡ n = text-count s contentLines (firstRow s (c .here)) ∙ sym en in
       record {
-        some = omega (arith, R .has);
         within = h;
         there = omega (arith, ap length a, length-append T F);
         next = record { lines = B .lines ∙ sym (ap (drop n) a ∙ drop-at T F n l); at = B .at };
       }
 
 -- ---- seeking
-
-pub record Seeking (s : List ℕ) (p : Page) (k : ℕ) (c : Cursor) (i : ℕ) : Type 0 where
-  pub at : At s p c
-  pub lines : ahead s c ≡ drop i (allLines s)
-  pub within : i ≤ k
-  pub passed : i ≤ lineCount (tableOf s)
 
 pub seeking-begin : (s : List ℕ) (p : Page) (k : ℕ) (c : Cursor) → Ahead s p c (allLines s) → Seeking s p k c 0
 seeking-begin s p k c A = record { at = A .at; lines = A .lines; within = omega arith; passed = omega arith }
@@ -172,6 +163,10 @@ module _ (s : List ℕ) (p : Page) (k : ℕ) (c : Cursor) (i : ℕ) (S : Seeking
         within = omega (arith, P .within);
         passed = omega (arith, P .there, ap length (S .lines), length-drop i (allLines s), all-count s, S .passed);
       }
+
+  -- by one line
+  pub seeking-step : i < k → isEnd (c .stage) ≡ false → (r : Cursor) → Ahead s p r (drop 1 (ahead s c)) → Seeking s p k r (i + 1)
+  seeking-step h e r B = seeking-on h (record { cursor = r; passed = 1 }) (passed-line s p c (S .at) (k - i) e (omega arith) r B)
 
   pub sought-end : isEnd (c .stage) ≡ true → SoughtIs s p k (record { cursor = c; passed = i })
   sought-end e = record { lines = S .lines; at = S .at; within = S .within; passed = S .passed; reached = λ f. absurd (never (sym f ∙ e)) }

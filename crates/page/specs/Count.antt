@@ -1,5 +1,5 @@
 -- How long a page's lines are, and how many. Assumes nothing.
-use Prim.Native.Nat.{ℕ, zero, suc, _+_, _≤_, _<_}
+use Prim.Native.Nat.{ℕ, zero, suc, _+_, _≤_}
 use mathlib.Core.Path.{_≡_}
 use mathlib.Core.List.{List, _++_, map}
 use mathlib.Core.Bool.{false}
@@ -49,12 +49,18 @@ unfoldable pub insideLines : List ℕ → List (List ℕ)
 insideLines s =
     headed (textLines s headerLines) (ruleLines s false headerRule) (tableOf s .header) ++ ruledRows (textLines s contentLines) (ruleLines s false rowRule) (tableOf s .rows)
 
--- some lines are passed over, at most so many, and the cursor has the others before it
+-- at most so many lines are passed over, and the cursor has the others before it
 pub record PassedIs (s : List ℕ) (p : Page) (c : Cursor) (most : ℕ) (r : Sought) : Type 0 where
-  pub some : 0 < r .passed
   pub within : r .passed ≤ most
   pub there : r .passed ≤ length (ahead s c)
   pub next : Ahead s p (r .cursor) (drop (r .passed) (ahead s c))
+
+-- the cursor stands before line i, which isn't past line k
+pub record Seeking (s : List ℕ) (p : Page) (k : ℕ) (c : Cursor) (i : ℕ) : Type 0 where
+  pub at : At s p c
+  pub lines : ahead s c ≡ drop i (allLines s)
+  pub within : i ≤ k
+  pub passed : i ≤ lineCount (tableOf s)
 
 -- the cursor stands before line `passed`, which is line k, or at the end before it
 pub record SoughtIs (s : List ℕ) (p : Page) (k : ℕ) (r : Sought) : Type 0 where

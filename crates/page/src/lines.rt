@@ -13,7 +13,7 @@ ghost use Rattle.sheet.specs.Walk.{rowsIn, rowsEnd, firstRow};
 ghost use Rattle.formatting.specs.Height.{limited};
 ghost use Rattle.formatting.specs.Line.{shownAt};
 ghost use Rattle.page.specs.Ahead.{widthsIn, Opened, Ahead, At, ahead, allLines, headLine, isEnd, startsRow};
-ghost use Rattle.page.specs.Count.{widthUpTo, LengthsAre, Shows, textCount, insideLines, PassedIs, SoughtIs, Wrote};
+ghost use Rattle.page.specs.Count.{widthUpTo, LengthsAre, Shows, textCount, insideLines, PassedIs, Seeking, SoughtIs, Wrote};
 ghost use Rattle.page.specs.Several.{fitting};
 use crate::cursor;
 use crate::cursor::Cursor;
@@ -237,22 +237,30 @@ fn starts_row(stage: Stage, line: usize) -> bool
     }
 }
 
-// Passes over a whole row from its first line, if that is at most so many lines, else over one line.
+// Passes over a whole row from its first line, or over one other line. None is passed over at the end, nor of a row with more than `most` lines.
 fn pass(sheet: &[u8], p: Page, c: Cursor, most: usize) -> Sought
-    requires { ⌜ Opened (now sheet) p × (At (now sheet) p c × ((isEnd (c .stage) ≡ Bool.false) × (0 < most))) ⌝ }
+    requires { ⌜ Opened (now sheet) p × (At (now sheet) p c × (0 < most)) ⌝ }
     ensures { λ r. ⌜ PassedIs (now (sheet .entry)) p c most r ⌝ }
 {
     let view = p.view;
     let stage = c.stage;
     let here = c.here;
+    if is_end(c) {
+        return Sought {
+            cursor: c,
+            passed: 0,
+        };
+    }
     if !starts_row(stage, c.line) {
         let cursor = cursor::step(sheet, p, c);
         return Sought { cursor, passed: 1 };
     }
     let lines = row_lines(sheet, view, here);
     if most < lines {
-        let cursor = cursor::step(sheet, p, c);
-        return Sought { cursor, passed: 1 };
+        return Sought {
+            cursor: c,
+            passed: 0,
+        };
     }
     let cursor = cursor::after_row(sheet, p, here);
     Sought {
@@ -261,21 +269,21 @@ fn pass(sheet: &[u8], p: Page, c: Cursor, most: usize) -> Sought
     }
 }
 
-// The cursor at line k, or at the end, where the lines passed over are all there are.
-pub fn seek(sheet: &[u8], p: Page, k: usize) -> Sought
+// A cursor at line k, at the end before it, or at the first line of the row that holds line k.
+fn seek_row(sheet: &[u8], p: Page, k: usize) -> Sought
     requires { ⌜ Opened (now sheet) p ⌝ }
-    ensures { λ r. ⌜ SoughtIs (now (sheet .entry)) p k r ⌝ }
+    ensures { λ r. ⌜ Seeking (now (sheet .entry)) p k (r .cursor) (r .passed) ⌝ }
 {
     let mut c = cursor::start(sheet, p);
     let mut i: usize = 0;
     while i < k {
-        if is_end(c) {
+        let over = pass(sheet, p, c, k - i);
+        if over.passed == 0 {
             return Sought {
                 cursor: c,
                 passed: i,
             };
         }
-        let over = pass(sheet, p, c, k - i);
         let next = over.cursor;
         c = next;
         i += over.passed;
@@ -284,6 +292,38 @@ pub fn seek(sheet: &[u8], p: Page, k: usize) -> Sought
         cursor: c,
         passed: i,
     }
+}
+
+// The same cursor stepped on, line by line.
+fn seek_line(sheet: &[u8], p: Page, k: usize, from: Sought) -> Sought
+    requires { ⌜ Opened (now sheet) p × Seeking (now sheet) p k (from .cursor) (from .passed) ⌝ }
+    ensures { λ r. ⌜ SoughtIs (now (sheet .entry)) p k r ⌝ }
+{
+    let mut c = from.cursor;
+    let mut i = from.passed;
+    while i < k {
+        if is_end(c) {
+            return Sought {
+                cursor: c,
+                passed: i,
+            };
+        }
+        c = cursor::step(sheet, p, c);
+        i += 1;
+    }
+    Sought {
+        cursor: c,
+        passed: i,
+    }
+}
+
+// The cursor at line k, or at the end, where the lines passed over are all there are. Rows before the one that holds line k are passed over as a whole.
+pub fn seek(sheet: &[u8], p: Page, k: usize) -> Sought
+    requires { ⌜ Opened (now sheet) p ⌝ }
+    ensures { λ r. ⌜ SoughtIs (now (sheet .entry)) p k r ⌝ }
+{
+    let from = seek_row(sheet, p, k);
+    seek_line(sheet, p, k, from)
 }
 
 // The length of a page's next line, its 0A included.
