@@ -5,3 +5,4 @@ pub mod Stand
 pub mod Whole
 pub mod Open
 pub mod RowText
+pub mod Heights

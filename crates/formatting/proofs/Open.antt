@@ -52,10 +52,10 @@ end-past s p (suc n) = end-past s (p + 1 + getD s p 0) n
 
 -- ---- one cell
 
-blank-line : (w d : ℕ) → wrapLines w d ([] ∷ []) ≡ [] ∷ []
+pub blank-line : (w d : ℕ) → wrapLines w d ([] ∷ []) ≡ [] ∷ []
 blank-line w d = wrap-more w d [] [] ∙ rw (wrap-short w d [] (omega (arith, width-length [])), wrap-none w d)
 
-no-cells : (s : List ℕ) (c : Cells) → c .left ≡ 0 → firstCell s c ≡ noCell
+pub no-cells : (s : List ℕ) (c : Cells) → c .left ≡ 0 → firstCell s c ≡ noCell
 unfolding cellsIn parts
 no-cells s c h = rw h
 
@@ -91,7 +91,7 @@ module _ (s : List ℕ) (c : Cells) (x : records.Cell) (X : CellIs s c x) (v : S
   unfolding linesEnd
   opened-inside = record { order = omega arith; within = rw (end-past s (x .lines .at) (x .lines .left)) stop }
 
-  lines-here : (d : ℕ) → rest s (v .width) d (record { at = x .lines .at; end = x .lines .at; left = x .lines .left }) ≡ wrapLines (v .width) d (firstCell s c .lines)
+  pub lines-here : (d : ℕ) → rest s (v .width) d (record { at = x .lines .at; end = x .lines .at; left = x .lines .left }) ≡ wrapLines (v .width) d (firstCell s c .lines)
   unfolding linesIn
   lines-here d =
       rest-used s (v .width) d wide (record { at = x .lines .at; end = x .lines .at; left = x .lines .left }) refl
@@ -136,60 +136,66 @@ cells-done s c₀ c i n h k e = let z : i ≡ n = omega arith in rw z at e
 
 -- ---- a row's cells, column by column
 
--- the columns before i are opened; `passed` cells of xs are passed
-pub record Opening (s : List ℕ) (view : View) (xs : List Cell) (ts : List Standing) (left : Cells) (passed : ℕ) (more : Bool) (i : ℕ) : Type 0 where
+-- before visible column i, `passed` cells of xs are passed
+pub record Passing (s : List ℕ) (view : View) (xs : List Cell) (left : Cells) (passed i : ℕ) : Type 0 where
   pub within : i ≤ view .count
-  pub size : length ts ≡ 12
-  pub done : (k : ℕ) → k < i → OpenedAt s (getD xs (shownAt view k .number) noCell) (shownAt view k) (standingAt ts k)
   pub cells : cellsIn s left ≡ drop passed xs
   pub ends : cellsEnd s left ≤ length s
   pub order : (k : ℕ) → i ≤ k → k < view .count → passed ≤ shownAt view k .number
+
+pub passing-begins : (s : List ℕ) (view : View) (c : Cells) → cellsEnd s c ≤ length s → Passing s view (cellsIn s c) c 0 0
+passing-begins s view c h = record { within = omega arith; cells = refl; ends = h; order = λ k x y. omega arith }
+
+module _ (s : List ℕ) (view : View) (xs : List Cell) (left : Cells) (passed i : ℕ) (P : Passing s view xs left passed i) (h : i < view .count) (next : Cells) (e : cellsIn s next ≡ drop (shownAt view i .number - passed) (cellsIn s left)) where
+  cells-here : cellsIn s next ≡ drop (shownAt view i .number) xs
+  cells-here =
+      let n = shownAt view i .number in
+      let p = P .order i (omega arith) h in
+      let z : passed + (n - passed) ≡ n = omega arith in
+      e ∙ ap (drop (n - passed)) (P .cells) ∙ drop-drop (n - passed) passed xs ∙ ap (λ q. drop q xs) z
+
+  -- the cell of visible column i
+  pub cell-here : firstCell s next ≡ getD xs (shownAt view i .number) noCell
+  cell-here =
+      let n = shownAt view i .number in
+      let y : n + 0 ≡ n = omega arith in
+      ap (λ l. getD l 0 noCell) cells-here ∙ getD-drop n xs 0 noCell ∙ ap (λ q. getD xs q noCell) y
+
+  pub passing-on : Rising view → cellsEnd s next ≡ cellsEnd s left → Passing s view xs next (shownAt view i .number) (i + 1)
+  passing-on R f = record { within = omega arith; cells = cells-here; ends = omega (arith, P .ends); order = λ q a b. R .order i q (omega arith) b }
+
+-- the columns before i are opened
+pub record Opening (s : List ℕ) (view : View) (xs : List Cell) (ts : List Standing) (left : Cells) (passed : ℕ) (more : Bool) (i : ℕ) : Type 0 where
+  pub passing : Passing s view xs left passed i
+  pub size : length ts ≡ 12
+  pub done : (k : ℕ) → k < i → OpenedAt s (getD xs (shownAt view k .number) noCell) (shownAt view k) (standingAt ts k)
   pub found : more ≡ anyFound ts i
 
 pub opening-begins : (s : List ℕ) (view : View) (c : Cells) (ts : List Standing) → length ts ≡ 12 → cellsEnd s c ≤ length s → Opening s view (cellsIn s c) ts c 0 false 0
 unfolding anyFound
-opening-begins s view c ts l h = record {
-  within = omega arith;
-  size = l;
-  done = λ k x. absurd (omega arith);
-  cells = refl;
-  ends = h;
-  order = λ k x y. omega arith;
-  found = refl;
-}
+opening-begins s view c ts l h = record { passing = passing-begins s view c h; size = l; done = λ k x. absurd (omega arith); found = refl }
 
 module _ (s : List ℕ) (view : View) (R : Rising view) (xs : List Cell) (ts : List Standing) (left : Cells) (passed : ℕ) (more : Bool) (i : ℕ) (O : Opening s view xs ts left passed more i) (h : i < view .count) where
-  here : Shown
-  here = shownAt view i
-
   pub opening-on : (next : Cells) (t : Standing) (m : Bool) → cellsIn s next ≡ drop (shownAt view i .number - passed) (cellsIn s left) → cellsEnd s next ≡ cellsEnd s left
       → OpenedAt s (firstCell s next) (shownAt view i) t → m ≡ (more || t .found) → Opening s view xs (set ts i t) next (shownAt view i .number) m (i + 1)
   unfolding anyFound
   opening-on next t m e f o x =
       let k : i < length ts = omega (arith, O .size, R .most) in
-      let n = shownAt view i .number in
-      let p = O .order i (omega arith) h in
-      let z : passed + (n - passed) ≡ n = omega arith in
-      let c : cellsIn s next ≡ drop n xs = e ∙ ap (drop (n - passed)) (O .cells) ∙ drop-drop (n - passed) passed xs ∙ ap (λ q. drop q xs) z in
-      let y : n + 0 ≡ n = omega arith in
-      let d : firstCell s next ≡ getD xs n noCell = ap (λ l. getD l 0 noCell) c ∙ getD-drop n xs 0 noCell ∙ ap (λ q. getD xs q noCell) y in
+      let d = cell-here s view xs left passed i (O .passing) h next e in
       record {
-        within = omega arith;
+        passing = passing-on s view xs left passed i (O .passing) h next e R f;
         size = length-set ts i t ∙ O .size;
         done = λ q l.
             ⊎-elim
             (λ (u : q ≡ i). rw (u, getD-set-same ts i t noStanding k) (rw d at o))
             (λ (u : q < i). rw (getD-set-other ts i q t noStanding (λ w. omega arith)) (O .done q u))
             (eq-or-lt-of-le (omega arith));
-        cells = c;
-        ends = omega (arith, O .ends);
-        order = λ q a b. R .order i q (omega arith) b;
         found = rw (add-one i) (x ∙ rw (O .found, same-below ts i i t (omega arith), getD-set-same ts i t noStanding k));
       }
 
 pub opening-done : (s : List ℕ) (view : View) (xs : List Cell) (ts : List Standing) (left : Cells) (passed : ℕ) (more : Bool) (i : ℕ) → Opening s view xs ts left passed more i → view .count ≤ i
     → OpenedRow s xs view ts × (more ≡ anyFound ts (view .count))
 opening-done s view xs ts left passed more i O h =
-    let w = O .within in
+    let w = O .passing .within in
     let e : i ≡ view .count = omega arith in
     (record { size = O .size; each = λ k l. O .done k (omega arith) }, rw e at (O .found))

@@ -139,7 +139,7 @@ below-max j a b = go (ltb j a) refl (ltb j b) refl
     go false e true f = lt-ltb j (max a b) (omega (arith, ltb-true j b f))
     go false e false f = le-ltb j (max a b) (omega (arith, ltb-false j a e, ltb-false j b f))
 
-greatest-snoc : (ns : List ℕ) (n : ℕ) → greatest (ns ++ (n ∷ [])) ≡ max (greatest ns) n
+pub greatest-snoc : (ns : List ℕ) (n : ℕ) → greatest (ns ++ (n ∷ [])) ≡ max (greatest ns) n
 unfolding greatest
 greatest-snoc [] n = omega arith
 greatest-snoc (m ∷ ns) n = omega (arith, greatest-snoc ns n)
@@ -148,14 +148,20 @@ both-either : (x a b : Bool) → ((x && a) || (x && b)) ≡ (x && (a || b))
 both-either true a b = refl
 both-either false a b = refl
 
-no-lines : (f : ℕ → ℕ) → greatest (map f (upFrom 0 0)) ≡ 0
+pub no-lines : (f : ℕ → ℕ) → greatest (map f (upFrom 0 0)) ≡ 0
 unfolding greatest upFrom
 no-lines f = refl
 
-map-up : (f : ℕ → ℕ) (n : ℕ) → map f (upFrom 0 (suc n)) ≡ map f (upFrom 0 n) ++ (f n ∷ [])
+pub map-up : (f : ℕ → ℕ) (n : ℕ) → map f (upFrom 0 (suc n)) ≡ map f (upFrom 0 n) ++ (f n ∷ [])
 map-up f n =
     let z : 0 + n ≡ n = omega arith in
     ap (map f) (upFrom-last 0 n ∙ ap (λ m. upFrom 0 n ++ (m ∷ [])) z) ∙ map-snoc f (upFrom 0 n) n
+
+-- a row's height by the numbers of its visible columns
+pub height-numbered : (t : Table) (ws : List ℕ) (r : Row) (view : View) → Views t ws view → height t ws r ≡ greatest (map (λ i. length (cellLines t ws r (numberOf t i))) (upFrom 0 (view .count)))
+unfolding height
+height-numbered t ws r view W =
+    ap greatest (map-numbered (λ c. length (cellLines t ws r c)) 0 (visible t) ∙ ap (λ n. map (λ i. length (cellLines t ws r (numberOf t i))) (upFrom 0 n)) (sym (W .count)))
 
 module _ (s : List ℕ) (t : Table) (ws : List ℕ) (r : Row) (view : View) (W : Views t ws view) (j : ℕ) (ts : List Standing) (R : StandsRow s t ws r view j ts) where
   lines-of : ℕ → ℕ
@@ -181,10 +187,8 @@ module _ (s : List ℕ) (t : Table) (ws : List ℕ) (r : Row) (view : View) (W :
 
   -- a row has line j if the limit leaves it and it stands ready in some visible column
   pub height-has : ltb j (height t ws r) ≡ (inLimit (r .limit) j && anyFound ts (view .count))
-  unfolding height lines-of
-  height-has =
-      ap (λ l. ltb j (greatest l)) (map-numbered (λ c. length (cellLines t ws r c)) 0 (visible t) ∙ ap (λ n. map lines-of (upFrom 0 n)) (sym (W .count)))
-      ∙ up-to (view .count) (omega arith)
+  unfolding lines-of
+  height-has = ap (ltb j) (height-numbered t ws r view W) ∙ up-to (view .count) (omega arith)
 
 -- ---- a row opened
 

@@ -4,3 +4,4 @@ pub mod Rule
 pub mod Stand
 pub mod Open
 pub mod RowText
+pub mod Height

@@ -1,9 +1,10 @@
 // A row's cells opened at their first lines: comfy-table's `format_row`.
 ghost use mathlib.Core.Path.{_≡_};
-ghost use Prim.Native.Nat.{ℕ, _≤_, _<_};
+ghost use Prim.Native.Nat.{ℕ, _≤_, _<_, max};
 ghost use lib.ListN.{length, drop, getD};
 ghost use Rattle.rules.specs.Text.{orElse};
 ghost use Rattle.sheet.specs.Walk.{cellsIn, cellsEnd, firstCell};
+ghost use Rattle.formatting.specs.Height.{cellHeight, heightUpTo};
 ghost use Rattle.formatting.specs.Line.{anyFound};
 ghost use Rattle.formatting.specs.Open.{OpenedAt, OpenedRow, Rising, WideAll};
 use crate::content_format;
@@ -115,4 +116,51 @@ pub fn format_row(sheet: &[u8], view: View, cells: Cells) -> Skipped
         standings: ts,
         more,
     }
+}
+
+fn greater(a: usize, b: usize) -> usize
+    ensures { λ r. ⌜ r ≡ max a b ⌝ }
+{
+    if a < b { b } else { a }
+}
+
+// The lines of the first of the cells, wrapped. A missing cell is one blank line.
+fn open_height(sheet: &[u8], from: Cells, v: Shown) -> usize
+    requires { ⌜ (0 < v .width) × (cellsEnd (now sheet) from ≤ length (now sheet)) ⌝ }
+    ensures { λ r. ⌜ r ≡ cellHeight (firstCell (now (sheet .entry)) from) v ⌝ }
+{
+    if from.left == 0 {
+        return 1;
+    }
+    let x = walk::cell(sheet, from);
+    let lines = x.lines;
+    let c = CellCursor {
+        at: lines.at,
+        end: lines.at,
+        left: lines.left,
+    };
+    let delimiter = or_else(x.delimiter, v.delimiter);
+    cells::cell_height(sheet, c, v.width, delimiter)
+}
+
+// The most lines of a visible column's cell, the row's limit left aside.
+pub fn row_height(sheet: &[u8], view: View, from: Cells) -> usize
+    requires { ⌜ Rising view × (WideAll view × (cellsEnd (now sheet) from ≤ length (now sheet))) ⌝ }
+    ensures { λ r. ⌜ r ≡ heightUpTo (cellsIn (now (sheet .entry)) from) view (view .count) ⌝ }
+{
+    let n = view.count;
+    let mut left = from;
+    let mut passed: usize = 0;
+    let mut most: usize = 0;
+    let mut i: usize = 0;
+    while i < n {
+        let v = view.columns[i];
+        let number = v.number;
+        left = skip_cells(sheet, left, number - passed);
+        passed = number;
+        let lines = open_height(sheet, left, v);
+        most = greater(most, lines);
+        i += 1;
+    }
+    most
 }

@@ -8,3 +8,4 @@ pub mod Measured
 pub mod Answers
 pub mod Filling
 pub mod Parts
+pub mod Counted

@@ -1,22 +1,30 @@
--- A page's lines counted, sought and written one after another. Assumes nothing.
+-- A page's lines sought and written one after another. Assumes nothing.
 use Prim.Native.Nat.{ℕ, _+_, _-_, _≤_, _<_}
 use mathlib.Core.Path.{_≡_, refl, sym, ap, _∙_}
 use mathlib.Core.List.{List, [], _++_}
 use mathlib.Core.Bool.{Bool, true, false, not}
 use native.Mathlib.Omega.{arith}
 use lib.ListN.{length, take, drop, length-append, length-drop}
+use lib.Dec.{eqb}
+use borrow.Author.Tests.{eqb-true}
 use lib.Seq.{drop-drop, drop-at, take-at, take-add, take-all, length-take-le}
-use Rattle.rules.specs.Page.{closed, lineCount, byteCount, page as pageOf}
+use Rattle.rules.specs.Style.{contentLines}
+use Rattle.rules.specs.Page.{height, closed, lineCount, byteCount, page as pageOf}
 use Rattle.rules.proofs.Sizes.{closed-first}
-use Rattle.rules.proofs.Counts.{line-count-bound, byte-count-bound}
 use Rattle.sheet.specs.Held.{tableOf}
+use Rattle.sheet.specs.Walk.{rowsIn, firstRow}
 use Rattle.buffer.specs.Put.{over, putAt}
 use Rattle.buffer.proofs.Laws.{over-put, length-over}
-use Rattle.page.specs.Ahead.{ahead, allLines, headLine, Ahead, At, Opened, isEnd}
-use Rattle.page.specs.Count.{SoughtIs}
+use Rattle.page.specs.Ahead.{widthsIn, textLines, moreFrom, ahead, allLines, headLine, Ahead, At, RowAt, isEnd, startsRow}
+use Rattle.page.specs.Count.{PassedIs, Seeking, SoughtIs}
 use Rattle.page.specs.declared.cursor.Page.{Page}
 use Rattle.page.specs.declared.cursor.Cursor.{Cursor}
-use Rattle.page.proofs.LineLengths.{end-lines, some-lines, limits-of}
+use Rattle.page.specs.declared.cursor.Stage.{Stage}
+use Rattle.page.specs.declared.cursor.Stage.the-variants.{Top, Header, HeaderRule, Text, Rule, Bottom, End}
+use Rattle.page.specs.declared.lines.Sought.{Sought}
+use Rattle.page.proofs.Ahead.{text-count}
+use Rattle.page.proofs.Steps.{at-text}
+use Rattle.page.proofs.LineLengths.{end-lines, some-lines}
 
 -- ---- the next line and those after it
 
@@ -24,14 +32,11 @@ first-bytes : (s : List ℕ) (c : Cursor) → 0 < length (ahead s c) → closed 
 unfolding headLine
 first-bytes s c h = closed-first (ahead s c) h
 
-first-length : (s : List ℕ) (c : Cursor) → 0 < length (ahead s c) → length (closed (ahead s c)) ≡ length (headLine s c) + length (closed (drop 1 (ahead s c)))
-first-length s c h = ap length (first-bytes s c h) ∙ length-append (headLine s c) (closed (drop 1 (ahead s c)))
-
 pub closed-none : closed [] ≡ []
 unfolding closed
 closed-none = refl
 
-all-count : (s : List ℕ) → length (allLines s) ≡ lineCount (tableOf s)
+pub all-count : (s : List ℕ) → length (allLines s) ≡ lineCount (tableOf s)
 unfolding allLines lineCount
 all-count s = refl
 
@@ -43,6 +48,9 @@ pub page-bytes : (s : List ℕ) → length (pageOf (tableOf s)) ≡ byteCount (t
 unfolding byteCount
 page-bytes s = refl
 
+never : false ≡ true → ⊥
+never e = let z : _≡_ {A = ℕ} 0 1 = cc in omega arith
+
 -- what `!` says of a call's answer
 pub going : (b x : Bool) → b ≡ x → not b ≡ true → x ≡ false
 going true x e f = cc
@@ -51,49 +59,6 @@ going false x e f = sym e
 pub gone : (b x : Bool) → b ≡ x → not b ≡ false → x ≡ true
 gone true x e f = sym e
 gone false x e f = cc
-
--- ---- counting
-
-pub record Counting (s : List ℕ) (p : Page) (c : Cursor) (lines bytes : ℕ) : Type 0 where
-  pub at : At s p c
-  pub lines-are : lines + length (ahead s c) ≡ lineCount (tableOf s)
-  pub bytes-are : bytes + length (closed (ahead s c)) ≡ byteCount (tableOf s)
-
-pub counting-begin : (s : List ℕ) (p : Page) (c : Cursor) → Ahead s p c (allLines s) → Counting s p c 0 0
-counting-begin s p c A =
-    record {
-      at = A .at;
-      lines-are = omega (arith, ap length (A .lines), all-count s);
-      bytes-are = omega (arith, ap (λ ls. length (closed ls)) (A .lines), ap length (all-bytes s), page-bytes s);
-    }
-
-module _ (s : List ℕ) (p : Page) (c : Cursor) (lines bytes : ℕ) (C : Counting s p c lines bytes) where
-  pub counting-on : isEnd (c .stage) ≡ false → (n : ℕ) → n ≡ length (headLine s c) → (r : Cursor) → Ahead s p r (drop 1 (ahead s c)) → Counting s p r (lines + 1) (bytes + n)
-  counting-on e n en r A =
-      let h = some-lines s p c (C .at) e in
-      record {
-        at = A .at;
-        lines-are = omega (arith, C .lines-are, ap length (A .lines), length-drop 1 (ahead s c), h);
-        bytes-are = omega (arith, C .bytes-are, ap (λ ls. length (closed ls)) (A .lines), first-length s c h, en);
-      }
-
-  pub counting-less : isEnd (c .stage) ≡ false → (r : Cursor) → Ahead s p r (drop 1 (ahead s c)) → length (ahead s r) < length (ahead s c)
-  counting-less e r A = omega (arith, ap length (A .lines), length-drop 1 (ahead s c), some-lines s p c (C .at) e)
-
-  pub lines-small : Opened s p → lines ≤ 1000000
-  lines-small O = omega (arith, C .lines-are, line-count-bound (tableOf s) (limits-of s (O .passes)))
-
-  pub bytes-small : Opened s p → bytes ≤ 10201000000
-  bytes-small O = omega (arith, C .bytes-are, byte-count-bound (tableOf s) (limits-of s (O .passes)))
-
-  pub bytes-on-small : Opened s p → isEnd (c .stage) ≡ false → (n : ℕ) → n ≡ length (headLine s c) → bytes + n ≤ 10201000000
-  bytes-on-small O e n en = omega (arith, C .bytes-are, first-length s c (some-lines s p c (C .at) e), en, byte-count-bound (tableOf s) (limits-of s (O .passes)))
-
-  pub all-lines : isEnd (c .stage) ≡ true → lines ≡ lineCount (tableOf s)
-  all-lines e = omega (arith, C .lines-are, ap length (end-lines s c e))
-
-  pub whole-bytes : isEnd (c .stage) ≡ true → bytes ≡ byteCount (tableOf s)
-  whole-bytes e = omega (arith, C .bytes-are, ap (λ ls. length (closed ls)) (end-lines s c e), ap length closed-none)
 
 -- ---- writing, over lines from any of the page's on
 
@@ -146,36 +111,65 @@ module _ (s : List ℕ) (p : Page) (page₀ B page : List ℕ) (c : Cursor) (at 
   pub writing-done : page ≡ over B page₀
   writing-done = w .done ∙ ap (λ l. over l page₀) (take-all at B (omega (arith, writing-all)))
 
--- ---- seeking
+-- ---- lines passed over
 
-pub record Seeking (s : List ℕ) (p : Page) (k : ℕ) (c : Cursor) (i : ℕ) : Type 0 where
-  pub at : At s p c
-  pub lines : ahead s c ≡ drop i (allLines s)
-  pub within : i ≤ k
-  pub passed : i ≤ lineCount (tableOf s)
+pub starts-text : (x : Stage) (j : ℕ) → startsRow x j ≡ true → (x ≡ Text) × (j ≡ 0)
+starts-text Top j e = absurd (never e)
+starts-text Header j e = absurd (never e)
+starts-text HeaderRule j e = absurd (never e)
+starts-text Text j e = (refl, eqb-true j 0 e)
+starts-text Rule j e = absurd (never e)
+starts-text Bottom j e = absurd (never e)
+starts-text End j e = absurd (never e)
+
+pub starts-here : (x : Stage) (j : ℕ) → x ≡ Text → eqb j 0 ≡ startsRow x j
+starts-here x j e = rw e
+
+pub row-here : (s : List ℕ) (p : Page) (c : Cursor) → At s p c → startsRow (c .stage) (c .line) ≡ true → RowAt s p c
+row-here s p c A e = at-text s p c (starts-text (c .stage) (c .line) e .0) A
+
+module _ (s : List ℕ) (p : Page) (c : Cursor) (A : At s p c) (most : ℕ) where
+  -- one line
+  pub passed-line : isEnd (c .stage) ≡ false → 0 < most → (r : Cursor) → Ahead s p r (drop 1 (ahead s c)) → PassedIs s p c most (record { cursor = r; passed = 1 })
+  passed-line e h r B = record { within = omega arith; there = omega (arith, some-lines s p c A e); next = B }
+
+  -- a row from its first line on
+  pub passed-row : startsRow (c .stage) (c .line) ≡ true → (n : ℕ) → n ≡ height (tableOf s) (widthsIn s) (firstRow s (c .here)) → n ≤ most
+      → (r : Cursor) → Ahead s p r (moreFrom s (drop 1 (rowsIn s (c .here)))) → PassedIs s p c most (record { cursor = r; passed = n })
+  unfolding ahead
+  passed-row e n en h r B =
+      let t = starts-text (c .stage) (c .line) e in
+      let T = textLines s contentLines (firstRow s (c .here)) in
+      let F = moreFrom s (drop 1 (rowsIn s (c .here))) in
+      let a : ahead s c ≡ T ++ F = rw (t .0, t .1) in
+      let l : length T ≡ n = text-count s contentLines (firstRow s (c .here)) ∙ sym en in
+      record {
+        within = h;
+        there = omega (arith, ap length a, length-append T F);
+        next = record { lines = B .lines ∙ sym (ap (drop n) a ∙ drop-at T F n l); at = B .at };
+      }
+
+-- ---- seeking
 
 pub seeking-begin : (s : List ℕ) (p : Page) (k : ℕ) (c : Cursor) → Ahead s p c (allLines s) → Seeking s p k c 0
 seeking-begin s p k c A = record { at = A .at; lines = A .lines; within = omega arith; passed = omega arith }
 
 module _ (s : List ℕ) (p : Page) (k : ℕ) (c : Cursor) (i : ℕ) (S : Seeking s p k c i) where
-  pub seeking-on : isEnd (c .stage) ≡ false → i < k → (r : Cursor) → Ahead s p r (drop 1 (ahead s c)) → Seeking s p k r (i + 1)
-  seeking-on e h r A =
+  pub seeking-on : i < k → (r : Sought) → PassedIs s p c (k - i) r → Seeking s p k (r .cursor) (i + r .passed)
+  seeking-on h r P =
       record {
-        at = A .at;
-        lines = A .lines ∙ ap (drop 1) (S .lines) ∙ drop-drop 1 i (allLines s);
-        within = omega arith;
-        passed = omega (arith, some-lines s p c (S .at) e, ap length (S .lines), length-drop i (allLines s), all-count s);
+        at = P .next .at;
+        lines = P .next .lines ∙ ap (drop (r .passed)) (S .lines) ∙ drop-drop (r .passed) i (allLines s);
+        within = omega (arith, P .within);
+        passed = omega (arith, P .there, ap length (S .lines), length-drop i (allLines s), all-count s, S .passed);
       }
 
-  pub seeking-small : Opened s p → i ≤ 1000000
-  seeking-small O = omega (arith, S .passed, line-count-bound (tableOf s) (limits-of s (O .passes)))
+  -- by one line
+  pub seeking-step : i < k → isEnd (c .stage) ≡ false → (r : Cursor) → Ahead s p r (drop 1 (ahead s c)) → Seeking s p k r (i + 1)
+  seeking-step h e r B = seeking-on h (record { cursor = r; passed = 1 }) (passed-line s p c (S .at) (k - i) e (omega arith) r B)
 
   pub sought-end : isEnd (c .stage) ≡ true → SoughtIs s p k (record { cursor = c; passed = i })
-  sought-end e = record { lines = S .lines; at = S .at; within = S .within; passed = S .passed; reached = λ f. absurd (no (isEnd (c .stage)) e f) }
-    where
-      no : (b : Bool) → b ≡ true → b ≡ false → ⊥
-      no true e f = let z : _≡_ {A = ℕ} 0 1 = cc in omega arith
-      no false e f = let z : _≡_ {A = ℕ} 0 1 = cc in omega arith
+  sought-end e = record { lines = S .lines; at = S .at; within = S .within; passed = S .passed; reached = λ f. absurd (never (sym f ∙ e)) }
 
   pub sought-there : k ≤ i → SoughtIs s p k (record { cursor = c; passed = i })
   sought-there h = record { lines = S .lines; at = S .at; within = S .within; passed = S .passed; reached = λ f. omega (arith, S .within) }

@@ -4,6 +4,7 @@ use mathlib.Core.Path.{_≡_}
 use mathlib.Core.List.{List, [], _∷_, _++_}
 use mathlib.Core.Bool.{Bool, true, false}
 use lib.ListN.{length, drop, getD}
+use lib.Dec.{eqb}
 use Rattle.rules.specs.Text.{All}
 use Rattle.rules.specs.Limits.{RowLimits}
 use Rattle.rules.specs.Sheet.{Row}
@@ -155,3 +156,13 @@ isEnd Text = false
 isEnd Rule = false
 isEnd Bottom = false
 isEnd End = true
+
+-- the first line of a row comes next
+abbrev pub startsRow : Stage → ℕ → Bool
+startsRow Top j = false
+startsRow Header j = false
+startsRow HeaderRule j = false
+startsRow Text j = eqb j 0
+startsRow Rule j = false
+startsRow Bottom j = false
+startsRow End j = false

@@ -1,16 +1,21 @@
--- How long a page's lines are. Assumes nothing.
+-- How long a page's lines are, and how many. Assumes nothing.
 use Prim.Native.Nat.{ℕ, zero, suc, _+_, _≤_}
 use mathlib.Core.Path.{_≡_}
-use mathlib.Core.List.{List}
+use mathlib.Core.List.{List, _++_, map}
 use mathlib.Core.Bool.{false}
 use lib.ListN.{length, drop}
-use Rattle.rules.specs.Page.{closed, lineCount}
+use Rattle.rules.specs.Text.{sum}
+use Rattle.rules.specs.Sheet.{Row}
+use Rattle.rules.specs.Page.{height, closed, lineCount}
 use Rattle.rules.proofs.Lines.{lineLength, borderLength}
 use Rattle.sheet.specs.Held.{tableOf}
 use Rattle.formatting.specs.Line.{shownAt}
+use Rattle.formatting.specs.Open.{Rising, WideAll}
+use Rattle.formatting.specs.Stand.{Views}
 use Rattle.formatting.specs.declared.content_format.View.{View}
-use Rattle.page.specs.Ahead.{widthsIn, ahead, allLines, At, Ahead, isEnd}
+use Rattle.page.specs.Ahead.{widthsIn, ahead, allLines, Ahead, At, isEnd}
 use Rattle.page.specs.declared.cursor.Page.{Page}
+use Rattle.page.specs.Parts.{headerPart, rowsPart}
 use Rattle.page.specs.Several.{fitting}
 use Rattle.page.specs.declared.cursor.Cursor.{Cursor}
 use Rattle.page.specs.declared.lines.Sought.{Sought}
@@ -28,6 +33,33 @@ pub record LengthsAre (s : List ℕ) (l : Lengths) : Type 0 where
   pub border : l .border ≡ borderLength (tableOf s) (widthsIn s)
   pub line-small : l .line ≤ 10200
   pub border-small : l .border ≤ 10200
+
+-- a view shows the sheet's visible columns, each with a width, in the sheet's order
+pub record Shows (s : List ℕ) (view : View) : Type 0 where
+  pub views : Views (tableOf s) (widthsIn s) view
+  pub rising : Rising view
+  pub wide : WideAll view
+
+-- the text lines of some rows
+unfoldable pub textCount : List ℕ → List Row → ℕ
+textCount s rs = sum (map (height (tableOf s) (widthsIn s)) rs)
+
+-- the page's lines inside its borders
+unfoldable pub insideLines : List ℕ → List (List ℕ)
+insideLines s = headerPart s ++ rowsPart s (tableOf s .rows)
+
+-- at most so many lines are passed over, and the cursor has the others before it
+pub record PassedIs (s : List ℕ) (p : Page) (c : Cursor) (most : ℕ) (r : Sought) : Type 0 where
+  pub within : r .passed ≤ most
+  pub there : r .passed ≤ length (ahead s c)
+  pub next : Ahead s p (r .cursor) (drop (r .passed) (ahead s c))
+
+-- the cursor stands before line i, which isn't past line k
+pub record Seeking (s : List ℕ) (p : Page) (k : ℕ) (c : Cursor) (i : ℕ) : Type 0 where
+  pub at : At s p c
+  pub lines : ahead s c ≡ drop i (allLines s)
+  pub within : i ≤ k
+  pub passed : i ≤ lineCount (tableOf s)
 
 -- the cursor stands before line `passed`, which is line k, or at the end before it
 pub record SoughtIs (s : List ℕ) (p : Page) (k : ℕ) (r : Sought) : Type 0 where

@@ -130,7 +130,7 @@ fn before_rows(sheet: &[u8], p: Page, from: Rows) -> Cursor
 }
 
 // After a row: a rule and the rows that follow, or the bottom border.
-fn after_row(sheet: &[u8], p: Page, here: Rows) -> Cursor
+pub(crate) fn after_row(sheet: &[u8], p: Page, here: Rows) -> Cursor
     requires { ⌜ Opened (now sheet) p × (RowsAt (now sheet) here × (0 < here .left)) ⌝ }
     ensures { λ r. ⌜ Ahead (now (sheet .entry)) p r (moreFrom (now (sheet .entry)) (drop 1 (rowsIn (now (sheet .entry)) here))) ⌝ }
 {

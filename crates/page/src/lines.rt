@@ -2,22 +2,27 @@
 ghost use mathlib.Core.Path.{_≡_};
 ghost use mathlib.Core.List.{[], _∷_, _++_};
 ghost use mathlib.Core.Bool.{Bool, cond};
-ghost use Prim.Native.Nat.{ℕ, _+_, _-_, _≤_, _<_};
+ghost use Prim.Native.Nat.{ℕ, _+_, _-_, _*_, _≤_, _<_};
 ghost use lib.ListN.{length, drop, getD};
 ghost use lib.Dec.{ltb};
-ghost use Rattle.rules.specs.Page.{closed, lineCount, byteCount};
+ghost use Rattle.rules.specs.Page.{height, closed, lineCount, byteCount};
 ghost use Rattle.rules.proofs.Lines.{lineLength, borderLength};
 ghost use Rattle.buffer.specs.Put.{over};
 ghost use Rattle.sheet.specs.Held.{tableOf};
+ghost use Rattle.sheet.specs.Walk.{rowsIn, rowsEnd, firstRow};
+ghost use Rattle.formatting.specs.Height.{limited};
 ghost use Rattle.formatting.specs.Line.{shownAt};
-ghost use Rattle.page.specs.Ahead.{widthsIn, Opened, Ahead, At, ahead, allLines, headLine, isEnd};
-ghost use Rattle.page.specs.Count.{widthUpTo, LengthsAre, SoughtIs, Wrote};
+ghost use Rattle.page.specs.Ahead.{widthsIn, Opened, Ahead, At, ahead, allLines, headLine, isEnd, startsRow};
+ghost use Rattle.page.specs.Count.{widthUpTo, LengthsAre, Shows, textCount, insideLines, PassedIs, Seeking, SoughtIs, Wrote};
 ghost use Rattle.page.specs.Several.{fitting};
 use crate::cursor;
 use crate::cursor::Cursor;
 use crate::cursor::Page;
 use crate::cursor::Stage;
 use formatting::content_format::View;
+use formatting::row;
+use sheet::records::Rows;
+use sheet::walk;
 
 // How long lines are, without their 0A: text lines and rules, and borders.
 pub struct Lengths {
@@ -113,20 +118,84 @@ pub fn line_length(sheet: &[u8], p: Page, l: Lengths, c: Cursor) -> usize
     }
 }
 
-// Every line of the page passed over once, and none drawn.
+// The lines that a row's limit leaves, 0 being none.
+fn within_limit(limit: usize, lines: usize) -> usize
+    ensures { λ r. ⌜ r ≡ limited limit lines ⌝ }
+{
+    if limit == 0 {
+        return lines;
+    }
+    if limit < lines {
+        return limit;
+    }
+    lines
+}
+
+// The text lines of the first row.
+fn row_lines(sheet: &[u8], view: View, here: Rows) -> usize
+    requires { ⌜ Shows (now sheet) view × ((0 < here .left) × (rowsEnd (now sheet) here ≤ length (now sheet))) ⌝ }
+    ensures { λ r. ⌜ r ≡ height (tableOf (now (sheet .entry))) (widthsIn (now (sheet .entry))) (firstRow (now (sheet .entry)) here) ⌝ }
+{
+    let r = walk::row(sheet, here);
+    let cells = r.cells;
+    let most = row::row_height(sheet, view, cells);
+    within_limit(r.limit, most)
+}
+
+// The text lines of some rows.
+fn text_lines(sheet: &[u8], view: View, from: Rows) -> usize
+    requires { ⌜ Shows (now sheet) view × ((rowsEnd (now sheet) from ≤ length (now sheet)) × (textCount (now sheet) (rowsIn (now sheet) from) ≤ 1000000)) ⌝ }
+    ensures { λ r. ⌜ r ≡ textCount (now (sheet .entry)) (rowsIn (now (sheet .entry)) from) ⌝ }
+{
+    let mut here = from;
+    let mut n: usize = 0;
+    while 0 < here.left {
+        let lines = row_lines(sheet, view, here);
+        n += lines;
+        here = walk::next_row(sheet, here);
+    }
+    n
+}
+
+// The lines inside the page's borders: the header's and the rows' text, the rule under the header, those between rows.
+fn count_inside(sheet: &[u8], p: Page) -> usize
+    requires { ⌜ Opened (now sheet) p ⌝ }
+    ensures { λ r. ⌜ (r ≡ length (insideLines (now (sheet .entry)))) × (r ≤ 1000000) ⌝ }
+{
+    let view = p.view;
+    let look = p.look;
+    let header = p.header;
+    let rows = p.rows;
+    let above = text_lines(sheet, view, header);
+    let below = text_lines(sheet, view, rows);
+    let under = where_drawn(look.has_header_rule, header.left);
+    let rules = where_drawn(look.has_row_rule, between(rows.left));
+    let text = above + below;
+    let ruled = under + rules;
+    text + ruled
+}
+
+// The bytes of n lines of one length, the 0A of each included.
+fn bytes_of(n: usize, each: usize) -> usize
+    requires { ⌜ (n ≤ 1000000) × (each ≤ 10200) ⌝ }
+    ensures { λ r. ⌜ (r ≡ n * (each + 1)) × (r ≤ 10201000000) ⌝ }
+{
+    n * (each + 1)
+}
+
+// A page's lines and bytes by its rows' heights: lines inside the borders have one length, borders another.
 pub fn count_lines(sheet: &[u8], p: Page) -> Totals
     requires { ⌜ Opened (now sheet) p ⌝ }
     ensures { λ r. ⌜ (r .lines ≡ lineCount (tableOf (now (sheet .entry)))) × (r .bytes ≡ byteCount (tableOf (now (sheet .entry)))) ⌝ }
 {
     let l = measure_lines(sheet, p);
-    let mut c = cursor::start(sheet, p);
-    let mut lines: usize = 0;
-    let mut bytes: usize = 0;
-    while !is_end(c) {
-        bytes += line_length(sheet, p, l, c);
-        lines += 1;
-        c = cursor::step(sheet, p, c);
-    }
+    let look = p.look;
+    let inside = count_inside(sheet, p);
+    let top = where_drawn(look.has_top, 1);
+    let bottom = where_drawn(look.has_bottom, 1);
+    let borders = top + bottom;
+    let lines = borders + inside;
+    let bytes = bytes_of(borders, l.border) + bytes_of(inside, l.line);
     Totals { lines, bytes }
 }
 
@@ -136,13 +205,85 @@ pub struct Sought {
     pub passed: usize,
 }
 
-// The cursor at line k, or at the end, where the lines passed over are all there are.
-pub fn seek(sheet: &[u8], p: Page, k: usize) -> Sought
+// A cursor before the first line of a row.
+fn starts_row(stage: Stage, line: usize) -> bool
+    ensures { λ r. ⌜ r ≡ startsRow stage line ⌝ }
+{
+    match stage {
+        Stage::Top => false,
+        Stage::Header => false,
+        Stage::HeaderRule => false,
+        Stage::Text => line == 0,
+        Stage::Rule => false,
+        Stage::Bottom => false,
+        Stage::End => false,
+    }
+}
+
+// Passes over a whole row from its first line, or over one other line. None is passed over at the end, nor of a row with more than `most` lines.
+fn pass(sheet: &[u8], p: Page, c: Cursor, most: usize) -> Sought
+    requires { ⌜ Opened (now sheet) p × (At (now sheet) p c × (0 < most)) ⌝ }
+    ensures { λ r. ⌜ PassedIs (now (sheet .entry)) p c most r ⌝ }
+{
+    let view = p.view;
+    let stage = c.stage;
+    let here = c.here;
+    if is_end(c) {
+        return Sought {
+            cursor: c,
+            passed: 0,
+        };
+    }
+    if !starts_row(stage, c.line) {
+        let cursor = cursor::step(sheet, p, c);
+        return Sought { cursor, passed: 1 };
+    }
+    let lines = row_lines(sheet, view, here);
+    if most < lines {
+        return Sought {
+            cursor: c,
+            passed: 0,
+        };
+    }
+    let cursor = cursor::after_row(sheet, p, here);
+    Sought {
+        cursor,
+        passed: lines,
+    }
+}
+
+// A cursor at line k, at the end before it, or at the first line of the row that holds line k.
+fn seek_row(sheet: &[u8], p: Page, k: usize) -> Sought
     requires { ⌜ Opened (now sheet) p ⌝ }
-    ensures { λ r. ⌜ SoughtIs (now (sheet .entry)) p k r ⌝ }
+    ensures { λ r. ⌜ Seeking (now (sheet .entry)) p k (r .cursor) (r .passed) ⌝ }
 {
     let mut c = cursor::start(sheet, p);
     let mut i: usize = 0;
+    while i < k {
+        let over = pass(sheet, p, c, k - i);
+        if over.passed == 0 {
+            return Sought {
+                cursor: c,
+                passed: i,
+            };
+        }
+        let next = over.cursor;
+        c = next;
+        i += over.passed;
+    }
+    Sought {
+        cursor: c,
+        passed: i,
+    }
+}
+
+// The same cursor stepped on, line by line.
+fn seek_line(sheet: &[u8], p: Page, k: usize, from: Sought) -> Sought
+    requires { ⌜ Opened (now sheet) p × Seeking (now sheet) p k (from .cursor) (from .passed) ⌝ }
+    ensures { λ r. ⌜ SoughtIs (now (sheet .entry)) p k r ⌝ }
+{
+    let mut c = from.cursor;
+    let mut i = from.passed;
     while i < k {
         if is_end(c) {
             return Sought {
@@ -157,6 +298,15 @@ pub fn seek(sheet: &[u8], p: Page, k: usize) -> Sought
         cursor: c,
         passed: i,
     }
+}
+
+// The cursor at line k, or at the end, where the lines passed over are all there are. Rows before the one that holds line k are passed over as a whole.
+pub fn seek(sheet: &[u8], p: Page, k: usize) -> Sought
+    requires { ⌜ Opened (now sheet) p ⌝ }
+    ensures { λ r. ⌜ SoughtIs (now (sheet .entry)) p k r ⌝ }
+{
+    let from = seek_row(sheet, p, k);
+    seek_line(sheet, p, k, from)
 }
 
 // The length of a page's next line, its 0A included.

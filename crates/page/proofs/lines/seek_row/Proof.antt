@@ -1,0 +1,28 @@
+use native.Mathlib.Omega.{arith}
+use Prim.Native.Nat.{_-_}
+use Rattle.page.specs.Count.{Seeking}
+use Rattle.page.proofs.Pages.{seeking-begin, seeking-on}
+use Rattle.page.proofs.lines.seek_row.Statement.{statement}
+use Rattle.page.proofs.lines.seek_row.Tie as tie
+
+abbrev Inv-loop : tie.InvT-loop
+Inv-loop sheet p k c₀ i₀ c i = Seeking sheet p k c i
+
+abbrev μ-loop : tie.MeasureT-loop
+μ-loop sheet p k c₀ i₀ c i = k - i
+
+pub seek-row-spec : {M : Type 1} → statement M
+seek-row-spec =
+    tie.close
+    (tie.spec
+    Inv-loop
+    μ-loop
+    (λ c κs. c .before .pre)
+    (λ c. seeking-begin _ _ _ _ (c .start .ensures))
+    (λ c. c .before .loop .inv .within)
+    (λ c κs. (c .before .before .before .before .pre, (c .before .loop .inv .at, omega (arith, c .loop-test .taken))))
+    (λ c. c .before .before .before .before .loop .inv)
+    (λ c. omega (arith, c .before .before .before .before .pass .ensures .within, c .before .before .before .before .before .loop-test .taken, c .before .before .before .before .before .before .before .before .before .fits .k))
+    (λ c. omega (arith, c .before .before .if1 .left, c .before .before .before .before .before .loop-test .taken))
+    (λ c. seeking-on _ _ _ _ _ (c .before .before .before .before .before .before .loop .inv) (c .before .before .before .before .before .loop-test .taken) _ (c .before .before .before .before .pass .ensures))
+    (λ c. c .before .loop .inv))
