@@ -17,6 +17,11 @@ pub length-over : (l d : List ℕ) → length l ≤ length d → length (over l 
 unfolding over
 length-over l d h = simp (length-append, length-drop) (omega arith)
 
+-- nothing is written over it
+pub over-none : (d : List ℕ) → d ≡ over [] d
+unfolding over
+over-none d = refl
+
 -- a store just past what is written
 pub store : (p d : List ℕ) (n v : ℕ) → length p ≡ n → n < length d → set (over p d) n v ≡ over (p ++ (v ∷ [])) d
 unfolding over

@@ -14,13 +14,13 @@ use Rattle.rules.specs.Widths.{visible, contents}
 use Rattle.rules.specs.Page.{areaAt, areas, height, closed}
 use Rattle.rules.proofs.Areas.{length-areas, line-at}
 use Rattle.rules.proofs.Lists.{getD-map}
-use Rattle.rules.proofs.Sizes.{closed-append}
+use Rattle.rules.proofs.Sizes.{closed-none, closed-one, closed-append}
 use Rattle.sheet.specs.Held.{tableOf}
 use Rattle.sheet.specs.Walk.{firstRow, cellsIn, RowIs}
 use Rattle.sheet.specs.declared.records.Rows.{Rows}
 use Rattle.sheet.specs.declared.records.Row as records
 use Rattle.buffer.specs.Put.{over, putAt, build, edge}
-use Rattle.buffer.proofs.Laws.{over-put, length-over}
+use Rattle.buffer.proofs.Laws.{over-none, over-put, length-over}
 use Rattle.formatting.specs.Line.{linePiece, lineBytes, AfterAll, anyFound, ReadyAll}
 use Rattle.formatting.specs.Open.{OpenedRow}
 use Rattle.formatting.specs.RowText.{styled, rowBytes}
@@ -30,6 +30,7 @@ use Rattle.formatting.specs.declared.content_format.View.{View}
 use Rattle.formatting.specs.declared.content_format.TextStyle.{TextStyle}
 use Rattle.formatting.proofs.Area.{two}
 use Rattle.formatting.proofs.Line.{line-is}
+use Rattle.formatting.proofs.Stand.{in-limit-0}
 use Rattle.formatting.proofs.Whole.{line-styled, height-has, opened-stands, stands-after, stands-ready}
 
 -- the table's row that a row of the sheet is
@@ -50,14 +51,6 @@ styled-at : (t : Table) (ws : List ℕ) (r : Row) (y : TextStyle) (j : ℕ) → 
 styled-at t ws r y j h = getD-map (styled y) (areas t ws r) j [] [] (omega (arith, length-areas t ws r)) ∙ ap (styled y) (line-at t ws r j h)
 
 -- one more line
-closed-none : closed [] ≡ []
-unfolding closed
-closed-none = refl
-
-closed-one : (l : List ℕ) → closed (l ∷ []) ≡ l ++ (10 ∷ [])
-unfolding closed
-closed-one l = refl
-
 closed-on : (L : List (List ℕ)) (j : ℕ) → j < length L → closed (take (j + 1) L) ≡ closed (take j L) ++ (getD L j [] ++ (10 ∷ []))
 closed-on L j h =
     ap (λ n. closed (take n L)) (add-one j) ∙ ap closed (take-suc L j [] h)
@@ -73,14 +66,6 @@ closed-many : (L : List (List ℕ)) → length L ≤ length (closed L)
 unfolding closed
 closed-many [] = omega arith
 closed-many (l ∷ L) = omega (arith, closed-many L, length-append l (10 ∷ closed L))
-
-over-none : (d : List ℕ) → d ≡ over [] d
-unfolding over
-over-none d = refl
-
-in-limit-0 : (h : ℕ) → inLimit h 0 ≡ true
-in-limit-0 zero = refl
-in-limit-0 (suc h) = lt-ltb 0 (suc h) (omega arith)
 
 first-true : (a b : Bool) → (a && b) ≡ true → a ≡ true
 first-true true b e = refl

@@ -151,6 +151,10 @@ cut-has w ind (suc h) j ls = go (ltb (suc h) (length ls)) refl (ltb j (suc h)) r
 
 -- ---- the limit, exit by exit
 
+pub in-limit-0 : (h : ℕ) → inLimit h 0 ≡ true
+in-limit-0 zero = refl
+in-limit-0 (suc h) = lt-ltb 0 (suc h) (omega arith)
+
 pub stays-out : (limit line : ℕ) (more : Bool) → (limit ≡ 0 → ⊥) → limit - 1 ≤ line → false ≡ (inLimit limit (line + 1) && more)
 stays-out zero line more h k = absurd (h refl)
 stays-out (suc l) line more h k = let e : ltb (line + 1) (suc l) ≡ false = le-ltb (line + 1) (suc l) (omega arith) in rw e

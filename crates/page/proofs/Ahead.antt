@@ -22,6 +22,7 @@ use Rattle.formatting.specs.Line.{anyFound}
 use Rattle.formatting.specs.Open.{OpenedRow}
 use Rattle.formatting.specs.Stand.{StandsRow, inLimit}
 use Rattle.formatting.specs.declared.content_format.Standing.{Standing}
+use Rattle.formatting.proofs.Stand.{in-limit-0}
 use Rattle.formatting.proofs.Whole.{opened-stands, height-has}
 use Rattle.page.specs.Ahead.{widthsIn, ruleLines, ruleLine, textLines, lastLines, moreFrom, rowsFrom, afterHeader, afterTop, allLines, ahead, lookOf, RowsAt, Opened, Ahead}
 use Rattle.page.specs.declared.cursor.Page.{Page}
@@ -96,10 +97,6 @@ text-none s k j r h = go (drop j (textLines s k r)) (omega (arith, length-drop j
     go : (ls : List (List ℕ)) → length ls ≡ 0 → ls ≡ []
     go [] e = refl
     go (l ∷ ls) e = absurd (omega arith)
-
-in-limit-0 : (h : ℕ) → inLimit h 0 ≡ true
-in-limit-0 zero = refl
-in-limit-0 (suc h) = lt-ltb 0 (suc h) (omega arith)
 
 -- a row opened has a line exactly if one stands ready
 pub opened-has : (s : List ℕ) (p : Page) (c : Rows) (r : records.Row) (ts : List Standing) (more : Bool) → Opened s p → RowIs s c r → OpenedRow s (cellsIn s (r .cells)) (p .view) ts

@@ -25,6 +25,7 @@ use Rattle.page.specs.declared.cursor.Page.{Page}
 use Rattle.page.specs.declared.lines.Sought.{Sought}
 use Rattle.page.specs.declared.lines.Totals.{Totals}
 use Rattle.page.specs.declared.lines.WrittenLines.{WrittenLines}
+use Rattle.page.proofs.Pages.{all-count}
 use Rattle.page.proofs.LineLengths.{end-lines, some-lines, limits-of}
 
 -- ---- tests
@@ -133,13 +134,9 @@ module _ (s : List ℕ) (h : Passes s) where
   unfolding several.printLines several.printLinesOf
   lines-put k b e = let H = held s h in ap (λ x. several.printLinesOf x k b) (H .reads) ∙ chosen (ltb k (lineCount (tableOf s))) (several.putLines (tableOf s) k b) (several.turned 21 (lineCount (tableOf s)) b) (lt-true k (lineCount (tableOf s)) e)
 
-  all-count : length (allLines s) ≡ lineCount (tableOf s)
-  unfolding allLines lineCount
-  all-count = refl
-
   module _ (p : Page) (k : ℕ) (r : Sought) (S : SoughtIs s p k r) where
     at-end : isEnd (r .cursor .stage) ≡ true → r .passed ≡ lineCount (tableOf s)
-    at-end e = omega (arith, S .passed, ap length (sym (S .lines) ∙ end-lines s (r .cursor) e), length-drop (r .passed) (allLines s), all-count)
+    at-end e = omega (arith, S .passed, ap length (sym (S .lines) ∙ end-lines s (r .cursor) e), length-drop (r .passed) (allLines s), all-count s)
 
     pub line-past : (b : List ℕ) → isEnd (r .cursor .stage) ≡ true → printLine s k b ≡ turned 21 (r .passed) b
     line-past b e = line-past-count k b (omega (arith, at-end e, S .within)) ∙ ap (λ n. turned 21 n b) (sym (at-end e))
@@ -155,14 +152,14 @@ module _ (s : List ℕ) (h : Passes s) where
       some-left = some-lines s p (r .cursor) (S .at) e
 
       pub before-count : k < lineCount (tableOf s)
-      before-count = omega (arith, some-left, ap length there, length-drop k (allLines s), all-count)
+      before-count = omega (arith, some-left, ap length there, length-drop k (allLines s), all-count s)
 
       line-there : headLine s (r .cursor) ≡ lineAt (tableOf s) k
       unfolding headLine lineAt allLines
       line-there = let z : k + 0 ≡ k = omega arith in ap (λ (ls : List (List ℕ)). getD ls 0 [] ++ (10 ∷ [])) there ∙ ap (λ (l : List ℕ). l ++ (10 ∷ [])) (getD-drop k (pageLines (tableOf s)) 0 [] ∙ ap (λ n. getD (pageLines (tableOf s)) n []) z)
 
       pub few-left : length (ahead s (r .cursor)) ≤ 1000000
-      few-left = omega (arith, ap length there, length-drop k (allLines s), all-count, line-count-bound (tableOf s) (limits-of s h))
+      few-left = omega (arith, ap length there, length-drop k (allLines s), all-count s, line-count-bound (tableOf s) (limits-of s h))
 
       pub k-small : k ≤ 1000000
       k-small = omega (arith, before-count, line-count-bound (tableOf s) (limits-of s h))

@@ -9,7 +9,7 @@ use lib.Seq.{length-take-le, drop-drop}
 use lib.Dec.{leb}
 use borrow.Author.Tests.{leb-true}
 use Rattle.rules.specs.Page.{closed, lineCount}
-use Rattle.rules.proofs.Sizes.{closed-cons}
+use Rattle.rules.proofs.Sizes.{closed-none, closed-cons}
 use Rattle.rules.proofs.Counts.{line-count-bound}
 use Rattle.sheet.specs.Held.{tableOf}
 use Rattle.buffer.specs.Put.{over, putAt}
@@ -20,7 +20,7 @@ use Rattle.page.specs.declared.cursor.Page.{Page}
 use Rattle.page.specs.declared.cursor.Cursor.{Cursor}
 use Rattle.page.specs.declared.lines.WrittenLines.{WrittenLines}
 use Rattle.page.proofs.LineLengths.{end-lines, some-lines, head-small, limits-of}
-use Rattle.page.proofs.Pages.{Writing, writing-begin, writing-on, writing-taken, closed-none}
+use Rattle.page.proofs.Pages.{Writing, writing-begin, writing-on, writing-taken}
 use Rattle.page.proofs.Answers.{le-true, le-false, chosen, passed-over}
 
 -- ---- how many fit

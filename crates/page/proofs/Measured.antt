@@ -16,9 +16,6 @@ use Rattle.arrangement.specs.declared.Widths.{Widths}
 use Rattle.arrangement.specs.Widths.{widthsOf}
 
 module _ (s : List ℕ) (c : Checked) (checked : c ≡ check s) where
-  pub check-passes : c .number ≡ 0 → Passes s
-  check-passes h = sym (ap (λ (x : Checked). x .number) checked) ∙ h
-
   -- a refused sheet: number and place of the check
   pub measure-refused : (c .number ≡ 0 → ⊥)
       → _≡_ {A = Measured} (record { number = c .number; place = c .place; columns = 0; content = replicate 12 0; hidden = replicate 12 false }) (measure s)

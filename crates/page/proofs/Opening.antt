@@ -46,6 +46,7 @@ use Rattle.formatting.specs.declared.borders.RuleStyle.{RuleStyle}
 use Rattle.page.specs.declared.cursor.Look.{Look}
 use Rattle.page.specs.Ahead.{lookOf, RowsAt}
 use Rattle.page.specs.Opening.{shownFrom, behind, showing}
+use Rattle.page.proofs.LineLengths.{limits-of}
 
 -- an unset character prints as a space
 pub glyph-is : (c r : ℕ) → r ≡ orElse c 32 → r ≡ glyph c
@@ -90,10 +91,6 @@ pub look-is : (S : List ℕ) (y : TableStyle) (joined : Bool) (top header row bo
     (lookOf S)
 unfolding lookOf
 look-is S y joined top header row bottom head text a b c d e f g h i j k l m n o p = rw (g, h, i, j, k, l, f, m, n, o, p, e)
-
--- what a sheet that passes keeps to
-pub limits : (s : List ℕ) → Passes s → TableLimits (tableOf s)
-limits s h = let r = held s h in accepted-limits s (tableOf s) (r .end) (r .reads)
 
 -- ---- the visible columns
 
@@ -228,12 +225,12 @@ module _ (t : Table) (view : View) (T : TableLimits t) (W : Views t (contents t)
 
 module _ (s : List ℕ) (passes : Passes s) (c : Rows) where
   pub header-at : rowsIn s c ≡ tableOf s .header → rowsEnd s c ≡ rowsPlace s → RowsAt s c
-  header-at e f = let m = room s passes in record { ends = omega (arith, f); sound = rw e (limits s passes .header-row) }
+  header-at e f = let m = room s passes in record { ends = omega (arith, f); sound = rw e (limits-of s passes .header-row) }
 
   -- at most one header row
   pub header-one : rowsIn s c ≡ tableOf s .header → c .left ≤ 1
   unfolding rowsIn
-  header-one e = omega (arith, limits s passes .header, ap length e, parts-count (c .left) (rowHere s) (rowStop s) (c .at))
+  header-one e = omega (arith, limits-of s passes .header, ap length e, parts-count (c .left) (rowHere s) (rowStop s) (c .at))
 
   pub rows-at : rowsIn s c ≡ tableOf s .rows → rowsEnd s c ≡ length s → RowsAt s c
-  rows-at e f = record { ends = omega (arith, f); sound = rw e (limits s passes .each-row) }
+  rows-at e f = record { ends = omega (arith, f); sound = rw e (limits-of s passes .each-row) }

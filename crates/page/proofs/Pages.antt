@@ -10,11 +10,11 @@ use borrow.Author.Tests.{eqb-true}
 use lib.Seq.{drop-drop, drop-at, take-at, take-add, take-all, length-take-le}
 use Rattle.rules.specs.Style.{contentLines}
 use Rattle.rules.specs.Page.{height, closed, lineCount, byteCount, page as pageOf}
-use Rattle.rules.proofs.Sizes.{closed-first}
+use Rattle.rules.proofs.Sizes.{closed-none, closed-first}
 use Rattle.sheet.specs.Held.{tableOf}
 use Rattle.sheet.specs.Walk.{rowsIn, firstRow}
 use Rattle.buffer.specs.Put.{over, putAt}
-use Rattle.buffer.proofs.Laws.{over-put, length-over}
+use Rattle.buffer.proofs.Laws.{over-none, over-put, length-over}
 use Rattle.page.specs.Ahead.{widthsIn, textLines, moreFrom, ahead, allLines, headLine, Ahead, At, RowAt, isEnd, startsRow}
 use Rattle.page.specs.Count.{PassedIs, Seeking, SoughtIs}
 use Rattle.page.specs.declared.cursor.Page.{Page}
@@ -31,10 +31,6 @@ use Rattle.page.proofs.LineLengths.{end-lines, some-lines}
 first-bytes : (s : List ℕ) (c : Cursor) → 0 < length (ahead s c) → closed (ahead s c) ≡ headLine s c ++ closed (drop 1 (ahead s c))
 unfolding headLine
 first-bytes s c h = closed-first (ahead s c) h
-
-pub closed-none : closed [] ≡ []
-unfolding closed
-closed-none = refl
 
 pub all-count : (s : List ℕ) → length (allLines s) ≡ lineCount (tableOf s)
 unfolding allLines lineCount
@@ -69,10 +65,6 @@ pub record Writing (s : List ℕ) (p : Page) (page₀ B : List ℕ) (page : List
   pub done : page ≡ over (take at B) page₀
   pub size : length page ≡ length page₀
 
-over-none : (d : List ℕ) → d ≡ over [] d
-unfolding over
-over-none d = refl
-
 pub writing-begin : (s : List ℕ) (p : Page) (page₀ : List ℕ) (ls : List (List ℕ)) (c : Cursor) → Ahead s p c ls → Writing s p page₀ (closed ls) page₀ c 0
 writing-begin s p page₀ ls c A =
     record { cursor = A .at; within = omega arith; rest = ap closed (A .lines); done = over-none page₀; size = refl }
@@ -102,14 +94,6 @@ module _ (s : List ℕ) (p : Page) (page₀ B page : List ℕ) (c : Cursor) (at 
 
   pub cursor-less : (r : Cursor) → Ahead s p r (drop 1 (ahead s c)) → length (ahead s r) < length (ahead s c)
   cursor-less r A = omega (arith, ap length (A .lines), length-drop 1 (ahead s c), h)
-
--- at the end all is written
-module _ (s : List ℕ) (p : Page) (page₀ B page : List ℕ) (c : Cursor) (at : ℕ) (w : Writing s p page₀ B page c at) (e : isEnd (c .stage) ≡ true) where
-  pub writing-all : at ≡ length B
-  writing-all = omega (arith, w .within, length-drop at B, ap length (sym (w .rest) ∙ ap closed (end-lines s c e) ∙ closed-none))
-
-  pub writing-done : page ≡ over B page₀
-  writing-done = w .done ∙ ap (λ l. over l page₀) (take-all at B (omega (arith, writing-all)))
 
 -- ---- lines passed over
 

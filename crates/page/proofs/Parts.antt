@@ -10,7 +10,7 @@ use borrow.Author.Tests.{lt-ltb}
 use Rattle.rules.specs.Sheet.{Row}
 use Rattle.rules.specs.Style.{topBorder, headerLines, headerRule, contentLines, rowRule, bottomBorder, anyJunction, isVisible}
 use Rattle.rules.specs.Page.{areas, rowText, textLine, headed, ruledRows, ruledMore, closed, byteCount, page as pageOf}
-use Rattle.rules.proofs.Sizes.{closed-append}
+use Rattle.rules.proofs.Sizes.{closed-none, closed-one, closed-append}
 use Rattle.sheet.specs.Held.{tableOf}
 use Rattle.sheet.specs.Walk.{rowsIn, firstRow, RowsNext}
 use Rattle.sheet.specs.declared.records.Rows.{Rows}
@@ -27,7 +27,7 @@ use Rattle.page.specs.Parts.{headerPart, rowsPart}
 use Rattle.page.specs.declared.cursor.Page.{Page}
 use Rattle.page.specs.declared.cursor.Look.{Look}
 use Rattle.page.proofs.Ahead.{rule-shown, rule-hidden, rows-count, rows-split, rows-empty, one-row, all-is}
-use Rattle.page.proofs.Pages.{closed-none, all-bytes, page-bytes}
+use Rattle.page.proofs.Pages.{all-bytes, page-bytes}
 
 -- ---- writers one after another
 
@@ -74,10 +74,6 @@ pub undrawn-is : (b : Bool) (l : List ℕ) → b ≡ false → cond b l [] ≡ [
 undrawn-is b l e = rw e
 
 -- ---- borders and rules
-
-closed-one : (l : List ℕ) → closed (l ∷ []) ≡ l ++ (10 ∷ [])
-unfolding closed
-closed-one l = refl
 
 module _ (s : List ℕ) (p : Page) (O : Opened s p) where
   rule-part : (style : RuleStyle) (always b : Bool) (k : ℕ) → style ≡ ruleStyleOf (tableOf s .style) (always || anyJunction (tableOf s .style)) k → b ≡ isVisible (tableOf s .style) k

@@ -26,6 +26,15 @@ pub length-area : (c : Column) (w a : ℕ) (l : List ℕ) → textWidth l ≤ w 
 unfolding area textWidth
 length-area c w a l h = simp (length-append, length-replicate) (omega (arith, before-le a (w - length l)))
 
+-- no line, and one
+pub closed-none : closed [] ≡ []
+unfolding closed
+closed-none = refl
+
+pub closed-one : (l : List ℕ) → closed (l ∷ []) ≡ l ++ (10 ∷ [])
+unfolding closed
+closed-one l = refl
+
 -- lines closed one by one
 pub closed-cons : (l : List ℕ) (ls : List (List ℕ)) → closed (l ∷ ls) ≡ (l ++ (10 ∷ [])) ++ closed ls
 unfolding closed

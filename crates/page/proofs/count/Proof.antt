@@ -1,4 +1,4 @@
-use Rattle.page.proofs.Measured.{check-passes}
+use Rattle.sheet.proofs.Held.{passes}
 use Rattle.page.proofs.Answers.{count-refused, count-accepted}
 use borrow.Author.Needs.{needs}
 use Rattle.page.proofs.count.Statement.{statement}
@@ -10,6 +10,6 @@ count-spec =
     (tie.spec
     (λ c κs. search needs)
     (λ c. count-refused _ _ (c .before .before .check .ensures) (c .if1 .taken))
-    (λ c κs. check-passes _ _ (c .before .before .check .ensures) (c .if1 .left))
+    (λ c κs. passes _ _ (c .before .before .check .ensures) (c .if1 .left))
     (λ c κs. search needs)
-    (λ c. let i = c .before .before in count-accepted _ (check-passes _ _ (i .before .before .check .ensures) (i .if1 .left)) _ (c .count-lines .ensures .0) (c .count-lines .ensures .1)))
+    (λ c. let i = c .before .before in count-accepted _ (passes _ _ (i .before .before .check .ensures) (i .if1 .left)) _ (c .count-lines .ensures .0) (c .count-lines .ensures .1)))

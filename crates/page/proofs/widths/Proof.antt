@@ -1,5 +1,6 @@
 -- `page::widths` meets its contract. Assumes nothing.
-use Rattle.page.proofs.Measured.{check-passes, measure-refused, measure-accepted}
+use Rattle.sheet.proofs.Held.{passes}
+use Rattle.page.proofs.Measured.{measure-refused, measure-accepted}
 use borrow.Author.Needs.{needs}
 use Rattle.page.proofs.widths.Statement.{statement}
 use Rattle.page.proofs.widths.Tie as tie
@@ -10,5 +11,5 @@ widths-spec =
     (tie.spec
     (λ c κs. search needs)
     (λ c. search (needs, measure-refused))
-    (λ c κs. search (needs, check-passes))
-    (λ c. search (needs, measure-accepted, check-passes)))
+    (λ c κs. search (needs, passes))
+    (λ c. search (needs, measure-accepted, passes)))

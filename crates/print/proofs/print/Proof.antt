@@ -8,7 +8,7 @@ use lib.ListN.{length}
 use lib.Seq.{length-take-le}
 use Rattle.page.specs.Ahead.{At, ahead}
 use Rattle.page.proofs.Pages.{going}
-use Rattle.page.proofs.Measured.{check-passes}
+use Rattle.sheet.proofs.Held.{passes}
 use Rattle.page.proofs.Filling.{part-fits, part-less, part-few, all-few}
 use Rattle.print.proofs.print.Statement.{statement}
 use Rattle.print.proofs.print.Tie as tie
@@ -28,7 +28,7 @@ print-spec =
     (λ c κs. search needs)
     (λ c κs. search needs)
     (λ c. search needs)
-    (λ c κs. check-passes _ _ (c .before .before .check .ensures) (c .if1 .left))
+    (λ c κs. passes _ _ (c .before .before .check .ensures) (c .if1 .left))
     (λ c κs. search needs)
     (λ c. let S = now (c .before .before .before .before .before .before .before .args .sheet) in
     let O = c .before .«open» .ensures in
