@@ -2,9 +2,12 @@
 use Prim.Native.Nat.{ℕ, zero, suc, _+_, _-_, _≤_, _<_, max}
 use mathlib.Core.Path.{_≡_, refl, sym, ap, _∙_}
 use mathlib.Core.List.{List, [], _∷_}
+use mathlib.Core.Bool.{Bool, true, false}
 use native.Mathlib.Omega.{arith}
 use lib.ListN.{length, getD, drop, drop-of-length-le}
+use lib.Dec.{leb, ltb}
 use lib.Seq.{drop-cons, drop-drop, getD-drop}
+use borrow.Author.Tests.{leb-true, leb-false, ltb-true, ltb-false, lt-ltb, le-ltb}
 use Rattle.rules.specs.Text.{orElse}
 use Rattle.rules.specs.Sheet as sheet
 use Rattle.rules.specs.Sheet.{Table, noCell, noRow, columnAt}
@@ -22,8 +25,11 @@ use Rattle.sheet.specs.declared.records.Row.{Row}
 use Rattle.sheet.specs.declared.records.Cell.{Cell}
 use Rattle.sheet.proofs.Held.{room}
 use Rattle.sheet.proofs.Walks.{cells-none, rows-none, rows-next, row-whole, cell-whole}
+use Rattle.constraint.specs.declared.Offer.the-variants.{Keep, Take}
+use Rattle.constraint.proofs.Cases.{if-gt}
 use Rattle.arrangement.specs.declared.after_split.Tried.{Tried}
-use Rattle.arrangement.specs.Trial.{ofLine, ofLines, ofCells, ofRows, otherwise, Skipped, RowTried, RowsTried}
+use Rattle.arrangement.specs.Arrange.{spared}
+use Rattle.arrangement.specs.Trial.{ofLine, ofLines, ofCells, ofRows, otherwise, Skipped, RowTried, Enough, RowsTried}
 use Rattle.arrangement.proofs.Trials.{lines-cons, lines-nil, cells-there, cells-short, rows-le, rows-append, longest-part}
 
 -- a delimiter that is set, or none
@@ -37,6 +43,41 @@ or-else-some (suc a) b n = refl
 -- a list of as many as are left
 nothing : {A : Type 0} (l : List A) → length l ≤ 0 → l ≡ []
 nothing l h = drop-of-length-le l h
+
+-- ---- what is enough
+
+-- the test for an early end, made without a sum
+pub saves-little : (a m : ℕ) → m ≤ a → ltb (a - m) 3 ≡ ltb a (m + 3)
+saves-little a m h = go (ltb a (m + 3)) refl
+  where
+    go : (b : Bool) → ltb a (m + 3) ≡ b → ltb (a - m) 3 ≡ b
+    go true t = let l = ltb-true a (m + 3) t in lt-ltb (a - m) 3 (omega arith)
+    go false t = let l = ltb-false a (m + 3) t in le-ltb (a - m) 3 (omega arith)
+
+-- all of it, or a part after which the walk ended
+whole-enough : (a n m : ℕ) → m ≡ n → Enough a n m
+whole-enough a n m e = record { part = omega arith; all = λ k. e }
+
+-- b is what the test for an early end answered
+module _ (a m : ℕ) (b : Bool) (e : b ≡ ltb a (m + 3)) where
+  saves-three : b ≡ false → m + 3 ≤ a
+  saves-three f = ltb-false a (m + 3) (sym e ∙ f)
+
+  saves-less : {A : Type 0} → b ≡ true → m + 3 ≤ a → A
+  saves-less t k = absurd (omega (arith, ltb-true a (m + 3) (sym e ∙ t)))
+
+  part-enough : (n : ℕ) → b ≡ true → m ≤ n → Enough a n m
+  part-enough n t h = record { part = h; all = saves-less t }
+
+-- what is enough is offered, or not, as the longest part is
+pub enough-spares : (a n m : ℕ) → Enough a n m → spared a (record { 0 = m }) ≡ spared a (record { 0 = n })
+enough-spares a n m e = go (leb (m + 3) a) refl
+  where
+    go : (b : Bool) → leb (m + 3) a ≡ b → spared a (record { 0 = m }) ≡ spared a (record { 0 = n })
+    go true t = ap (λ (k : ℕ). spared a (record { 0 = k })) (e .all (leb-true (m + 3) a t))
+    go false t =
+        let l = leb-false (m + 3) a t in
+        sym (if-gt (m + 3) a (Take (record { 0 = m })) Keep Keep (omega arith) refl) ∙ if-gt (n + 3) a (Take (record { 0 = n })) Keep Keep (omega (arith, e .part)) refl
 
 -- ---- lines
 
@@ -59,10 +100,13 @@ module _ (s : List ℕ) (a d : ℕ) (all : Lines) where
       let g : ofLines a d (linesIn s c) ≡ max n (ofLines a d (linesIn s r)) = ap (ofLines a d) w ∙ lines-cons a d (firstLine s c) (drop 1 (linesIn s c)) ∙ rw (e, f, next .lines) in
       record { whole = omega (arith, so .whole, g); inside = omega (arith, so .inside, next .ends) }
 
-  pub lines-done : (c : Lines) (m : ℕ) → c .left ≤ 0 → LinesSoFar s a d all c m → m ≡ ofLines a d (linesIn s all)
+  pub lines-enough : (c : Lines) (m : ℕ) (b : Bool) → b ≡ ltb a (m + 3) → b ≡ true → LinesSoFar s a d all c m → Enough a (ofLines a d (linesIn s all)) m
+  lines-enough c m b e t so = part-enough a m b e _ t (omega (arith, so .whole))
+
+  pub lines-done : (c : Lines) (m : ℕ) → c .left ≤ 0 → LinesSoFar s a d all c m → Enough a (ofLines a d (linesIn s all)) m
   lines-done c m h so =
       let z = ap (ofLines a d) (nothing (linesIn s c) (omega (arith, lines-number s c))) in
-      omega (arith, so .whole, z, lines-nil a d)
+      whole-enough a _ m (omega (arith, so .whole, z, lines-nil a d))
 
 -- ---- cells
 
@@ -115,20 +159,23 @@ module _ (s : List ℕ) (all : Cells) (j a d : ℕ) (c : Cells) (skipped : Skipp
   pub row-short : c .left ≡ 0 → RowTried s all j a d (record { longest = 0; end = c .at })
   row-short z =
       record {
-        longest = sym (cells-short j a d (cellsIn s all) (omega (arith, cells-number s all, skipped .left)));
-        ends = sym (cells-none s c (omega arith)) ∙ skipped .ends;
+        longest = whole-enough a _ 0 (sym (cells-short j a d (cellsIn s all) (omega (arith, cells-number s all, skipped .left))));
+        ends = λ k. sym (cells-none s c (omega arith)) ∙ skipped .ends;
       }
 
-  pub row-there : (x : Cell) (last : Cells) (e m : ℕ) → (c .left ≡ 0 → ⊥) → CellIs s c x → e ≡ orElse (x .delimiter) d → m ≡ ofLines a e (linesIn s (x .lines)) → Skipped s c (c .left) last
-      → RowTried s all j a d (record { longest = m; end = last .at })
-  row-there x last e m n is q f rest =
-      let k = cells-number s all in
-      let z : j + 0 ≡ j = omega arith in
-      let here : firstCell s c ≡ getD (cellsIn s all) j noCell = rw (skipped .cells) (getD-drop j (cellsIn s all) 0 noCell ∙ rw z) in
-      record {
-        longest = f ∙ rw (q, is .delimiter, is .lines, here) (sym (cells-there j a d (cellsIn s all) (omega (arith, skipped .left))));
-        ends = sym (cells-none s last (omega (arith, rest .left))) ∙ rest .ends ∙ skipped .ends;
-      }
+  module _ (x : Cell) (e m : ℕ) (n : c .left ≡ 0 → ⊥) (is : CellIs s c x) (q : e ≡ orElse (x .delimiter) d) (f : Enough a (ofLines a e (linesIn s (x .lines))) m) (b : Bool) (u : b ≡ ltb a (m + 3)) where
+    row-cell : Enough a (ofCells j a d (cellsIn s all)) m
+    row-cell =
+        let k = cells-number s all in
+        let z : j + 0 ≡ j = omega arith in
+        let here : firstCell s c ≡ getD (cellsIn s all) j noCell = rw (skipped .cells) (getD-drop j (cellsIn s all) 0 noCell ∙ rw z) in
+        rw (cells-there j a d (cellsIn s all) (omega (arith, skipped .left)), ← here, ← is .delimiter, ← is .lines, ← q) f
+
+    pub row-enough : (l : ℕ) → b ≡ true → RowTried s all j a d (record { longest = m; end = l })
+    row-enough l t = record { longest = row-cell; ends = saves-less a m b u t }
+
+    pub row-there : (last : Cells) → Skipped s c (c .left) last → RowTried s all j a d (record { longest = m; end = last .at })
+    row-there last rest = record { longest = row-cell; ends = λ k. sym (cells-none s last (omega (arith, rest .left))) ∙ rest .ends ∙ skipped .ends }
 
 -- ---- rows
 
@@ -154,23 +201,30 @@ module _ (s : List ℕ) (j a d : ℕ) (all : Rows) where
   pub rows-begin : rowsEnd s all ≤ length s → RowsSoFar s j a d all all 0
   rows-begin h = record { whole = omega arith; ends = refl; inside = h }
 
-  pub rows-again : (c : Rows) (row : Row) (found : Tried) (m k : ℕ) → 0 < c .left → RowIs s c row → RowTried s (row .cells) j a d found → k ≡ max m (found .longest) → RowsSoFar s j a d all c m
-      → RowsSoFar s j a d all (record { at = found .end; left = c .left - 1 }) k
-  rows-again c row found m k some is tried q so =
-      let next = rows-next s c some (found .end) (tried .ends ∙ is .ends) in
-      let w = drop-cons (rowsIn s c) 0 noRow (omega (arith, rows-number s c)) in
-      let x : found .longest ≡ ofCells j a d (firstRow s c .cells) = tried .longest ∙ ap (ofCells j a d) (is .cells) in
-      let g : ofRows j a d (rowsIn s c) ≡ max (found .longest) (ofRows j a d (rowsIn s (record { at = found .end; left = c .left - 1 }))) =
-      ap (ofRows j a d) w ∙ rows-cons j a d (firstRow s c) (drop 1 (rowsIn s c)) ∙ rw (x, next .rows) in
-      record { whole = omega (arith, so .whole, g); ends = next .ends ∙ so .ends; inside = omega (arith, so .inside, next .ends) }
-
   pub row-fits : (c : Rows) (row : Row) (m : ℕ) → 0 < c .left → RowIs s c row → RowsSoFar s j a d all c m → cellsEnd s (row .cells) ≤ length s
   row-fits c row m some is so = omega (arith, is .ends, row-whole s c some (so .inside))
+
+  -- the walk ends after a row, or goes on
+  module _ (c : Rows) (row : Row) (found : Tried) (m k : ℕ) (some : 0 < c .left) (is : RowIs s c row) (tried : RowTried s (row .cells) j a d found) (q : k ≡ max m (found .longest)) (so : RowsSoFar s j a d all c m) (b : Bool) (u : b ≡ ltb a (k + 3)) where
+    rows-first : ofRows j a d (rowsIn s c) ≡ max (ofCells j a d (cellsIn s (row .cells))) (ofRows j a d (drop 1 (rowsIn s c)))
+    rows-first =
+        let w = drop-cons (rowsIn s c) 0 noRow (omega (arith, rows-number s c)) in
+        ap (ofRows j a d) w ∙ rows-cons j a d (firstRow s c) (drop 1 (rowsIn s c)) ∙ rw (is .cells)
+
+    pub rows-enough : (l : ℕ) → b ≡ true → RowsTried s all j a d (record { longest = k; end = l })
+    rows-enough l t = record { longest = part-enough a k b u _ t (omega (arith, so .whole, rows-first, tried .longest .part)); ends = saves-less a k b u t }
+
+    pub rows-again : b ≡ false → RowsSoFar s j a d all (record { at = found .end; left = c .left - 1 }) k
+    rows-again f =
+        let l = saves-three a k b u f in
+        let next = rows-next s c some (found .end) (tried .ends (omega arith) ∙ is .ends) in
+        let g : ofRows j a d (rowsIn s (record { at = found .end; left = c .left - 1 })) ≡ ofRows j a d (drop 1 (rowsIn s c)) = ap (ofRows j a d) (next .rows) in
+        record { whole = omega (arith, so .whole, rows-first, g, tried .longest .all (omega arith)); ends = next .ends ∙ so .ends; inside = omega (arith, so .inside, next .ends) }
 
   pub rows-done : (c : Rows) (m : ℕ) → c .left ≤ 0 → RowsSoFar s j a d all c m → RowsTried s all j a d (record { longest = m; end = c .at })
   rows-done c m h so =
       let z = ap (ofRows j a d) (nothing (rowsIn s c) (omega (arith, rows-number s c))) in
-      record { longest = omega (arith, so .whole, z, rows-nil j a d); ends = sym (rows-none s c h) ∙ so .ends }
+      record { longest = whole-enough a _ m (omega (arith, so .whole, z, rows-nil j a d)); ends = λ k. sym (rows-none s c h) ∙ so .ends }
 
 -- ---- the whole
 
@@ -178,16 +232,28 @@ module _ (s : List ℕ) (j a d : ℕ) (all : Rows) where
 pub header-inside : (s : List ℕ) (c : Rows) → Passes s → rowsEnd s c ≡ rowsPlace s → rowsEnd s c ≤ length s
 header-inside s c h e = omega (arith, room s h .inside)
 
-pub header-behind : (s : List ℕ) (c : Rows) (j a d : ℕ) (r : Tried) → RowsTried s c j a d r → rowsEnd s c ≡ rowsPlace s → rowsEnd s (record { at = r .end; left = 0 }) ≡ rowsPlace s
-header-behind s c j a d r tried e = rows-none s (record { at = r .end; left = 0 }) (omega arith) ∙ tried .ends ∙ e
+pub header-behind : (s : List ℕ) (c : Rows) (j a d : ℕ) (r : Tried) (b : Bool) → b ≡ ltb a (r .longest + 3) → b ≡ false → RowsTried s c j a d r → rowsEnd s c ≡ rowsPlace s → rowsEnd s (record { at = r .end; left = 0 }) ≡ rowsPlace s
+header-behind s c j a d r b q f tried e = rows-none s (record { at = r .end; left = 0 }) (omega arith) ∙ tried .ends (saves-three a (r .longest) b q f) ∙ e
 
-module _ (s : List ℕ) (j a d : ℕ) (h c : Rows) (first others : Tried) (x : RowsTried s h j a d first) (y : RowsTried s c j a d others) (m : ℕ) (e : m ≡ max (first .longest) (others .longest)) where
-  -- no longer than what lines are split at
-  pub tried-le : m ≤ lifted a
-  tried-le = omega (arith, x .longest, y .longest, rows-le j a d (rowsIn s h), rows-le j a d (rowsIn s c))
+-- m of the header and n of the rows
+both-enough : (a x y m n : ℕ) → Enough a x m → Enough a y n → Enough a (max x y) (max m n)
+both-enough a x y m n e f = record { part = omega (arith, e .part, f .part); all = λ k. omega (arith, e .all (omega arith), f .all (omega arith)) }
 
-  pub tried-both : (t : Table) → rowsIn s h ≡ t .header → rowsIn s c ≡ t .rows → d ≡ otherwise t j → m ≡ longestPart t j a
-  tried-both t f g o = e ∙ rw (x .longest, y .longest, f, g) (sym (rows-append j a d (t .header) (t .rows)) ∙ rw o (sym (longest-part t j a)))
+-- no longer than what lines are split at
+pub tried-le : (s : List ℕ) (j a d : ℕ) (c : Rows) (r : Tried) → RowsTried s c j a d r → r .longest ≤ lifted a
+tried-le s j a d c r x = omega (arith, x .longest .part, rows-le j a d (rowsIn s c))
+
+-- after the header alone, and after header and rows
+module _ (s : List ℕ) (j a d : ℕ) (h : Rows) (first : Tried) (x : RowsTried s h j a d first) (t : Table) (f : rowsIn s h ≡ t .header) (o : d ≡ otherwise t j) where
+  both : longestPart t j a ≡ max (ofRows j a d (rowsIn s h)) (ofRows j a d (t .rows))
+  both = longest-part t j a ∙ rw (← o, f) (rows-append j a d (t .header) (t .rows))
+
+  pub tried-header : (b : Bool) → b ≡ ltb a (first .longest + 3) → b ≡ true → spared a (record { 0 = first .longest }) ≡ spared a (record { 0 = longestPart t j a })
+  tried-header b e k = enough-spares a (longestPart t j a) (first .longest) (part-enough a (first .longest) b e _ k (omega (arith, both, x .longest .part)))
+
+  pub tried-both : (c : Rows) (others : Tried) (m : ℕ) → RowsTried s c j a d others → m ≡ max (first .longest) (others .longest) → rowsIn s c ≡ t .rows → spared a (record { 0 = m }) ≡ spared a (record { 0 = longestPart t j a })
+  tried-both c others m y e g =
+      enough-spares a (longestPart t j a) m (rw (e, both, ← g) (both-enough a _ _ _ _ (x .longest) (y .longest)))
 
 -- the delimiter where a cell sets none
 pub otherwise-is : (t : Table) (j : ℕ) (c : Column) (x : Settings) (p q : ℕ) → c ≡ columnAt t j → x ≡ settingsOf t → p ≡ orElse (x .delimiter) 32 → q ≡ orElse (c .delimiter) p → q ≡ otherwise t j

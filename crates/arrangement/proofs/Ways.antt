@@ -32,10 +32,9 @@ pub fit-rule : (t : Layout) (i : ℕ) (s : State) (a : ℕ) (b : Bound) (o : Off
 unfolding fitRule
 fit-rule t i s a b o e p q = q ∙ ap₂ (λ (x : ℕ) (y : Bound). fitting x (column t i) (longest t i) y) e p
 
-pub split-rule : (parts : ℕ → ℕ → ℕ) (t : Layout) (i : ℕ) (s : State) (a n : ℕ) (o : Offer) → a ≡ average s → n ≡ parts i a → o ≡ spared a (record { 0 = n }) → o ≡ splitRule parts t i s
+pub split-rule : (parts : ℕ → ℕ → ℕ) (t : Layout) (i : ℕ) (s : State) (a n : ℕ) (o : Offer) → a ≡ average s → spared a (record { 0 = n }) ≡ spared a (record { 0 = parts i a }) → o ≡ spared a (record { 0 = n }) → o ≡ splitRule parts t i s
 unfolding splitRule
-split-rule parts t i s a n o e p q =
-    q ∙ ap (λ (k : ℕ). spared a (record { 0 = k })) p ∙ ap (λ (k : ℕ). spared k (record { 0 = parts i k })) e
+split-rule parts t i s a n o e p q = q ∙ p ∙ ap (λ (k : ℕ). spared k (record { 0 = parts i k })) e
 
 module _ (c : Column) (b : Bound) (w : ConstraintWidth) (e : b ≡ At w) where
   pub trimmed-at : (n k : ContentWidth) → w .0 < n .0 → k ≡ content c w → k ≡ trimmed c n b

@@ -1,5 +1,5 @@
 -- The longest part of a column's lines split at an average, as a walk over the sheet finds it: line by line, row by row. Assumes nothing.
-use Prim.Native.Nat.{ℕ, _-_, max}
+use Prim.Native.Nat.{ℕ, _+_, _-_, _≤_, max}
 use mathlib.Core.Path.{_≡_}
 use mathlib.Core.List.{List, [], _∷_, map}
 use mathlib.Core.Bool.{true, false}
@@ -39,11 +39,16 @@ pub record Skipped (s : List ℕ) (c : Cells) (n : ℕ) (r : Cells) : Type 0 whe
   pub left : r .left ≡ c .left - n
   pub ends : cellsEnd s r ≡ cellsEnd s c
 
--- a row's cells have been walked, and rows
+-- m in place of the longest part n, at the average a: no longer than n, and n itself if m is shorter than a by 3 or more
+pub record Enough (a n m : ℕ) : Type 0 where
+  pub part : m ≤ n
+  pub all : m + 3 ≤ a → m ≡ n
+
+-- a row's cells have been walked, and rows: to their end, if what was found is shorter than the average by 3 or more
 pub record RowTried (s : List ℕ) (c : Cells) (j a d : ℕ) (r : Tried) : Type 0 where
-  pub longest : r .longest ≡ ofCells j a d (cellsIn s c)
-  pub ends : r .end ≡ cellsEnd s c
+  pub longest : Enough a (ofCells j a d (cellsIn s c)) (r .longest)
+  pub ends : r .longest + 3 ≤ a → r .end ≡ cellsEnd s c
 
 pub record RowsTried (s : List ℕ) (c : Rows) (j a d : ℕ) (r : Tried) : Type 0 where
-  pub longest : r .longest ≡ ofRows j a d (rowsIn s c)
-  pub ends : r .end ≡ rowsEnd s c
+  pub longest : Enough a (ofRows j a d (rowsIn s c)) (r .longest)
+  pub ends : r .longest + 3 ≤ a → r .end ≡ rowsEnd s c

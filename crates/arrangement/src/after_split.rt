@@ -1,14 +1,16 @@
 // What a column would need after a split: `longest_line_after_split` of comfy-table's `arrangement/dynamic.rs`, a function for each of
 // its loops. No text is copied: each line is the part of the sheet that holds it.
 ghost use mathlib.Core.Path.{_≡_};
-ghost use Prim.Native.Nat.{_≤_, _<_, max};
+ghost use Prim.Native.Nat.{_+_, _≤_, _<_, max};
+ghost use lib.Dec.{ltb};
 ghost use lib.ListN.{length};
 ghost use Rattle.rules.specs.Text.{orElse};
 ghost use Rattle.rules.specs.Sheet.{columnAt};
 ghost use Rattle.rules.specs.Widths.{lifted, longestPart};
 ghost use Rattle.sheet.specs.Held.{Passes, tableOf};
 ghost use Rattle.sheet.specs.Walk.{rowsIn, cellsIn, linesIn, rowsEnd, cellsEnd, linesEnd};
-ghost use Rattle.arrangement.specs.Trial.{ofLine, ofLines, ofRows, RowTried, RowsTried, Skipped};
+ghost use Rattle.arrangement.specs.Arrange.{spared};
+ghost use Rattle.arrangement.specs.Trial.{ofLine, ofLines, Enough, RowTried, RowsTried, Skipped};
 use rules::Column;
 use sheet::records::Cells;
 use sheet::records::Lines;
@@ -53,13 +55,27 @@ fn of_line(line: &[u8], average: usize, delimiter: u8) -> usize
     content_split::longest_part(line, width, delimiter)
 }
 
+// Splitting pays only if it saves three columns: with such a part it doesn't, whatever the others are.
+fn saves_too_little(average: usize, longest: usize) -> bool
+    ensures { λ r. ⌜ r ≡ ltb average (longest + 3) ⌝ }
+{
+    if average < longest {
+        return true;
+    }
+    average - longest < 3
+}
+
+// The lines after such a part aren't split.
 fn of_lines(sheet: &[u8], lines: Lines, average: usize, delimiter: u8) -> usize
     requires { ⌜ linesEnd (now sheet) lines ≤ length (now sheet) ⌝ }
-    ensures { λ r. ⌜ r ≡ ofLines average delimiter (linesIn (now (sheet .entry)) lines) ⌝ }
+    ensures { λ r. ⌜ Enough average (ofLines average delimiter (linesIn (now (sheet .entry)) lines)) r ⌝ }
 {
     let mut longest: usize = 0;
     let mut c = lines;
     while 0 < c.left {
+        if saves_too_little(average, longest) {
+            return longest;
+        }
         let line = walk::line(sheet, c);
         longest = greater(longest, of_line(line, average, delimiter));
         c = walk::next_line(sheet, c);
@@ -84,7 +100,7 @@ fn skip(sheet: &[u8], cells: Cells, n: usize) -> Cells
     c
 }
 
-// A row that is short has no cell in the column.
+// A row that is short has no cell in the column. After such a part the row's end isn't looked for.
 fn of_row(sheet: &[u8], cells: Cells, column: usize, average: usize, otherwise: u8) -> Tried
     requires { ⌜ cellsEnd (now sheet) cells ≤ length (now sheet) ⌝ }
     ensures { λ r. ⌜ RowTried (now (sheet .entry)) cells column average otherwise r ⌝ }
@@ -99,6 +115,9 @@ fn of_row(sheet: &[u8], cells: Cells, column: usize, average: usize, otherwise: 
     let cell = walk::cell(sheet, c);
     let lines = cell.lines;
     let longest = of_lines(sheet, lines, average, or_else(cell.delimiter, otherwise));
+    if saves_too_little(average, longest) {
+        return Tried { longest, end: c.at };
+    }
     let last = skip(sheet, c, c.left);
     Tried {
         longest,
@@ -106,6 +125,7 @@ fn of_row(sheet: &[u8], cells: Cells, column: usize, average: usize, otherwise: 
     }
 }
 
+// The rows after such a part aren't walked.
 fn of_rows(sheet: &[u8], rows: Rows, column: usize, average: usize, otherwise: u8) -> Tried
     requires { ⌜ rowsEnd (now sheet) rows ≤ length (now sheet) ⌝ }
     ensures { λ r. ⌜ RowsTried (now (sheet .entry)) rows column average otherwise r ⌝ }
@@ -117,6 +137,12 @@ fn of_rows(sheet: &[u8], rows: Rows, column: usize, average: usize, otherwise: u
         let cells = row.cells;
         let found = of_row(sheet, cells, column, average, otherwise);
         longest = greater(longest, found.longest);
+        if saves_too_little(average, longest) {
+            return Tried {
+                longest,
+                end: found.end,
+            };
+        }
         c = Rows {
             at: found.end,
             left: c.left - 1,
@@ -125,16 +151,19 @@ fn of_rows(sheet: &[u8], rows: Rows, column: usize, average: usize, otherwise: u
     Tried { longest, end: c.at }
 }
 
-// The longest part of the column's lines, over header and rows, split at the average.
+// The longest part of the column's lines, over header and rows, split at the average; or one that saves too little as well.
 pub fn longest_line_after_split(sheet: &[u8], c: Column, column: usize, average: u16) -> u16
     requires { ⌜ Passes (now sheet) × (c ≡ columnAt (tableOf (now sheet)) column) ⌝ }
-    ensures { λ r. ⌜ r ≡ longestPart (tableOf (now (sheet .entry))) column average ⌝ }
+    ensures { λ r. ⌜ spared average (record { 0 = r }) ≡ spared average (record { 0 = longestPart (tableOf (now (sheet .entry))) column average }) ⌝ }
 {
     let table = settings::settings(sheet);
     let otherwise = or_else(c.delimiter, or_else(table.delimiter, b' '));
     let a = average as usize;
     let header = walk::header(sheet);
     let first = of_rows(sheet, header, column, a, otherwise);
+    if saves_too_little(a, first.longest) {
+        return first.longest as u16;
+    }
     let behind = Rows {
         at: first.end,
         left: 0,

@@ -1,6 +1,6 @@
 use borrow.Author.Needs.{needs}
 use native.Mathlib.Omega.{arith}
-use Rattle.arrangement.proofs.Tries.{LinesSoFar, lines-begin, lines-again, lines-done}
+use Rattle.arrangement.proofs.Tries.{LinesSoFar, lines-begin, lines-enough, lines-again, lines-done}
 use Rattle.arrangement.proofs.after_split.of_lines.Statement.{statement}
 use Rattle.arrangement.proofs.after_split.of_lines.Tie as tie
 
@@ -17,10 +17,18 @@ of-lines-spec =
     Inv-loop
     μ-loop
     (λ c. search (needs, lines-begin))
-    (λ c κs. (c .if1 .taken, c .before .before .loop .inv .inside))
+    (λ c κs. search needs)
+    (λ c. let e = c .before in
+    lines-enough _ _ _ _ _ _ _ (e .saves-too-little .ensures) (c .if2 .taken) (e .before .before .before .loop .inv))
+    (λ c κs. let e = c .before .before in
+    (e .if1 .taken, e .before .before .loop .inv .inside))
     (λ c κs. search needs)
     (λ c κs. search needs)
-    (λ c κs. (c .before .before .before .if1 .taken, c .before .before .before .before .before .loop .inv .inside))
+    (λ c κs. let e = c .before .before .before .before .before in
+    (e .if1 .taken, e .before .before .loop .inv .inside))
     (λ c. omega (arith, c .next-line .ensures .left))
-    (λ c. lines-again _ _ _ _ _ _ _ _ _ _ (c .before .before .before .before .if1 .taken) (c .before .before .before .line .ensures) (c .before .before .of-line .ensures) (c .before .greater .ensures) (c .next-line .ensures) (c .before .before .before .before .before .before .loop .inv))
+    (λ c. let g = c .before in
+    let r = g .before .before in
+    let e = r .before .before .before in
+    lines-again _ _ _ _ _ _ _ _ _ _ (e .if1 .taken) (r .line .ensures) (g .before .of-line .ensures) (g .greater .ensures) (c .next-line .ensures) (e .before .before .loop .inv))
     (λ c. lines-done _ _ _ _ _ _ (c .if1 .left) (c .before .before .loop .inv)))

@@ -1,5 +1,5 @@
 use borrow.Author.Needs.{needs}
-use Rattle.arrangement.proofs.Tries.{row-short, row-inside, row-there}
+use Rattle.arrangement.proofs.Tries.{row-short, row-inside, row-enough, row-there}
 use Rattle.arrangement.proofs.after_split.of_row.Statement.{statement}
 use Rattle.arrangement.proofs.after_split.of_row.Tie as tie
 
@@ -15,6 +15,12 @@ of-row-spec =
     let k = e .before .before in
     row-inside _ _ _ _ _ (k .skip .ensures) (e .if1 .left) (c .before .before .cell .ensures) (k .before .before .pre))
     (λ c κs. search needs)
-    (λ c. let o = c .before .before in
+    (λ c. let y = c .before in
+    let o = y .before .before in
     let e = o .before .before .before in
-    row-there _ _ _ _ _ _ (e .before .before .skip .ensures) _ _ _ _ (e .if1 .left) (o .before .before .cell .ensures) (o .or-else .ensures) (c .before .of-lines .ensures) (c .skip2 .ensures)))
+    row-enough _ _ _ _ _ _ (e .before .before .skip .ensures) _ _ _ (e .if1 .left) (o .before .before .cell .ensures) (o .or-else .ensures) (y .before .of-lines .ensures) _ (y .saves-too-little .ensures) _ (c .if2 .taken))
+    (λ c κs. search needs)
+    (λ c. let y = c .before .before in
+    let o = y .before .before in
+    let e = o .before .before .before in
+    row-there _ _ _ _ _ _ (e .before .before .skip .ensures) _ _ _ (e .if1 .left) (o .before .before .cell .ensures) (o .or-else .ensures) (y .before .of-lines .ensures) _ (y .saves-too-little .ensures) _ (c .skip2 .ensures)))

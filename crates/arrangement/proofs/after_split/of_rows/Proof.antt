@@ -1,5 +1,5 @@
 use borrow.Author.Needs.{needs}
-use Rattle.arrangement.proofs.Tries.{RowsSoFar, rows-begin, rows-again, row-fits, rows-done}
+use Rattle.arrangement.proofs.Tries.{RowsSoFar, rows-begin, row-fits, rows-enough, rows-again, rows-done}
 use Rattle.arrangement.proofs.after_split.of_rows.Statement.{statement}
 use Rattle.arrangement.proofs.after_split.of_rows.Tie as tie
 
@@ -19,8 +19,13 @@ of-rows-spec =
     (λ c κs. (c .if1 .taken, c .before .before .loop .inv .inside))
     (λ c κs. row-fits _ _ _ _ _ _ _ _ (c .before .before .if1 .taken) (c .before .row .ensures) (c .before .before .before .before .loop .inv))
     (λ c κs. search needs)
+    (λ c κs. search needs)
+    (λ c. let y = c .before in
+    let r = y .before .before .before .before in
+    rows-enough _ _ _ _ _ _ _ _ _ _ (r .before .if1 .taken) (r .row .ensures) (y .before .before .of-row .ensures) (y .before .greater .ensures) (r .before .before .before .loop .inv) _ (y .saves-too-little .ensures) _ (c .if2 .taken))
     (λ c. search needs)
     (λ c. search needs)
-    (λ c. let r = c .before .before .before .before in
-    rows-again _ _ _ _ _ _ _ _ _ _ (r .before .if1 .taken) (r .row .ensures) (c .before .before .of-row .ensures) (c .before .greater .ensures) (r .before .before .before .loop .inv))
+    (λ c. let y = c .before .before in
+    let r = y .before .before .before .before in
+    rows-again _ _ _ _ _ _ _ _ _ _ (r .before .if1 .taken) (r .row .ensures) (y .before .before .of-row .ensures) (y .before .greater .ensures) (r .before .before .before .loop .inv) _ (y .saves-too-little .ensures) (c .before .if2 .left))
     (λ c. rows-done _ _ _ _ _ _ _ (c .if1 .left) (c .before .before .loop .inv)))
