@@ -7,7 +7,7 @@ use native.Mathlib.Omega.{arith}
 use native.Mathlib.Nat.{zero-add, suc-add}
 use lib.ListN.{length, take, drop, getD, length-drop}
 use lib.Seq.{slice, drop-drop, take-nil, take-take, length-take-le}
-use borrow.Author.Tests.{lt-ltb, ltb-true, ltb-false}
+use borrow.Author.Tests.{lt-ltb}
 use Rattle.rules.specs.Text.{flat}
 use Rattle.rules.specs.Wrap.{split, wrapLine, wrapLines}
 use Rattle.rules.proofs.Text.{width-length}
@@ -214,15 +214,3 @@ module _ (s : List ℕ) (w d : ℕ) (pos : 0 < w) where
           fits = p .fits;
           moves = λ f. absurd (never (sym e ∙ f));
         }
-
-  -- ---- what a step counts
-  module _ (c : CellCursor) (r : Next) (p : NextIs s w d c r) where
-    pub count-one : r .found ≡ true → length (rest s w d c) ≡ 1 + length (rest s w d (r .cursor))
-    count-one e =
-        omega (arith, ltb-true 0 (length (rest s w d c)) (sym (p .found) ∙ e), length-drop 1 (rest s w d c), ap length (p .others))
-
-    pub count-none : r .found ≡ false → length (rest s w d c) ≡ 0
-    count-none e = omega (arith, ltb-false 0 (length (rest s w d c)) (sym (p .found) ∙ e))
-
-  pub inside-at : (c : CellCursor) → Inside s c → c .at ≤ length s
-  inside-at c h = omega (arith, h .order, h .within, end-from s (c .end) (c .left))

@@ -3,7 +3,8 @@ use content_split::Part;
 ghost use mathlib.Core.Path.{_≡_};
 ghost use Prim.Native.Nat.{ℕ, _+_, _-_, _≤_, _<_};
 ghost use lib.ListN.{length, getD};
-ghost use Rattle.cells.specs.Cell.{rest, Inside};
+ghost use Rattle.rules.specs.Wrap.{wrapLine};
+ghost use Rattle.cells.specs.Cell.{part, past, rest, Inside};
 ghost use Rattle.cells.specs.Next.{Step, Used, NextIs};
 
 // Where the next wrapped line of a cell is looked for: in the characters from `at` to `end` of the cell line that is being wrapped,
@@ -117,19 +118,36 @@ pub fn next_line(sheet: &[u8], c: CellCursor, width: usize, delimiter: u8) -> Ne
     }
 }
 
+// How many lines the cell line at p wraps into.
+fn line_height(sheet: &[u8], p: usize, width: usize, delimiter: u8) -> usize
+    requires { ⌜ (past (now sheet) p ≤ length (now sheet)) × (0 < width) ⌝ }
+    ensures { λ r. ⌜ (r ≡ length (wrapLine width delimiter (part (now (sheet .entry)) (p + 1) (past (now (sheet .entry)) p)))) × (p + r ≤ past (now (sheet .entry)) p) ⌝ }
+{
+    let n = wide(sheet[p]);
+    let start = p + 1;
+    let end = start + n;
+    if width < n {
+        return content_split::count_parts(&sheet[start..end], width, delimiter);
+    }
+    1
+}
+
 // How many wrapped lines a cell has from the cursor on.
 pub fn cell_height(sheet: &[u8], c: CellCursor, width: usize, delimiter: u8) -> usize
     requires { ⌜ Inside (now sheet) c × (0 < width) ⌝ }
     ensures { λ r. ⌜ r ≡ length (rest (now (sheet .entry)) width delimiter c) ⌝ }
 {
-    let mut k = c;
-    let mut n: usize = 0;
-    loop {
-        let r = next_line(sheet, k, width, delimiter);
-        if !r.found {
-            return n;
-        }
-        n += 1;
-        k = r.cursor;
+    let at = c.at;
+    let end = c.end;
+    let mut n = content_split::count_parts(&sheet[at..end], width, delimiter);
+    let mut p = end;
+    let mut left = c.left;
+    while 0 < left {
+        let lines = line_height(sheet, p, width, delimiter);
+        n += lines;
+        let size = wide(sheet[p]);
+        p = p + 1 + size;
+        left -= 1;
     }
+    n
 }

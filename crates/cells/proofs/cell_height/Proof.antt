@@ -1,19 +1,17 @@
+use borrow.Author.Needs.{needs}
 use native.Mathlib.Omega.{arith}
-use Prim.Native.Nat.{_+_, _-_, _≤_}
-use mathlib.Core.Path.{_≡_}
+use mathlib.Core.Path.{refl}
 use denote.Ref.{now}
-use borrow.Author.Tests.{not-true, not-false}
-use lib.ListN.{length}
-use Rattle.cells.specs.Cell.{rest, Inside}
-use Rattle.cells.proofs.Laws.{count-one, count-none, inside-at}
+use Rattle.cells.proofs.Laws.{end-from}
+use Rattle.cells.proofs.Counts.{Counting, counting-begin, counting-room, counting-on, counting-done}
 use Rattle.cells.proofs.cell_height.Statement.{statement}
 use Rattle.cells.proofs.cell_height.Tie as tie
 
 abbrev Inv-loop : tie.InvT-loop
-Inv-loop sheet width delimiter k₀ n₀ k n = (length (rest sheet width delimiter k₀) ≡ n + length (rest sheet width delimiter k)) × (Inside sheet k × (n ≤ k .at))
+Inv-loop sheet width delimiter at end n₀ p₀ left₀ n p left = Counting sheet width delimiter (record { at = at; end = end; left = left₀ }) n p left
 
 abbrev μ-loop : tie.MeasureT-loop
-μ-loop sheet width delimiter k₀ n₀ k n = length sheet - k .at
+μ-loop sheet width delimiter at end n₀ p₀ left₀ n p left = left
 
 pub cell-height-spec : {M : Type 1} → statement M
 cell-height-spec =
@@ -21,280 +19,18 @@ cell-height-spec =
     (tie.spec
     Inv-loop
     μ-loop
-    (λ
-    c. (
-      omega
-          arith,
-      (
-        c
-            .before
-            .pre
-            .0,
-        omega
-            arith,
-      ),
-    ))
-    (λ
-    c
-    κs. (
-      c
-          .loop
-          .inv
-          .1
-          .0,
-      c
-          .before
-          .before
-          .pre
-          .1,
-    ))
-    (λ
-    c.
-    let
-    n
-    =
-    c
-    .before
-    .before
-    in
-    let
-    b
-    =
-    n
-    .before
-    in
-    let
-    a
-    =
-    b
-    .before
-    .before
-    .args
-    in
-    omega (
-      arith,
-      b
-          .loop
-          .inv
-          .0,
-      count-none
-          (now
-          (a
-          .sheet))
-          (a
-          .width)
-          (a
-          .delimiter)
-          (b
-          .before
-          .before
-          .pre
-          .1)
-          (b
-          .loop
-          .k)
-          (n
-          .next-line
-          .result)
-          (n
-          .next-line
-          .ensures)
-          (not-true
-          _
-          (c
-          .if1
-          .taken)),
-    ))
-    (λ
-    c.
-    let
-    b
-    =
-    c
-    .before
-    .before
-    .before
-    in
-    let
-    a
-    =
-    b
-    .before
-    .before
-    .args
-    in
-    omega (
-      arith,
-      b
-          .loop
-          .inv
-          .1
-          .1,
-      b
-          .before
-          .before
-          .good,
-      inside-at
-          (now
-          (a
-          .sheet))
-          (a
-          .width)
-          (a
-          .delimiter)
-          (b
-          .before
-          .before
-          .pre
-          .1)
-          (b
-          .loop
-          .k)
-          (b
-          .loop
-          .inv
-          .1
-          .0),
-    ))
-    (λ
-    c.
-    let
-    n
-    =
-    c
-    .before
-    .before
-    .before
-    in
-    let
-    b
-    =
-    n
-    .before
-    in
-    let
-    a
-    =
-    b
-    .before
-    .before
-    .args
-    in
-    omega (
-      arith,
-      n
-          .next-line
-          .ensures
-          .moves
-          (not-false
-          _
-          (c
-          .before
-          .if1
-          .left)),
-      inside-at
-          (now
-          (a
-          .sheet))
-          (a
-          .width)
-          (a
-          .delimiter)
-          (b
-          .before
-          .before
-          .pre
-          .1)
-          (n
-          .next-line
-          .result
-          .cursor)
-          (n
-          .next-line
-          .ensures
-          .inside),
-    ))
-    (λ
-    c.
-    let
-    n
-    =
-    c
-    .before
-    .before
-    .before
-    in
-    let
-    b
-    =
-    n
-    .before
-    in
-    let
-    a
-    =
-    b
-    .before
-    .before
-    .args
-    in (
-      omega (
-        arith,
-        b
-            .loop
-            .inv
-            .0,
-        count-one
-            (now
-            (a
-            .sheet))
-            (a
-            .width)
-            (a
-            .delimiter)
-            (b
-            .before
-            .before
-            .pre
-            .1)
-            (b
-            .loop
-            .k)
-            (n
-            .next-line
-            .result)
-            (n
-            .next-line
-            .ensures)
-            (not-false
-            _
-            (c
-            .before
-            .if1
-            .left)),
-      ),
-      (
-        n
-            .next-line
-            .ensures
-            .inside,
-        omega (
-          arith,
-          b
-              .loop
-              .inv
-              .1
-              .1,
-          n
-              .next-line
-              .ensures
-              .moves
-              (not-false
-              _
-              (c
-              .before
-              .if1
-              .left)),
-        ),
-      ),
-    )))
+    (λ c. c .before .pre .0 .order)
+    (λ c. search needs)
+    (λ c. omega (arith, c .before .pre .0 .within, end-from (now (c .before .args .sheet)) (c .before .args .c .end) (c .before .args .c .left)))
+    (λ c κs. c .before .before .pre .1)
+    (λ c. let q = c .before .before .before .pre in counting-begin _ _ _ (q .1) _ _ (q .0) (c .count-parts .ensures))
+    (λ c κs. (counting-room _ _ _ _ _ _ _ (c .before .loop .inv) (c .loop-test .taken), c .before .before .before .before .before .pre .1))
+    (λ c. let l = c .before .before .loop in omega (arith, l .inv .few, c .line-height .ensures .1, counting-room _ _ _ _ _ _ _ (l .inv) (c .before .loop-test .taken), c .before .before .before .before .before .before .good))
+    (λ c. omega (arith, counting-room _ _ _ _ _ _ _ (c .before .before .before .loop .inv) (c .before .before .loop-test .taken)))
+    (λ c κs. search needs)
+    (λ c. omega (arith, counting-room _ _ _ _ _ _ _ (c .before .before .before .before .loop .inv) (c .before .before .before .loop-test .taken), c .before .before .before .before .before .before .before .before .good))
+    (λ c. omega (arith, counting-room _ _ _ _ _ _ _ (c .before .before .before .before .loop .inv) (c .before .before .before .loop-test .taken), c .wide .ensures .0, c .before .before .before .before .before .before .before .before .good))
+    (λ c. omega (arith, c .before .before .before .loop-test .taken))
+    (λ c. omega (arith, c .before .before .before .loop-test .taken))
+    (λ c. let h = c .before .before .line-height .ensures in counting-on _ _ _ _ _ _ _ (c .before .before .before .before .loop .inv) (c .before .before .before .loop-test .taken) _ _ _ (h .0) (h .1) (c .wide .ensures .0) refl)
+    (λ c. counting-done _ _ _ _ _ _ _ (c .before .loop .inv) (c .loop-test .left)))
