@@ -4,12 +4,16 @@ ghost use Prim.Native.Nat.{ℕ, _+_, _≤_};
 ghost use lib.ListN.{length, replicate};
 ghost use Rattle.buffer.specs.Put.{putAt, edge};
 
-// Writes a byte n times; gives the place after.
+// Writes a byte n times; gives the place after. One byte, as most paddings are, is stored by itself: the loop is compiled to a call.
 pub fn fill(dst: &mut [u8], at: usize, n: usize, b: u8) -> usize
     requires { ⌜ at + n ≤ length (now dst) ⌝ }
     ensures { λ r. ⌜ r ≡ at + n ⌝ }
     ensures { λ _. ⌜ now (dst .exit) ≡ putAt (now (dst .entry)) at (replicate n b) ⌝ }
 {
+    if n == 1 {
+        dst[at] = b;
+        return at + 1;
+    }
     let mut i = 0;
     while i < n {
         dst[at + i] = b;
