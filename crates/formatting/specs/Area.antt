@@ -9,6 +9,7 @@ use Rattle.rules.specs.Text.{textWidth, blank}
 use Rattle.rules.specs.Wrap.{cutLine}
 use Rattle.rules.specs.Page.{before}
 use Rattle.cells.specs.Cell.{part, rest, Inside}
+use Rattle.cells.specs.declared.CellCursor.{CellCursor}
 use Rattle.formatting.specs.declared.content_format.Shown.{Shown}
 use Rattle.formatting.specs.declared.content_format.Standing.{Standing}
 
@@ -35,6 +36,10 @@ pub record InSheet (s : List ℕ) (w : ℕ) (t : Standing) : Type 0 where
 -- the lines that follow the one that stands ready
 abbrev pub following : List ℕ → ℕ → Standing → List (List ℕ)
 following s w t = rest s w (t .delimiter) (t .cursor)
+
+-- a cell before its line from c on
+abbrev pub standingFrom : CellCursor → ℕ → ℕ → Standing
+standingFrom c d a = record { found = false; start = 0; end = 0; cursor = c; delimiter = d; alignment = a }
 
 -- the next line of the same cell
 pub record After (s : List ℕ) (w : ℕ) (t r : Standing) : Type 0 where

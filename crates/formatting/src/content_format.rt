@@ -8,7 +8,7 @@ ghost use lib.Dec.{ltb};
 ghost use Rattle.rules.specs.Page.{before};
 ghost use Rattle.buffer.specs.Put.{over, putAt, edge};
 ghost use Rattle.cells.specs.Cell.{rest, Inside};
-ghost use Rattle.formatting.specs.Area.{areaIn, marksShown, shownText, InSheet, After, columnPiece};
+ghost use Rattle.formatting.specs.Area.{areaIn, marksShown, shownText, InSheet, standingFrom, After, columnPiece};
 ghost use Rattle.formatting.specs.Line.{lead, lineBytes, ReadyAll, AfterAll, anyFound};
 ghost use Rattle.formatting.specs.Stand.{inLimit, lastOf};
 ghost use Rattle.formatting.specs.RowText.{Drawable, rowBytes};
@@ -119,22 +119,36 @@ fn draw_cell(
     )
 }
 
-// The cell's next line.
-pub fn advance(sheet: &[u8], width: usize, t: Standing) -> Standing
-    requires { ⌜ Inside (now sheet) (t .cursor) × (0 < width) ⌝ }
-    ensures { λ r. ⌜ After (now (sheet .entry)) width t r ⌝ }
+// A cell's line from a cursor on.
+pub fn line_after(
+    sheet: &[u8],
+    width: usize,
+    from: CellCursor,
+    delimiter: u8,
+    alignment: u8,
+) -> Standing
+    requires { ⌜ Inside (now sheet) from × (0 < width) ⌝ }
+    ensures { λ r. ⌜ After (now (sheet .entry)) width (standingFrom from delimiter alignment) r ⌝ }
 {
-    let from = t.cursor;
-    let n = cells::next_line(sheet, from, width, t.delimiter);
+    let n = cells::next_line(sheet, from, width, delimiter);
     let cursor = n.cursor;
     Standing {
         found: n.found,
         start: n.start,
         end: n.end,
         cursor,
-        delimiter: t.delimiter,
-        alignment: t.alignment,
+        delimiter,
+        alignment,
     }
+}
+
+// The cell's next line.
+pub fn advance(sheet: &[u8], width: usize, t: Standing) -> Standing
+    requires { ⌜ Inside (now sheet) (t .cursor) × (0 < width) ⌝ }
+    ensures { λ r. ⌜ After (now (sheet .entry)) width t r ⌝ }
+{
+    let from = t.cursor;
+    line_after(sheet, width, from, t.delimiter, t.alignment)
 }
 
 // Where a column's area ends, and the cell's next line.

@@ -47,19 +47,14 @@ fn open_cell(sheet: &[u8], cells: Cells, v: Shown) -> Standing
     }
     let x = walk::cell(sheet, cells);
     let lines = x.lines;
-    let before = Standing {
-        found: false,
-        start: 0,
-        end: 0,
-        cursor: CellCursor {
-            at: lines.at,
-            end: lines.at,
-            left: lines.left,
-        },
-        delimiter: or_else(x.delimiter, v.delimiter),
-        alignment: or_else(x.alignment, v.alignment),
+    let from = CellCursor {
+        at: lines.at,
+        end: lines.at,
+        left: lines.left,
     };
-    content_format::advance(sheet, v.width, before)
+    let delimiter = or_else(x.delimiter, v.delimiter);
+    let alignment = or_else(x.alignment, v.alignment);
+    content_format::line_after(sheet, v.width, from, delimiter, alignment)
 }
 
 // The cells after the first n.

@@ -28,4 +28,4 @@ open-cell-spec =
     let some : 0 < a .cells .left = omega (arith, c .before .before .before .before .before .if1 .left) in
     let X = c .before .before .before .before .cell .ensures in
     let k : linesEnd (now (a .sheet)) (c .before .before .before .before .cell .result .lines) ≤ length (now (a .sheet)) = omega (arith, X .ends, cell-whole (now (a .sheet)) (a .cells) some (s .pre .1)) in
-    opened-cell (now (a .sheet)) (a .cells) (c .before .before .before .before .cell .result) X (a .v) (s .pre .0) (s .pre .1) k (c .before .before .or-else .result) (c .before .or-else2 .result) (c .advance .result) (c .before .before .or-else .ensures) (c .before .or-else2 .ensures) (c .advance .ensures)))
+    opened-cell (now (a .sheet)) (a .cells) (c .before .before .before .before .cell .result) X (a .v) (s .pre .0) (s .pre .1) k (c .before .before .or-else .result) (c .before .or-else2 .result) (c .line-after .result) (c .before .before .or-else .ensures) (c .before .or-else2 .ensures) (c .line-after .ensures)))
