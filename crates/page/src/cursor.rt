@@ -1,5 +1,5 @@
-// A cursor over the lines of a page: comfy-table's `draw_borders` and `draw_rows`, a line at a step. What is drawn and what is passed over go
-// the same way, so that counting, printing a page and printing a line agree.
+// A cursor over the lines of a page, in the order of comfy-table's `draw_borders` and `draw_rows`, a line at a step. What is drawn and what is
+// passed over go the same way, so that the calls for lines agree with the page.
 ghost use mathlib.Core.Path.{_≡_};
 ghost use mathlib.Core.List.{[], _∷_, _++_};
 ghost use Prim.Native.Nat.{ℕ, _+_, _≤_, _<_};

@@ -1,11 +1,14 @@
 -- A loop that reads n items: what is left to read from here is what there was to read from its start. Assumes nothing.
 use Prim.Native.Nat.{ℕ, zero, suc, _+_, _-_, _<_, _≤_}
+use mathlib.Core.Bool.{Bool, true, false, _&&_, cond}
 use mathlib.Core.Path.{_≡_, refl, sym, _∙_}
 use mathlib.Core.List.{List}
 use native.Mathlib.Omega.{arith}
 use lib.ListN.{length, getD}
-use Rattle.rules.specs.Field.{Reader, character}
-use Rattle.sheet.specs.Steps.{after, times}
+use lib.Dec.{leb}
+use borrow.Author.Tests.{leb-true, le-leb, lt-leb}
+use Rattle.rules.specs.Field.{Reader, printable, character}
+use Rattle.sheet.specs.Steps.{after, times, printables}
 use Rattle.sheet.specs.declared.field.Step.{Step}
 use Rattle.sheet.specs.declared.field.Step.the-variants.{At, Refused}
 use Rattle.sheet.proofs.Fields.{between-ended, between-low, between-high, between-good}
@@ -69,3 +72,60 @@ module _ (s : List ℕ) (e i : ℕ) (w : Step) (c : Characters s e i w) where
 
   pub characters-done : e ≤ i → At i ≡ w
   characters-done l = items-done (after character s) e i (At i) w l (c .items)
+
+-- ---- printable characters passed at once
+
+both-true : (a b : Bool) → (a && b) ≡ true → (a ≡ true) × (b ≡ true)
+both-true true b e = (refl, e)
+both-true false b e = let z : _≡_ {A = ℕ} 0 1 = cc in absurd (omega arith)
+
+-- a byte's tests, exit by exit
+pub low-not : (all : Bool) (v : ℕ) → v < 32 → false ≡ (all && printable v)
+low-not true v h = rw (lt-leb 32 v h)
+low-not false v h = refl
+
+pub high-not : (all : Bool) (v : ℕ) → 32 ≤ v → 126 < v → false ≡ (all && printable v)
+high-not true v h k = rw (le-leb 32 v h, lt-leb v 126 k)
+high-not false v h k = refl
+
+pub still-so : (all : Bool) (v : ℕ) → 32 ≤ v → v ≤ 126 → all ≡ (all && printable v)
+still-so true v h k = rw (le-leb 32 v h, le-leb v 126 k)
+still-so false v h k = refl
+
+pub printables-none : (s : List ℕ) (start i : ℕ) → i ≤ start → true ≡ printables s start (i - start)
+unfolding printables
+printables-none s start i h = let z : i - start ≡ 0 = omega arith in rw z
+
+pub printables-on : (s : List ℕ) (start i : ℕ) (a b : Bool) → start ≤ i → a ≡ printables s start (i - start) → b ≡ (a && printable (getD s i 0)) → b ≡ printables s start (i + 1 - start)
+unfolding printables
+printables-on s start i a b h e f =
+    let z : i + 1 - start ≡ suc (i - start) = omega arith in
+    let y : start + (i - start) ≡ i = omega arith in
+    f ∙ rw (z, y, e)
+
+characters-on : (s : List ℕ) (start e m : ℕ) (w : Step) → start + m ≤ e → start + m ≤ length s → printables s start m ≡ true → Characters s e start w → Characters s e (start + m) w
+unfolding printables
+characters-on s start e zero w h k p c = let z : start + 0 ≡ start = omega arith in rw z c
+characters-on s start e (suc m) w h k p c =
+    let b = both-true (printables s start m) (printable (getD s (start + m) 0)) p in
+    let r = both-true (leb 32 (getD s (start + m) 0)) (leb (getD s (start + m) 0) 126) (b .1) in
+    let d = characters-on s start e m w (omega arith) (omega arith) (b .0) c in
+    let z : start + suc m ≡ start + m + 1 = omega arith in
+    rw z (character-next s e (start + m) w d (omega arith) (omega arith) (leb-true 32 (getD s (start + m) 0) (r .0)) (leb-true (getD s (start + m) 0) 126 (r .1)))
+
+pub past-all : (b p : Bool) (x y : ℕ) → b ≡ p → b ≡ true → x ≡ cond p x y
+past-all b p x y e f = rw (← e, f)
+
+pub past-none : (b p : Bool) (x y : ℕ) → b ≡ p → b ≡ false → y ≡ cond p x y
+past-none b p x y e f = rw (← e, f)
+
+-- where the search for a bad one begins
+pub characters-past : (s : List ℕ) (start n end r : ℕ) → start ≤ end → end ≤ start + n → end ≤ length s → r ≡ cond (printables s start (end - start)) end start
+    → (start ≤ r) × ((r ≤ end) × Characters s (start + n) r (times n (after character s) (At start)))
+characters-past s start n end r h k l e = go (printables s start (end - start)) refl
+  where
+    go : (b : Bool) → printables s start (end - start) ≡ b → (start ≤ r) × ((r ≤ end) × Characters s (start + n) r (times n (after character s) (At start)))
+    go true f =
+        let z : r ≡ start + (end - start) = e ∙ rw f (omega arith) in
+        (omega arith, (omega arith, rw z (characters-on s start (start + n) (end - start) _ (omega arith) (omega arith) f (characters-begin s start n))))
+    go false f = let z : r ≡ start = e ∙ rw f in (omega arith, (omega arith, rw z (characters-begin s start n)))

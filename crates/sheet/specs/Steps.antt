@@ -1,10 +1,11 @@
 -- Where a reader of the definitions leaves off, as a step of the code. Assumes nothing.
-use Prim.Native.Nat.{ℕ, zero, suc}
+use Prim.Native.Nat.{ℕ, zero, suc, _+_}
+use mathlib.Core.Bool.{Bool, true, _&&_}
 use mathlib.Core.List.{List}
 use lib.ListN.{getD}
 use lib.Dec.{leb, eqb}
 use Rattle.rules.specs.Sheet.{mostColumns}
-use Rattle.rules.specs.Field.{Read, got, refused, Reader, only, between, within, byte, code, wordTo, character, optional, counted}
+use Rattle.rules.specs.Field.{Read, got, refused, Reader, only, between, printable, within, byte, code, wordTo, character, optional, counted}
 use Rattle.rules.specs.Format.{width, column, cell, row}
 use Rattle.rules.specs.declared.Checked.{Checked}
 use Rattle.sheet.specs.declared.field.Step.{Step}
@@ -29,6 +30,11 @@ byteOf s (Refused n p) = 0
 unfoldable pub times : ℕ → (Step → Step) → Step → Step
 times zero f x = x
 times (suc n) f x = times n f (f x)
+
+-- n bytes from i on are all printable
+unfoldable pub printables : List ℕ → ℕ → ℕ → Bool
+printables s i zero = true
+printables s i (suc n) = printables s i n && printable (getD s (i + n) 0)
 
 -- a byte from low to high, `number` beyond them
 abbrev pub byteBetween : ℕ → ℕ → ℕ → Reader ℕ

@@ -1,9 +1,10 @@
 // Texts of a sheet: where nearly all of its bytes stand.
 ghost use mathlib.Core.Path.{_≡_};
-ghost use Prim.Native.Nat.{_+_, _≤_, min};
+ghost use mathlib.Core.Bool.{_&&_, cond};
+ghost use Prim.Native.Nat.{_+_, _-_, _≤_, min};
 ghost use lib.ListN.{length};
-ghost use Rattle.rules.specs.Field.{character, counted};
-ghost use Rattle.sheet.specs.Steps.{after, times};
+ghost use Rattle.rules.specs.Field.{printable, character, counted};
+ghost use Rattle.sheet.specs.Steps.{after, times, printables};
 use super::field;
 use super::field::Step;
 
@@ -19,13 +20,50 @@ fn reach(len: usize, start: usize, n: u8) -> usize
     start + size
 }
 
-// n characters from `start` on, each tested once. A bad one comes before the sheet's end.
+fn still_printable(all: bool, value: u8) -> bool
+    ensures { λ r. ⌜ r ≡ (all && printable value) ⌝ }
+{
+    if value < 32 {
+        return false;
+    }
+    if 126 < value {
+        return false;
+    }
+    all
+}
+
+// Whether every byte from `start` up to `end` is printable. A bad one doesn't end the loop, so that it is compiled to test many at a time.
+fn all_printable(sheet: &[u8], start: usize, end: usize) -> bool
+    requires { ⌜ (start ≤ end) × (end ≤ length (now sheet)) ⌝ }
+    ensures { λ r. ⌜ r ≡ printables (now (sheet .entry)) start (end - start) ⌝ }
+{
+    let mut all = true;
+    let mut i = start;
+    while i < end {
+        all = still_printable(all, sheet[i]);
+        i += 1;
+    }
+    all
+}
+
+// Where a bad byte has to be looked for: at `end`, where there is none before it, or from `start` on.
+fn past_printable(sheet: &[u8], start: usize, end: usize) -> usize
+    requires { ⌜ (start ≤ end) × (end ≤ length (now sheet)) ⌝ }
+    ensures { λ r. ⌜ r ≡ cond (printables (now (sheet .entry)) start (end - start)) end start ⌝ }
+{
+    if all_printable(sheet, start, end) {
+        return end;
+    }
+    start
+}
+
+// n characters from `start` on. A bad one comes before the sheet's end.
 fn characters(sheet: &[u8], start: usize, n: u8) -> Step
     requires { ⌜ start ≤ length (now sheet) ⌝ }
     ensures { λ r. ⌜ r ≡ times n (after character (now (sheet .entry))) (Step.At start) ⌝ }
 {
     let end = reach(sheet.len(), start, n);
-    let mut i = start;
+    let mut i = past_printable(sheet, start, end);
     while i < end {
         let value = sheet[i];
         if value < 32 {

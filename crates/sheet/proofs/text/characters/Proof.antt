@@ -2,10 +2,11 @@
 use Prim.Native.Nat.{_+_, _-_, _≤_}
 use mathlib.Core.Path.{_≡_}
 use native.Mathlib.Omega.{arith}
+use denote.Ref.{now}
 use Rattle.rules.specs.Field.{character}
 use Rattle.sheet.specs.Steps.{after, times}
 use Rattle.sheet.specs.declared.field.Step.the-variants.{At}
-use Rattle.sheet.proofs.Loops.{Characters, character-low, character-high, character-next, character-cut, characters-done, characters-begin}
+use Rattle.sheet.proofs.Loops.{Characters, character-low, character-high, character-next, character-cut, characters-done, characters-past}
 use Rattle.sheet.proofs.text.characters.Statement.{statement}
 use Rattle.sheet.proofs.text.characters.Tie as tie
 
@@ -22,7 +23,11 @@ characters-spec =
     Inv-loop
     μ-loop
     (λ c κs. omega arith)
-    (λ c. (omega arith, (omega arith, characters-begin _ _ _)))
+    (λ c κs. let s = c .before .before in (omega (arith, s .pre, c .reach .ensures), omega (arith, c .reach .ensures)))
+    (λ c. let s = c .before .before .before in
+    let a = s .args in
+    let r = c .before .reach in
+    characters-past (now (a .sheet)) (a .start) (a .n) (r .result) (c .past-printable .result) (omega (arith, s .pre, r .ensures)) (omega (arith, r .ensures)) (omega (arith, r .ensures)) (c .past-printable .ensures))
     (λ c. omega arith)
     (λ c. character-low _ _ _ _ (c .before .before .before .loop .inv .1 .1) (omega arith) (omega arith) (omega arith))
     (λ c. character-high _ _ _ _ (c .before .before .before .before .loop .inv .1 .1) (omega arith) (omega arith) (omega arith) (omega arith))
@@ -31,4 +36,4 @@ characters-spec =
     (λ c. (omega arith, (omega arith, character-next _ _ _ _ (c .before .before .before .before .loop .inv .1 .1) (omega arith) (omega arith) (omega arith) (omega arith))))
     (λ c. omega arith)
     (λ c. character-cut _ _ _ _ (c .before .before .loop .inv .1 .1) (omega arith) (omega arith))
-    (λ c. let z : c .before .before .before .reach .result ≡ c .before .before .loop .i = omega arith in rw z (characters-done _ _ _ _ (c .before .before .loop .inv .1 .1) (omega arith))))
+    (λ c. let z : c .before .before .before .before .reach .result ≡ c .before .before .loop .i = omega arith in rw z (characters-done _ _ _ _ (c .before .before .loop .inv .1 .1) (omega arith))))
