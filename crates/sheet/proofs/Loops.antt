@@ -80,17 +80,19 @@ both-true true b e = (refl, e)
 both-true false b e = let z : _≡_ {A = ℕ} 0 1 = cc in absurd (omega arith)
 
 -- a byte's tests, exit by exit
-pub low-not : (all : Bool) (v : ℕ) → v < 32 → false ≡ (all && printable v)
-low-not true v h = rw (lt-leb 32 v h)
-low-not false v h = refl
+pub low-not : (v : ℕ) → v < 32 → false ≡ printable v
+low-not v h = rw (lt-leb 32 v h)
 
-pub high-not : (all : Bool) (v : ℕ) → 32 ≤ v → 126 < v → false ≡ (all && printable v)
-high-not true v h k = rw (le-leb 32 v h, lt-leb v 126 k)
-high-not false v h k = refl
+pub high-tells : (v : ℕ) → 32 ≤ v → leb v 126 ≡ printable v
+high-tells v h = rw (le-leb 32 v h)
 
-pub still-so : (all : Bool) (v : ℕ) → 32 ≤ v → v ≤ 126 → all ≡ (all && printable v)
-still-so true v h k = rw (le-leb 32 v h, le-leb v 126 k)
-still-so false v h k = refl
+pub still-so : (all b p : Bool) → b ≡ p → b ≡ true → all ≡ (all && p)
+still-so true b p e f = sym f ∙ e
+still-so false b p e f = refl
+
+pub no-more : (all b p : Bool) → b ≡ p → b ≡ false → false ≡ (all && p)
+no-more true b p e f = sym f ∙ e
+no-more false b p e f = refl
 
 pub printables-none : (s : List ℕ) (start i : ℕ) → i ≤ start → true ≡ printables s start (i - start)
 unfolding printables

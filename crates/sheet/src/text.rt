@@ -20,16 +20,19 @@ fn reach(len: usize, start: usize, n: u8) -> usize
     start + size
 }
 
-fn still_printable(all: bool, value: u8) -> bool
-    ensures { λ r. ⌜ r ≡ (all && printable value) ⌝ }
+fn is_printable(value: u8) -> bool
+    ensures { λ r. ⌜ r ≡ printable value ⌝ }
 {
     if value < 32 {
         return false;
     }
-    if 126 < value {
-        return false;
-    }
-    all
+    value <= 126
+}
+
+fn still_printable(all: bool, value: u8) -> bool
+    ensures { λ r. ⌜ r ≡ (all && printable value) ⌝ }
+{
+    if is_printable(value) { all } else { false }
 }
 
 // Whether every byte from `start` up to `end` is printable. A bad one doesn't end the loop, so that it is compiled to test many at a time.
