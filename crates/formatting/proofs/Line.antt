@@ -62,6 +62,15 @@ module _ (s : List ℕ) (view : View) where
         found = rw (add-one i) (e ∙ rw (p .found, same-below ts i i u (omega arith), getD-set-same ts i u noStanding k));
       }
 
+  pub passing-from : (ts : List Standing) → length ts ≡ 12 → Passing s view ts ts (anyFound ts 0) 0
+  unfolding anyFound
+  passing-from ts h = passing-begins ts h
+
+  -- the same where only the cells count
+  pub passing-next : (ts₀ ts : List Standing) (i : ℕ) (u : Standing) → view .count ≤ 12 → i < view .count → Passing s view ts₀ ts (anyFound ts i) i
+      → After s (shownAt view i .width) (standingAt ts i) u → Passing s view ts₀ (set ts i u) (anyFound (set ts i u) (i + 1)) (i + 1)
+  passing-next ts₀ ts i u l h p a = let q = passing-on ts₀ ts (anyFound ts i) (anyFound ts i || u .found) i u l h p a refl in rw (q .found) at q
+
   pub passing-done : (ts₀ ts : List Standing) (more : Bool) (i : ℕ) → view .count ≤ i → Passing s view ts₀ ts more i → AfterAll s view ts₀ ts × (more ≡ anyFound ts (view .count))
   passing-done ts₀ ts more i h p =
       let w = p .within in

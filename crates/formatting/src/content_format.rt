@@ -5,12 +5,15 @@ ghost use mathlib.Core.Bool.{_&&_, _||_};
 ghost use Prim.Native.Nat.{ℕ, _+_, _-_, _≤_, _<_, min};
 ghost use lib.ListN.{length, take};
 ghost use lib.Dec.{ltb};
+ghost use Rattle.rules.specs.Widths.{contents};
 ghost use Rattle.rules.specs.Page.{before};
+ghost use Rattle.sheet.specs.Held.{tableOf};
+ghost use Rattle.sheet.specs.Walk.{firstRow};
 ghost use Rattle.buffer.specs.Put.{over, putAt, edge};
 ghost use Rattle.cells.specs.Cell.{rest, Inside};
 ghost use Rattle.formatting.specs.Area.{areaIn, marksShown, shownText, InSheet, standingFrom, After, columnPiece};
 ghost use Rattle.formatting.specs.Line.{lead, lineBytes, ReadyAll, AfterAll, anyFound};
-ghost use Rattle.formatting.specs.Stand.{inLimit, lastOf};
+ghost use Rattle.formatting.specs.Stand.{Views, StandsRow, inLimit, lastOf};
 ghost use Rattle.formatting.specs.RowText.{Drawable, rowBytes};
 use crate::row;
 use cells::CellCursor;
@@ -391,4 +394,32 @@ pub fn skip_text_line(sheet: &[u8], view: View, standings: [Standing; 12]) -> Sk
         standings: ts,
         more,
     }
+}
+
+// A row's cells n lines further, with nothing drawn: in one array, as they are drawn.
+pub fn skip_lines(
+    sheet: &[u8],
+    view: View,
+    here: Rows,
+    standings: [Standing; 12],
+    n: usize,
+) -> [Standing; 12]
+    requires { ⌜ Views (tableOf (now sheet)) (contents (tableOf (now sheet))) view × StandsRow (now sheet) (tableOf (now sheet)) (contents (tableOf (now sheet))) (firstRow (now sheet) here) view 0 standings ⌝ }
+    ensures { λ r. ⌜ StandsRow (now (sheet .entry)) (tableOf (now (sheet .entry))) (contents (tableOf (now (sheet .entry)))) (firstRow (now (sheet .entry)) here) view n r ⌝ }
+{
+    let count = view.count;
+    let mut ts = standings;
+    let mut j: usize = 0;
+    while j < n {
+        let mut i: usize = 0;
+        while i < count {
+            let v = view.columns[i];
+            let t = ts[i];
+            let u = advance(sheet, v.width, t);
+            ts[i] = u;
+            i += 1;
+        }
+        j += 1;
+    }
+    ts
 }

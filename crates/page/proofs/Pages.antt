@@ -1,20 +1,22 @@
 -- A page's lines sought and written one after another. Assumes nothing.
-use Prim.Native.Nat.{ℕ, _+_, _-_, _≤_, _<_}
+use Prim.Native.Nat.{ℕ, zero, suc, _+_, _-_, _≤_, _<_}
 use mathlib.Core.Path.{_≡_, refl, sym, ap, _∙_}
-use mathlib.Core.List.{List, [], _++_}
+use mathlib.Core.List.{List, [], _∷_, _++_}
 use mathlib.Core.Bool.{Bool, true, false, not}
 use native.Mathlib.Omega.{arith}
 use lib.ListN.{length, take, drop, length-append, length-drop}
 use lib.Dec.{eqb}
 use borrow.Author.Tests.{eqb-true}
-use lib.Seq.{drop-drop, drop-at, take-at, take-add, take-all, length-take-le}
+use lib.Seq.{drop-drop, drop-at, take-at, take-add, length-take-le}
 use Rattle.rules.specs.Style.{contentLines}
 use Rattle.rules.specs.Page.{height, closed, lineCount, byteCount, page as pageOf}
-use Rattle.rules.proofs.Sizes.{closed-none, closed-first}
+use Rattle.rules.proofs.Sizes.{closed-first}
 use Rattle.sheet.specs.Held.{tableOf}
 use Rattle.sheet.specs.Walk.{rowsIn, firstRow}
 use Rattle.buffer.specs.Put.{over, putAt}
 use Rattle.buffer.proofs.Laws.{over-none, over-put, length-over}
+use Rattle.formatting.specs.Stand.{StandsRow}
+use Rattle.formatting.specs.declared.content_format.Standing.{Standing}
 use Rattle.page.specs.Ahead.{widthsIn, textLines, moreFrom, ahead, allLines, headLine, Ahead, At, RowAt, isEnd, startsRow}
 use Rattle.page.specs.Count.{PassedIs, Seeking, SoughtIs}
 use Rattle.page.specs.declared.cursor.Page.{Page}
@@ -24,7 +26,7 @@ use Rattle.page.specs.declared.cursor.Stage.the-variants.{Top, Header, H
 use Rattle.page.specs.declared.lines.Sought.{Sought}
 use Rattle.page.proofs.Ahead.{text-count}
 use Rattle.page.proofs.Steps.{at-text}
-use Rattle.page.proofs.LineLengths.{end-lines, some-lines}
+use Rattle.page.proofs.LineLengths.{some-lines}
 
 -- ---- the next line and those after it
 
@@ -112,26 +114,69 @@ starts-here x j e = rw e
 pub row-here : (s : List ℕ) (p : Page) (c : Cursor) → At s p c → startsRow (c .stage) (c .line) ≡ true → RowAt s p c
 row-here s p c A e = at-text s p c (starts-text (c .stage) (c .line) e .0) A
 
-module _ (s : List ℕ) (p : Page) (c : Cursor) (A : At s p c) (most : ℕ) where
-  -- one line
-  pub passed-line : isEnd (c .stage) ≡ false → 0 < most → (r : Cursor) → Ahead s p r (drop 1 (ahead s c)) → PassedIs s p c most (record { cursor = r; passed = 1 })
-  passed-line e h r B = record { within = omega arith; there = omega (arith, some-lines s p c A e); next = B }
+drop-part : (n : ℕ) (T F : List (List ℕ)) → n ≤ length T → drop n (T ++ F) ≡ drop n T ++ F
+drop-part zero T F h = refl
+drop-part (suc n) [] F h = absurd (omega arith)
+drop-part (suc n) (x ∷ T) F h = drop-part n T F (omega arith)
 
-  -- a row from its first line on
-  pub passed-row : startsRow (c .stage) (c .line) ≡ true → (n : ℕ) → n ≡ height (tableOf s) (widthsIn s) (firstRow s (c .here)) → n ≤ most
-      → (r : Cursor) → Ahead s p r (moreFrom s (drop 1 (rowsIn s (c .here)))) → PassedIs s p c most (record { cursor = r; passed = n })
+-- a row's lines, and what follows them
+row-ahead : (s : List ℕ) (c : Cursor) → startsRow (c .stage) (c .line) ≡ true → ahead s c ≡ textLines s contentLines (firstRow s (c .here)) ++ moreFrom s (drop 1 (rowsIn s (c .here)))
+unfolding ahead
+row-ahead s c e = let t = starts-text (c .stage) (c .line) e in rw (t .0, t .1)
+
+module _ (s : List ℕ) (p : Page) (c : Cursor) (A : At s p c) where
+  -- each cell of the row at its first line
+  pub row-stands : startsRow (c .stage) (c .line) ≡ true → StandsRow s (tableOf s) (widthsIn s) (firstRow s (c .here)) (p .view) 0 (c .standings)
+  row-stands e = let z = starts-text (c .stage) (c .line) e .1 in rw z at (row-here s p c A e .stands)
+
+  -- n lines on in the row
+  pub row-within : startsRow (c .stage) (c .line) ≡ true → (n : ℕ) → n < height (tableOf s) (widthsIn s) (firstRow s (c .here)) → (ts : List Standing)
+      → StandsRow s (tableOf s) (widthsIn s) (firstRow s (c .here)) (p .view) n ts
+      → Ahead s p (record { stage = Text; here = c .here; limit = c .limit; line = n; standings = ts }) (drop n (ahead s c))
   unfolding ahead
-  passed-row e n en h r B =
-      let t = starts-text (c .stage) (c .line) e in
+  row-within e n h ts S =
+      let R = row-here s p c A e in
       let T = textLines s contentLines (firstRow s (c .here)) in
       let F = moreFrom s (drop 1 (rowsIn s (c .here))) in
-      let a : ahead s c ≡ T ++ F = rw (t .0, t .1) in
-      let l : length T ≡ n = text-count s contentLines (firstRow s (c .here)) ∙ sym en in
       record {
-        within = h;
-        there = omega (arith, ap length a, length-append T F);
-        next = record { lines = B .lines ∙ sym (ap (drop n) a ∙ drop-at T F n l); at = B .at };
+        lines = sym (ap (drop n) (row-ahead s c e) ∙ drop-part n T F (omega (arith, text-count s contentLines (firstRow s (c .here)))));
+        at = record { some = R .some; rows = R .rows; limit = R .limit; has = h; stands = S };
       }
+
+module _ (s : List ℕ) (p : Page) (c : Cursor) (A : At s p c) (most : ℕ) where
+  -- at the end
+  pub passed-none : isEnd (c .stage) ≡ true → PassedIs s p c most (record { cursor = c; passed = 0 })
+  passed-none e = record { within = omega arith; there = omega arith; moved = λ f. absurd (never (sym f ∙ e)); next = record { lines = refl; at = A } }
+
+  -- one line
+  pub passed-line : isEnd (c .stage) ≡ false → 0 < most → (r : Cursor) → Ahead s p r (drop 1 (ahead s c)) → PassedIs s p c most (record { cursor = r; passed = 1 })
+  passed-line e h r B = record { within = omega arith; there = omega (arith, some-lines s p c A e); moved = λ f. omega arith; next = B }
+
+  module _ (e : startsRow (c .stage) (c .line) ≡ true) where
+    -- lines of a row that has more
+    pub passed-within : 0 < most → most < height (tableOf s) (widthsIn s) (firstRow s (c .here)) → (r : Cursor) → Ahead s p r (drop most (ahead s c)) → PassedIs s p c most (record { cursor = r; passed = most })
+    passed-within k h r B =
+        record {
+          within = omega arith;
+          there = omega (arith, ap length (row-ahead s c e), length-append (textLines s contentLines (firstRow s (c .here))) (moreFrom s (drop 1 (rowsIn s (c .here)))), text-count s contentLines (firstRow s (c .here)));
+          moved = λ f. k;
+          next = B;
+        }
+
+    -- a row from its first line on
+    pub passed-row : (n : ℕ) → n ≡ height (tableOf s) (widthsIn s) (firstRow s (c .here)) → n ≤ most
+        → (r : Cursor) → Ahead s p r (moreFrom s (drop 1 (rowsIn s (c .here)))) → PassedIs s p c most (record { cursor = r; passed = n })
+    passed-row n en h r B =
+        let T = textLines s contentLines (firstRow s (c .here)) in
+        let F = moreFrom s (drop 1 (rowsIn s (c .here))) in
+        let a : ahead s c ≡ T ++ F = row-ahead s c e in
+        let l : length T ≡ n = text-count s contentLines (firstRow s (c .here)) ∙ sym en in
+        record {
+          within = h;
+          there = omega (arith, ap length a, length-append T F);
+          moved = λ f. omega (arith, en, row-here s p c A e .has);
+          next = record { lines = B .lines ∙ sym (ap (drop n) a ∙ drop-at T F n l); at = B .at };
+        }
 
 -- ---- seeking
 
@@ -148,12 +193,16 @@ module _ (s : List ℕ) (p : Page) (k : ℕ) (c : Cursor) (i : ℕ) (S : Seeking
         passed = omega (arith, P .there, ap length (S .lines), length-drop i (allLines s), all-count s, S .passed);
       }
 
-  -- by one line
-  pub seeking-step : i < k → isEnd (c .stage) ≡ false → (r : Cursor) → Ahead s p r (drop 1 (ahead s c)) → Seeking s p k r (i + 1)
-  seeking-step h e r B = seeking-on h (record { cursor = r; passed = 1 }) (passed-line s p c (S .at) (k - i) e (omega arith) r B)
-
   pub sought-end : isEnd (c .stage) ≡ true → SoughtIs s p k (record { cursor = c; passed = i })
   sought-end e = record { lines = S .lines; at = S .at; within = S .within; passed = S .passed; reached = λ f. absurd (never (sym f ∙ e)) }
 
   pub sought-there : k ≤ i → SoughtIs s p k (record { cursor = c; passed = i })
   sought-there h = record { lines = S .lines; at = S .at; within = S .within; passed = S .passed; reached = λ f. omega (arith, S .within) }
+
+  -- nothing was passed over
+  pub sought-stop : (r : Sought) → PassedIs s p c (k - i) r → r .passed ≡ 0 → SoughtIs s p k (record { cursor = c; passed = i })
+  sought-stop r P e = sought-end (go (isEnd (c .stage)) refl)
+    where
+      go : (b : Bool) → isEnd (c .stage) ≡ b → isEnd (c .stage) ≡ true
+      go true f = f
+      go false f = absurd (omega (arith, e, P .moved f))

@@ -1,5 +1,5 @@
 -- How long a page's lines are, and how many. Assumes nothing.
-use Prim.Native.Nat.{ℕ, zero, suc, _+_, _≤_}
+use Prim.Native.Nat.{ℕ, zero, suc, _+_, _≤_, _<_}
 use mathlib.Core.Path.{_≡_}
 use mathlib.Core.List.{List, _++_, map}
 use mathlib.Core.Bool.{false}
@@ -48,10 +48,11 @@ textCount s rs = sum (map (height (tableOf s) (widthsIn s)) rs)
 unfoldable pub insideLines : List ℕ → List (List ℕ)
 insideLines s = headerPart s ++ rowsPart s (tableOf s .rows)
 
--- at most so many lines are passed over, and the cursor has the others before it
+-- at most so many lines are passed over, at least one before the end, and the cursor has the others before it
 pub record PassedIs (s : List ℕ) (p : Page) (c : Cursor) (most : ℕ) (r : Sought) : Type 0 where
   pub within : r .passed ≤ most
   pub there : r .passed ≤ length (ahead s c)
+  pub moved : isEnd (c .stage) ≡ false → 0 < r .passed
   pub next : Ahead s p (r .cursor) (drop (r .passed) (ahead s c))
 
 -- the cursor stands before line i, which isn't past line k

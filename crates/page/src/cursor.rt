@@ -1,13 +1,15 @@
 // A cursor over the lines of a page, in the order of comfy-table's `draw_borders` and `draw_rows`, a line at a step. What is drawn and what is
 // passed over go the same way, so that the calls for lines agree with the page.
 ghost use mathlib.Core.Path.{_≡_};
+ghost use mathlib.Core.Bool.{Bool};
 ghost use mathlib.Core.List.{[], _∷_, _++_};
 ghost use Prim.Native.Nat.{ℕ, _+_, _≤_, _<_};
 ghost use lib.ListN.{length, drop, getD};
 ghost use Rattle.buffer.specs.Put.{over};
-ghost use Rattle.sheet.specs.Held.{Passes};
-ghost use Rattle.sheet.specs.Walk.{rowsIn, rowsEnd};
-ghost use Rattle.page.specs.Ahead.{RowsAt, Opened, Ahead, At, ahead, lastLines, rowsFrom, moreFrom, afterTop, afterHeader, allLines, RowAt, Next, headLine, Drew};
+ghost use Rattle.rules.specs.Page.{height};
+ghost use Rattle.sheet.specs.Held.{Passes, tableOf};
+ghost use Rattle.sheet.specs.Walk.{rowsIn, rowsEnd, firstRow};
+ghost use Rattle.page.specs.Ahead.{widthsIn, startsRow, RowsAt, Opened, Ahead, At, ahead, lastLines, rowsFrom, moreFrom, afterTop, afterHeader, allLines, RowAt, Next, headLine, Drew};
 use cells::CellCursor;
 use formatting::borders;
 use formatting::borders::RuleStyle;
@@ -140,6 +142,25 @@ pub(crate) fn after_row(sheet: &[u8], p: Page, here: Rows) -> Cursor
         return plain(Stage::Rule, next);
     }
     before_rows(sheet, p, next)
+}
+
+// n lines after the first of a row that has more.
+pub(crate) fn within_row(sheet: &[u8], p: Page, c: Cursor, n: usize) -> Cursor
+    requires { ⌜ Opened (now sheet) p × (At (now sheet) p c × (startsRow (c .stage) (c .line) ≡ Bool.true)) ⌝ }
+    requires { ⌜ n < height (tableOf (now sheet)) (widthsIn (now sheet)) (firstRow (now sheet) (c .here)) ⌝ }
+    ensures { λ r. ⌜ Ahead (now (sheet .entry)) p r (drop n (ahead (now (sheet .entry)) c)) ⌝ }
+{
+    let view = p.view;
+    let here = c.here;
+    let from = c.standings;
+    let standings = content_format::skip_lines(sheet, view, here, from, n);
+    Cursor {
+        stage: Stage::Text,
+        here,
+        limit: c.limit,
+        line: n,
+        standings,
+    }
 }
 
 // After the header's lines.

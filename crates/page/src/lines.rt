@@ -220,7 +220,7 @@ fn starts_row(stage: Stage, line: usize) -> bool
     }
 }
 
-// Passes over a whole row from its first line, or over one other line. None is passed over at the end, nor of a row with more than `most` lines.
+// Passes over a row from its first line, as many of its lines as are asked for, or over one other line. At the end none is passed over.
 fn pass(sheet: &[u8], p: Page, c: Cursor, most: usize) -> Sought
     requires { ⌜ Opened (now sheet) p × (At (now sheet) p c × (0 < most)) ⌝ }
     ensures { λ r. ⌜ PassedIs (now (sheet .entry)) p c most r ⌝ }
@@ -240,9 +240,10 @@ fn pass(sheet: &[u8], p: Page, c: Cursor, most: usize) -> Sought
     }
     let lines = row_lines(sheet, view, here);
     if most < lines {
+        let cursor = cursor::within_row(sheet, p, c, most);
         return Sought {
-            cursor: c,
-            passed: 0,
+            cursor,
+            passed: most,
         };
     }
     let cursor = cursor::after_row(sheet, p, here);
@@ -252,10 +253,10 @@ fn pass(sheet: &[u8], p: Page, c: Cursor, most: usize) -> Sought
     }
 }
 
-// A cursor at line k, at the end before it, or at the first line of the row that holds line k.
-fn seek_row(sheet: &[u8], p: Page, k: usize) -> Sought
+// The cursor at line k, or at the end, where the lines passed over are all there are.
+pub fn seek(sheet: &[u8], p: Page, k: usize) -> Sought
     requires { ⌜ Opened (now sheet) p ⌝ }
-    ensures { λ r. ⌜ Seeking (now (sheet .entry)) p k (r .cursor) (r .passed) ⌝ }
+    ensures { λ r. ⌜ SoughtIs (now (sheet .entry)) p k r ⌝ }
 {
     let mut c = cursor::start(sheet, p);
     let mut i: usize = 0;
@@ -275,38 +276,6 @@ fn seek_row(sheet: &[u8], p: Page, k: usize) -> Sought
         cursor: c,
         passed: i,
     }
-}
-
-// The same cursor stepped on, line by line.
-fn seek_line(sheet: &[u8], p: Page, k: usize, from: Sought) -> Sought
-    requires { ⌜ Opened (now sheet) p × Seeking (now sheet) p k (from .cursor) (from .passed) ⌝ }
-    ensures { λ r. ⌜ SoughtIs (now (sheet .entry)) p k r ⌝ }
-{
-    let mut c = from.cursor;
-    let mut i = from.passed;
-    while i < k {
-        if is_end(c) {
-            return Sought {
-                cursor: c,
-                passed: i,
-            };
-        }
-        c = cursor::step(sheet, p, c);
-        i += 1;
-    }
-    Sought {
-        cursor: c,
-        passed: i,
-    }
-}
-
-// The cursor at line k, or at the end, where the lines passed over are all there are. Rows before the one that holds line k are passed over as a whole.
-pub fn seek(sheet: &[u8], p: Page, k: usize) -> Sought
-    requires { ⌜ Opened (now sheet) p ⌝ }
-    ensures { λ r. ⌜ SoughtIs (now (sheet .entry)) p k r ⌝ }
-{
-    let from = seek_row(sheet, p, k);
-    seek_line(sheet, p, k, from)
 }
 
 // The length of a page's next line, its 0A included.
