@@ -331,7 +331,7 @@ pub fn draw_row(page: &mut [u8], sheet: &[u8], view: View, style: TextStyle, her
     let opened = row::format_row(sheet, view, cells);
     let mut ts = opened.standings;
     let mut more = opened.more;
-    let indicator = view.indicator;
+    let marks = view.indicator;
     let n = view.count;
     let mut at: usize = 0;
     let mut line: usize = 0;
@@ -344,17 +344,7 @@ pub fn draw_row(page: &mut [u8], sheet: &[u8], view: View, style: TextStyle, her
             let v = view.columns[i];
             let t = ts[i];
             let joins = joins_before(i, style.joined);
-            let d = draw_column(
-                page,
-                at,
-                sheet,
-                v,
-                t,
-                indicator,
-                last,
-                joins,
-                style.junction,
-            );
+            let d = draw_column(page, at, sheet, v, t, marks, last, joins, style.junction);
             at = d.at;
             let u = d.standing;
             found = either(found, u.found);

@@ -18,7 +18,7 @@ use Rattle.buffer.proofs.Laws.{over-none, over-put, length-over}
 use Rattle.formatting.specs.Stand.{StandsRow}
 use Rattle.formatting.specs.declared.content_format.Standing.{Standing}
 use Rattle.page.specs.Ahead.{widthsIn, textLines, moreFrom, ahead, allLines, headLine, Ahead, At, RowAt, isEnd, startsRow}
-use Rattle.page.specs.Count.{PassedIs, Seeking, SoughtIs}
+use Rattle.page.specs.Count.{PassedIs, SoughtIs}
 use Rattle.page.specs.declared.cursor.Page.{Page}
 use Rattle.page.specs.declared.cursor.Cursor.{Cursor}
 use Rattle.page.specs.declared.cursor.Stage.{Stage}
@@ -179,6 +179,13 @@ module _ (s : List ℕ) (p : Page) (c : Cursor) (A : At s p c) (most : ℕ) wher
         }
 
 -- ---- seeking
+
+-- the cursor stands before line i, which isn't past line k
+pub record Seeking (s : List ℕ) (p : Page) (k : ℕ) (c : Cursor) (i : ℕ) : Type 0 where
+  pub at : At s p c
+  pub lines : ahead s c ≡ drop i (allLines s)
+  pub within : i ≤ k
+  pub passed : i ≤ lineCount (tableOf s)
 
 pub seeking-begin : (s : List ℕ) (p : Page) (k : ℕ) (c : Cursor) → Ahead s p c (allLines s) → Seeking s p k c 0
 seeking-begin s p k c A = record { at = A .at; lines = A .lines; within = omega arith; passed = omega arith }

@@ -55,13 +55,6 @@ pub record PassedIs (s : List ℕ) (p : Page) (c : Cursor) (most : ℕ) (r : Sou
   pub moved : isEnd (c .stage) ≡ false → 0 < r .passed
   pub next : Ahead s p (r .cursor) (drop (r .passed) (ahead s c))
 
--- the cursor stands before line i, which isn't past line k
-pub record Seeking (s : List ℕ) (p : Page) (k : ℕ) (c : Cursor) (i : ℕ) : Type 0 where
-  pub at : At s p c
-  pub lines : ahead s c ≡ drop i (allLines s)
-  pub within : i ≤ k
-  pub passed : i ≤ lineCount (tableOf s)
-
 -- the cursor stands before line `passed`, which is line k, or at the end before it
 pub record SoughtIs (s : List ℕ) (p : Page) (k : ℕ) (r : Sought) : Type 0 where
   pub lines : ahead s (r .cursor) ≡ drop (r .passed) (allLines s)

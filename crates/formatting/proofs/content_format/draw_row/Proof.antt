@@ -17,17 +17,17 @@ use Rattle.formatting.proofs.content_format.draw_row.Statement.{stateme
 use Rattle.formatting.proofs.content_format.draw_row.Tie as tie
 
 abbrev Inv-loop2 : tie.InvT-loop2
-Inv-loop2 page₀ sheet style view r ts₀ more indicator n at₀ line last found₀ i₀ page ts at found i = Drawing sheet view style ts₀ last page₀ at₀ page ts found at i
+Inv-loop2 page₀ sheet style view r ts₀ more marks n at₀ line last found₀ i₀ page ts at found i = Drawing sheet view style ts₀ last page₀ at₀ page ts found at i
 
 abbrev μ-loop2 : tie.MeasureT-loop2
-μ-loop2 page₀ sheet style view r ts₀ more indicator n at₀ line last found₀ i₀ page ts at found i = n - i
+μ-loop2 page₀ sheet style view r ts₀ more marks n at₀ line last found₀ i₀ page ts at found i = n - i
 
 abbrev Inv-loop : tie.InvT-loop
-Inv-loop page₀ sheet style view r ts₀ more₀ indicator n at₀ line₀ page ts more at line =
+Inv-loop page₀ sheet style view r ts₀ more₀ marks n at₀ line₀ page ts more at line =
     Rowing sheet (tableOf sheet) (contents (tableOf sheet)) (rowOf sheet r) view style page₀ page ts more at line
 
 abbrev μ-loop : tie.MeasureT-loop
-μ-loop page₀ sheet style view r ts₀ more₀ indicator n at₀ line₀ page ts more at line = height (tableOf sheet) (contents (tableOf sheet)) (rowOf sheet r) - line
+μ-loop page₀ sheet style view r ts₀ more₀ marks n at₀ line₀ page ts more at line = height (tableOf sheet) (contents (tableOf sheet)) (rowOf sheet r) - line
 
 pub draw-row-spec : {M : Type 1} → statement M
 draw-row-spec =

@@ -1,7 +1,6 @@
 use native.Mathlib.Omega.{arith}
 use Prim.Native.Nat.{_-_}
-use Rattle.page.specs.Count.{Seeking}
-use Rattle.page.proofs.Pages.{seeking-begin, seeking-on, sought-stop, sought-there}
+use Rattle.page.proofs.Pages.{Seeking, seeking-begin, seeking-on, sought-stop, sought-there}
 use Rattle.page.proofs.lines.seek.Statement.{statement}
 use Rattle.page.proofs.lines.seek.Tie as tie
 
