@@ -1,13 +1,13 @@
 -- A page's lines sought and written one after another. Assumes nothing.
-use Prim.Native.Nat.{ℕ, zero, suc, _+_, _-_, _≤_, _<_}
+use Prim.Native.Nat.{ℕ, _+_, _-_, _≤_, _<_}
 use mathlib.Core.Path.{_≡_, refl, sym, ap, _∙_}
-use mathlib.Core.List.{List, [], _∷_, _++_}
+use mathlib.Core.List.{List, _++_}
 use mathlib.Core.Bool.{Bool, true, false, not}
 use native.Mathlib.Omega.{arith}
 use lib.ListN.{length, take, drop, length-append, length-drop}
 use lib.Dec.{eqb}
 use borrow.Author.Tests.{eqb-true}
-use lib.Seq.{drop-drop, drop-at, take-at, take-add, length-take-le}
+use lib.Seq.{drop-append-le, drop-drop, drop-at, take-at, take-add, length-take-le}
 use Rattle.rules.specs.Style.{contentLines}
 use Rattle.rules.specs.Page.{height, closed, lineCount, byteCount, page as pageOf}
 use Rattle.rules.proofs.Sizes.{closed-first}
@@ -114,11 +114,6 @@ starts-here x j e = rw e
 pub row-here : (s : List ℕ) (p : Page) (c : Cursor) → At s p c → startsRow (c .stage) (c .line) ≡ true → RowAt s p c
 row-here s p c A e = at-text s p c (starts-text (c .stage) (c .line) e .0) A
 
-drop-part : (n : ℕ) (T F : List (List ℕ)) → n ≤ length T → drop n (T ++ F) ≡ drop n T ++ F
-drop-part zero T F h = refl
-drop-part (suc n) [] F h = absurd (omega arith)
-drop-part (suc n) (x ∷ T) F h = drop-part n T F (omega arith)
-
 -- a row's lines, and what follows them
 row-ahead : (s : List ℕ) (c : Cursor) → startsRow (c .stage) (c .line) ≡ true → ahead s c ≡ textLines s contentLines (firstRow s (c .here)) ++ moreFrom s (drop 1 (rowsIn s (c .here)))
 unfolding ahead
@@ -139,7 +134,7 @@ module _ (s : List ℕ) (p : Page) (c : Cursor) (A : At s p c) where
       let T = textLines s contentLines (firstRow s (c .here)) in
       let F = moreFrom s (drop 1 (rowsIn s (c .here))) in
       record {
-        lines = sym (ap (drop n) (row-ahead s c e) ∙ drop-part n T F (omega (arith, text-count s contentLines (firstRow s (c .here)))));
+        lines = sym (ap (drop n) (row-ahead s c e) ∙ drop-append-le n T F (omega (arith, text-count s contentLines (firstRow s (c .here)))));
         at = record { some = R .some; rows = R .rows; limit = R .limit; has = h; stands = S };
       }
 
