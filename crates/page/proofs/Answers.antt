@@ -12,7 +12,7 @@ use Rattle.rules.specs.declared.Counted.{Counted}
 use Rattle.rules.specs.Sheet.{Table}
 use Rattle.rules.specs.Field.{Read, got, refused}
 use Rattle.rules.specs.Format.{sheet}
-use Rattle.rules.specs.Page.{closed, lineAt, lineCount, byteCount, page as pageOf, pageLines}
+use Rattle.rules.specs.Page.{closed, lineAt, lineCount, byteCount, page as pageOf, pageLines, fitting}
 use Rattle.rules.specs.Calls.{check, checkOf, count, countOf, put, turned, Written, printPage, printOf, printLine, printLineOf}
 use Rattle.rules.proofs.Counts.{line-count-bound}
 use Rattle.sheet.specs.Held.{Passes, tableOf}
@@ -177,7 +177,7 @@ module _ (s : List ℕ) (h : Passes s) where
       size-there = ap length (sym line-there)
 
       abbrev told : List ℕ → several.Several
-      told b = several.given k (several.fitting (length b) (drop k (pageLines (tableOf s)))) b
+      told b = several.given k (fitting (length b) (drop k (pageLines (tableOf s)))) b
 
       pub lines-short : (b : List ℕ) (n : ℕ) → n ≡ length (headLine s (r .cursor)) → length b < n → several.printLines s k b ≡ several.turned 20 n b
       unfolding several.putLines
@@ -187,10 +187,10 @@ module _ (s : List ℕ) (h : Passes s) where
           ∙ ap (λ j. several.turned 20 j b) (size-there ∙ sym en)
 
       pub lines-whole : (b : List ℕ) (n : ℕ) (w : WrittenLines) → n ≡ length (headLine s (r .cursor)) → n ≤ length b → Wrote s p (r .cursor) b w
-          → several.printLines s k b ≡ record { answer = record { number = 0; place = 0; written = w .bytes; next = k + w .lines }; buffer = over (closed (several.fitting (length b) (ahead s (r .cursor)))) b }
+          → several.printLines s k b ≡ record { answer = record { number = 0; place = 0; written = w .bytes; next = k + w .lines }; buffer = over (closed (fitting (length b) (ahead s (r .cursor)))) b }
       unfolding several.putLines over allLines
       lines-whole b n w en f W =
           let m = length (lineAt (tableOf s) k) in
           lines-put k b before-count ∙ chosen (leb m (length b)) (told b) (several.turned 20 m b) (le-true m (length b) (omega (arith, size-there)))
-          ∙ ap (λ ls. several.given k (several.fitting (length b) ls) b) (sym there)
+          ∙ ap (λ ls. several.given k (fitting (length b) ls) b) (sym there)
           ∙ rw (W .bytes-are, W .lines-are)

@@ -15,7 +15,7 @@ use Rattle.sheet.specs.Held.{tableOf}
 use Rattle.buffer.specs.Put.{over, putAt}
 use Rattle.page.specs.Ahead.{ahead, allLines, headLine, Ahead, At, Opened, isEnd}
 use Rattle.page.specs.Count.{Wrote}
-use Rattle.page.specs.Several.{fitting}
+use Rattle.rules.specs.Page.{fitting}
 use Rattle.page.specs.declared.cursor.Page.{Page}
 use Rattle.page.specs.declared.cursor.Cursor.{Cursor}
 use Rattle.page.specs.declared.lines.WrittenLines.{WrittenLines}

@@ -16,7 +16,7 @@ use Rattle.formatting.specs.declared.content_format.View.{View}
 use Rattle.page.specs.Ahead.{widthsIn, ahead, allLines, Ahead, At, isEnd}
 use Rattle.page.specs.declared.cursor.Page.{Page}
 use Rattle.page.specs.Parts.{headerPart, rowsPart}
-use Rattle.page.specs.Several.{fitting}
+use Rattle.rules.specs.Page.{fitting}
 use Rattle.page.specs.declared.cursor.Cursor.{Cursor}
 use Rattle.page.specs.declared.lines.Sought.{Sought}
 use Rattle.page.specs.declared.lines.WrittenLines.{WrittenLines}

@@ -1,20 +1,15 @@
 -- Lines of a page from line k on, as many whole ones as a buffer holds. Assumes nothing.
-use Prim.Native.Nat.{ℕ, _+_, _-_}
-use mathlib.Core.List.{List, [], _∷_}
+use Prim.Native.Nat.{ℕ, _+_}
+use mathlib.Core.List.{List}
 use mathlib.Core.Bool.{true, false}
 use lib.ListN.{length, drop}
 use lib.Dec.{leb, ltb}
 use Rattle.rules.specs.Field.{Read, got, refused}
 use Rattle.rules.specs.Sheet.{Table}
 use Rattle.rules.specs.Format.{sheet}
-use Rattle.rules.specs.Page.{pageLines, lineAt, lineCount, closed}
+use Rattle.rules.specs.Page.{pageLines, lineAt, lineCount, closed, fitting}
 use Rattle.rules.specs.Calls.{over}
 use Rattle.page.specs.declared.PrintedLines.{PrintedLines}
-
--- the first of some lines, as many as n bytes hold, each with its 0A
-unfoldable pub fitting : ℕ → List (List ℕ) → List (List ℕ)
-fitting n [] = []
-fitting n (l ∷ ls) = elim (leb (length l + 1) n) [ true ↦ l ∷ fitting (n - (length l + 1)) ls | false ↦ [] ]
 
 -- an answer and the buffer afterwards
 pub record Several : Type 0 where

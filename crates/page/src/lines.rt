@@ -14,7 +14,7 @@ ghost use Rattle.formatting.specs.Height.{limited};
 ghost use Rattle.formatting.specs.Line.{shownAt};
 ghost use Rattle.page.specs.Ahead.{widthsIn, Opened, Ahead, At, ahead, allLines, headLine, isEnd, startsRow};
 ghost use Rattle.page.specs.Count.{widthUpTo, LengthsAre, Shows, textCount, insideLines, PassedIs, SoughtIs, Wrote};
-ghost use Rattle.page.specs.Several.{fitting};
+ghost use Rattle.rules.specs.Page.{fitting};
 use crate::cursor;
 use crate::cursor::Cursor;
 use crate::cursor::Page;

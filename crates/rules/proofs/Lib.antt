@@ -8,6 +8,7 @@ pub mod Bounds
 pub mod Sizes
 pub mod Positions
 pub mod Fits
+pub mod Fitting
 pub mod Lines
 pub mod Parts
 pub mod Accepted

@@ -3,7 +3,7 @@ use Prim.Native.Nat.{ℕ, zero, suc, _+_, _-_, _/_}
 use mathlib.Core.List.{List, [], _∷_, _++_, map}
 use mathlib.Core.Bool.{Bool, true, false, _||_, cond}
 use lib.ListN.{length, getD, replicate}
-use lib.Dec.{eqb}
+use lib.Dec.{eqb, leb}
 use Rattle.rules.specs.Text.{textWidth, blank, orElse, greatest, upFrom, flat}
 use Rattle.rules.specs.Sheet.{Column, Cell, Row, Table, columnAt, cellAt, padding}
 use Rattle.rules.specs.Style.{topBorder, headerLines, headerRule, contentLines, rowRule, bottomBorder, glyphAt, glyph, anyLeft, anyRight, anyJunction, isVisible}
@@ -117,6 +117,11 @@ pageLines t = framed t (contents t) (t .rows)
 unfoldable pub closed : List (List ℕ) → List ℕ
 closed [] = []
 closed (l ∷ ls) = l ++ (10 ∷ closed ls)
+
+-- the first of some lines, as many as n bytes hold, each with its 0A
+unfoldable pub fitting : ℕ → List (List ℕ) → List (List ℕ)
+fitting n [] = []
+fitting n (l ∷ ls) = elim (leb (length l + 1) n) [ true ↦ l ∷ fitting (n - (length l + 1)) ls | false ↦ [] ]
 
 -- the page
 unfoldable pub page : Table → List ℕ
