@@ -1,24 +1,27 @@
--- A cell's wrapped lines counted, cell line by cell line. Assumes nothing.
+-- A cell's wrapped lines counted. Assumes nothing.
 use Prim.Native.Nat.{ℕ, zero, suc, _+_, _-_, _≤_, _<_}
 use mathlib.Core.Path.{_≡_, refl, sym, ap, _∙_}
 use mathlib.Core.List.{List, [], _∷_}
 use mathlib.Core.Bool.{Bool, true, false}
 use native.Mathlib.Omega.{arith}
-use lib.ListN.{length, getD, length-append, length-drop}
+use lib.ListN.{length, drop, length-append, length-drop}
 use lib.Dec.{ltb, eqb}
 use borrow.Author.Tests.{ltb-true}
 use Rattle.rules.specs.Text.{textWidth, restOf}
 use Rattle.rules.specs.Wrap.{Act, join, retry, fill, begin, onto, pieces, glue, room, tight, full, act, last, place, weight, split, wrapLine, wrapLines}
 use Rattle.rules.proofs.Text.{width-length}
 use Rattle.rules.proofs.Fuel.{View, joins, retries, fills, begins, view}
-use Rattle.cells.specs.Cell.{part, past, texts, endOf, rest, Inside}
-use Rattle.cells.specs.declared.CellCursor.{CellCursor}
-use Rattle.cells.proofs.Laws.{part-length, end-more, end-from, texts-more, text-short, text-long, wrap-more, wrap-none, rest-is}
+use Rattle.rules.proofs.Split.{wrap-short, wrap-long}
+use Rattle.rules.proofs.Places.{past, parts, byteAt, textAt, lineStop}
+use Rattle.rules.proofs.Stands.{past-onward, lines-onward, text-length}
+use Rattle.sheet.specs.Walk.{linesIn, linesEnd, firstLine, LinesNext}
+use Rattle.sheet.specs.declared.records.Lines.{Lines}
+use Rattle.cells.proofs.Laws.{wrap-more, wrap-none, lines-none, lines-some}
 
 -- ---- a line wraps into no more lines than it has bytes, its length included
 
 -- the bytes of pieces, and one for each
-unfoldable span : List (List ℕ) → ℕ
+unfoldable pub span : List (List ℕ) → ℕ
 span [] = 0
 span (p ∷ ps) = length p + 1 + span ps
 
@@ -77,57 +80,58 @@ split-most w d t pos = omega (arith, place-most (weight (pieces d t)) w d pos []
 
 -- ---- one cell line
 
-module _ (s : List ℕ) (w d p : ℕ) (pos : 0 < w) (room : past s p ≤ length s) where
-  line-bytes : length (part s (p + 1) (past s p)) ≡ getD s p 0
-  line-bytes = omega (arith, part-length s (p + 1) (past s p) room)
+module _ (w d : ℕ) (pos : 0 < w) (t : List ℕ) where
+  pub line-long : (r : ℕ) → w < length t → r ≡ length (split w d t) → (r ≡ length (wrapLine w d t)) × (r ≤ length t + 1)
+  line-long r h e =
+      let k = wrap-long w d t (omega (arith, width-length t)) in
+      (e ∙ sym (ap length k), omega (arith, split-most w d t pos))
 
-  pub line-long : (n r : ℕ) → n ≡ getD s p 0 → w < n → r ≡ length (split w d (part s (p + 1) (p + 1 + n)))
-      → (r ≡ length (wrapLine w d (part s (p + 1) (past s p)))) × (p + r ≤ past s p)
-  line-long n r e h f =
-      let g : r ≡ length (split w d (part s (p + 1) (past s p))) = rw e at f in
-      let k : w < length (part s (p + 1) (past s p)) = omega (arith, line-bytes) in
-      (g ∙ sym (ap length (text-long w d (part s (p + 1) (past s p)) k)), omega (arith, g, split-most w d (part s (p + 1) (past s p)) pos, line-bytes))
+  pub line-short : length t ≤ w → (1 ≡ length (wrapLine w d t)) × (1 ≤ length t + 1)
+  line-short h =
+      let k = wrap-short w d t (omega (arith, width-length t)) in
+      (sym (ap length k), omega arith)
 
-  pub line-short : (n : ℕ) → n ≡ getD s p 0 → n ≤ w → (1 ≡ length (wrapLine w d (part s (p + 1) (past s p)))) × (p + 1 ≤ past s p)
-  line-short n e h =
-      let k : length (part s (p + 1) (past s p)) ≤ w = omega (arith, line-bytes) in
-      (sym (ap length (text-short w d (part s (p + 1) (past s p)) k)), omega arith)
+-- ---- some cell lines
 
--- ---- a cell
+-- they take as many bytes as they stand apart, their length bytes included
+lines-span : (s : List ℕ) (n p : ℕ) → past n (lineStop s) p ≤ length s → span (parts n (textAt s) (lineStop s) p) + p ≡ past n (lineStop s) p
+unfolding parts past span
+lines-span s zero p h = omega arith
+lines-span s (suc n) p h =
+    let on = past-onward n (lineStop s) (lineStop s p) (lines-onward s) in
+    let stop : lineStop s p ≡ p + 1 + byteAt s p = unfold lineStop in refl in
+    omega (arith, lines-span s n (lineStop s p) h, text-length s p (omega arith))
 
--- n lines are counted, and these cell lines are left from p on
-pub record Counting (s : List ℕ) (w d : ℕ) (c : CellCursor) (n p left : ℕ) : Type 0 where
-  pub count : length (rest s w d c) ≡ n + length (wrapLines w d (texts s p left))
-  pub few : n ≤ p + 1
-  pub ends : endOf s p left ≤ length s
+pub span-most : (s : List ℕ) (c : Lines) → linesEnd s c ≤ length s → span (linesIn s c) ≤ length s
+unfolding linesIn linesEnd
+span-most s c h = omega (arith, lines-span s (c .left) (c .at) h)
 
-pub counting-begin : (s : List ℕ) (w d : ℕ) → 0 < w → (c : CellCursor) (n : ℕ) → Inside s c → n ≡ length (split w d (part s (c .at) (c .end))) → Counting s w d c n (c .end) (c .left)
-counting-begin s w d pos c n h e = record {
-  count = ap length (rest-is s w d pos c) ∙ length-append (split w d (part s (c .at) (c .end))) (wrapLines w d (texts s (c .end) (c .left))) ∙ omega arith;
-  few = omega (arith, split-most w d (part s (c .at) (c .end)) pos, part-length s (c .at) (c .end) (omega (arith, h .within, end-from s (c .end) (c .left))), h .order);
-  ends = h .within;
-}
+-- n lines are counted, and these cell lines are left
+pub record Counting (s : List ℕ) (w d : ℕ) (all : Lines) (n : ℕ) (c : Lines) : Type 0 where
+  pub count : length (wrapLines w d (linesIn s all)) ≡ n + length (wrapLines w d (linesIn s c))
+  pub few : n + span (linesIn s c) ≤ length s
+  pub ends : linesEnd s c ≤ length s
 
-module _ (s : List ℕ) (w d : ℕ) (c : CellCursor) (n p left : ℕ) (C : Counting s w d c n p left) where
-  pub counting-room : 0 < left → past s p ≤ length s
-  counting-room h = omega (arith, C .ends, end-more s p left h, end-from s (past s p) (left - 1))
+module _ (s : List ℕ) (w d : ℕ) (all : Lines) where
+  pub counting-begins : linesEnd s all ≤ length s → Counting s w d all 0 all
+  counting-begins h = record { count = omega arith; few = omega (arith, span-most s all h); ends = h }
 
-  pub counting-on : 0 < left → (m q k : ℕ) → m ≡ length (wrapLine w d (part s (p + 1) (past s p))) → p + m ≤ past s p → q ≡ getD s p 0 → k ≡ left - 1
-      → Counting s w d c (n + m) (p + 1 + q) k
-  counting-on h m q k e f g i =
-      let z : length (wrapLines w d (texts s p left)) ≡ m + length (wrapLines w d (texts s (past s p) (left - 1))) =
-      ap (λ ts. length (wrapLines w d ts)) (texts-more s p left h) ∙ ap length (wrap-more w d (part s (p + 1) (past s p)) (texts s (past s p) (left - 1)))
-      ∙ length-append (wrapLine w d (part s (p + 1) (past s p))) (wrapLines w d (texts s (past s p) (left - 1))) ∙ omega arith in
-      rw (g, i)
-      (record {
-        count = omega (arith, C .count, z);
-        few = omega (arith, C .few);
-        ends = omega (arith, C .ends, end-more s p left h);
-      })
+  module _ (n : ℕ) (c : Lines) (C : Counting s w d all n c) where
+    pub counting-room : 0 < c .left → (m : ℕ) → m ≤ length (firstLine s c) + 1 → n + m ≤ length s
+    unfolding span
+    counting-room h m l = omega (arith, C .few, ap span (lines-some s c h))
 
-  pub counting-done : left ≤ 0 → n ≡ length (rest s w d c)
-  unfolding texts
-  counting-done h =
-      let z : left ≡ 0 = omega arith in
-      let y : length (wrapLines w d (texts s p left)) ≡ 0 = rw z (ap length (wrap-none w d)) in
-      omega (arith, C .count)
+    pub counting-on : 0 < c .left → (m k : ℕ) → m ≡ length (wrapLine w d (firstLine s c)) → m ≤ length (firstLine s c) + 1 → k ≡ n + m → (r : Lines) → LinesNext s c r → Counting s w d all k r
+    unfolding span
+    counting-on h m k e l i r x =
+        let z : length (wrapLines w d (linesIn s c)) ≡ m + length (wrapLines w d (drop 1 (linesIn s c))) =
+        ap (λ ts. length (wrapLines w d ts)) (lines-some s c h) ∙ ap length (wrap-more w d (firstLine s c) (drop 1 (linesIn s c)))
+        ∙ length-append (wrapLine w d (firstLine s c)) (wrapLines w d (drop 1 (linesIn s c))) ∙ omega arith in
+        record {
+          count = rw (x .lines) (omega (arith, C .count, z));
+          few = rw (x .lines) (omega (arith, C .few, ap span (lines-some s c h)));
+          ends = omega (arith, C .ends, x .ends);
+        }
+
+    pub counting-done : c .left ≤ 0 → n ≡ length (wrapLines w d (linesIn s all))
+    counting-done h = omega (arith, C .count, ap length (ap (wrapLines w d) (lines-none s c h) ∙ wrap-none w d))

@@ -1,216 +1,184 @@
--- A step of a cursor, case by case. Assumes nothing.
+-- A cell's first line, case by case. Assumes nothing.
 use Prim.Native.Nat.{ℕ, zero, suc, _+_, _-_, _≤_, _<_}
-use mathlib.Core.Path.{_≡_, refl, sym, ap, _∙_}
+use mathlib.Core.Path.{_≡_, refl, sym, ap, subst, _∙_}
 use mathlib.Core.List.{List, [], _∷_, _++_}
 use mathlib.Core.Bool.{Bool, true, false}
 use native.Mathlib.Omega.{arith}
-use native.Mathlib.Nat.{zero-add, suc-add}
-use lib.ListN.{length, take, drop, getD, length-drop}
-use lib.Seq.{slice, drop-drop, take-nil, take-take, length-take-le}
+use lib.ListN.{length, take, drop, getD}
+use lib.Seq.{slice, length-slice, take-all, drop-nil}
+use lib.Dec.{ltb}
 use borrow.Author.Tests.{lt-ltb}
-use Rattle.rules.specs.Text.{flat}
+use Rattle.rules.specs.Text.{textWidth, flat}
 use Rattle.rules.specs.Wrap.{split, wrapLine, wrapLines}
 use Rattle.rules.proofs.Text.{width-length}
 use Rattle.rules.proofs.Split.{wrap-short, wrap-long}
-use Rattle.content_split.specs.Parts.{LineIs}
+use Rattle.rules.proofs.Places.{parts, textAt, lineStop}
+use Rattle.rules.proofs.Stands.{parts-count}
+use Rattle.sheet.specs.Walk.{linesIn, linesEnd, firstLine, LinesNext}
+use Rattle.sheet.specs.declared.records.Lines.{Lines}
+use Rattle.content_split.specs.Parts.{LineIs, PartIs}
+use Rattle.content_split.specs.declared.Part.{Part}
+use Rattle.content_split.specs.declared.Part.the-variants.{Line, Nothing}
 use Rattle.content_split.proofs.Steps.{none-at-end}
-use Rattle.cells.specs.Cell.{part, past, texts, endOf, rest, Inside}
-use Rattle.cells.specs.Next.{Step, Used, NextIs}
+use Rattle.cells.specs.Cell.{rest, Inside, textOf, Head, HeadIs, noLine, taken, FirstOf}
 use Rattle.cells.specs.declared.CellCursor.{CellCursor}
 use Rattle.cells.specs.declared.Next.{Next}
 
-take-drop : (k s : ℕ) (l : List ℕ) → take k (drop s l) ≡ drop s (take (s + k) l)
-take-drop k zero l = rw zero-add
-take-drop k (suc s) [] = rw (take-nil, take-nil)
-take-drop k (suc s) (x ∷ xs) = rw suc-add (take-drop k s xs)
+-- ---- the first line of a text
 
-pub never : _≡_ {A = Bool} false true → ⊥
+module _ (w d : ℕ) (pos : 0 < w) (t : List ℕ) where
+  -- what `split_line` found
+  pub split-head : (a : ℕ) (p : Part) → PartIs w d t a p → HeadIs w d t (split w d (drop a t)) p
+  split-head a (Line s e n) l =
+      let o = l .onward in
+      let i = l .within in
+      let m = l .some in
+      record {
+        order = omega arith;
+        onward = o;
+        within = i;
+        fits = omega (arith, l .fits, width-length (slice s e t), length-slice s e t (omega arith));
+        wraps = l .wraps;
+      }
+  split-head a Nothing e = e
+
+  -- a text no wider than the content is one line
+  pub whole-head : length t ≤ w → HeadIs w d t (wrapLine w d t) (Line 0 (length t) (length t))
+  whole-head h =
+      let k : textWidth t ≤ w = omega (arith, width-length t) in
+      let whole : slice 0 (length t) t ≡ t = take-all (length t) t (omega arith) in
+      record {
+        order = omega arith;
+        onward = omega arith;
+        within = omega arith;
+        fits = rw whole k;
+        wraps = wrap-short w d t k ∙ rw (whole, none-at-end w d pos t (length t) (omega arith));
+      }
+
+  -- a wider one is split
+  pub long-head : w < length t → (p : Part) → PartIs w d t 0 p → HeadIs w d t (wrapLine w d t) p
+  long-head h p q = rw (wrap-long w d t (omega (arith, width-length t))) (split-head 0 p q)
+
+-- ---- some cell lines
+
+pub wrap-more : (w d : ℕ) (t : List ℕ) (ts : List (List ℕ)) → wrapLines w d (t ∷ ts) ≡ wrapLine w d t ++ wrapLines w d ts
+unfolding wrapLines flat
+wrap-more w d t ts = refl
+
+pub wrap-none : (w d : ℕ) → wrapLines w d [] ≡ []
+unfolding wrapLines flat
+wrap-none w d = refl
+
+-- a list that has something has a first, and others
+pub first-others : {A : Type 0} (d : A) (l : List A) → 0 < length l → l ≡ getD l 0 d ∷ drop 1 l
+first-others d [] h = absurd (omega arith)
+first-others d (x ∷ l) h = refl
+
+pub lines-none : (s : List ℕ) (c : Lines) → c .left ≤ 0 → linesIn s c ≡ []
+unfolding linesIn parts
+lines-none s c h = let e : c .left ≡ 0 = omega arith in rw e
+
+pub lines-some : (s : List ℕ) (c : Lines) → 0 < c .left → linesIn s c ≡ firstLine s c ∷ drop 1 (linesIn s c)
+unfolding linesIn
+lines-some s c h = first-others [] (linesIn s c) (omega (arith, parts-count (c .left) (textAt s) (lineStop s) (c .at)))
+
+some-line : (n : ℕ) → ltb 0 (suc n) ≡ true
+some-line n = lt-ltb 0 (suc n) (omega arith)
+
+never : _≡_ {A = Bool} false true → ⊥
 never e = let z : _≡_ {A = ℕ} 0 1 = cc in omega arith
 
--- ---- parts of a sheet
-
-pub part-length : (s : List ℕ) (a e : ℕ) → e ≤ length s → length (part s a e) ≡ e - a
-part-length s a e h = length-take-le (e - a) (drop a s) (simp length-drop (omega arith))
-
-pub part-nil : (s : List ℕ) (a e : ℕ) → a ≡ e → part s a e ≡ []
-part-nil s a e h = let z : e - a ≡ 0 = omega arith in rw z
-
-pub part-slice : (s : List ℕ) (a e i j : ℕ) → i ≤ j → j ≤ e - a → slice i j (part s a e) ≡ part s (a + i) (a + j)
-part-slice s a e i j h k =
-    let z : a + j - (a + i) ≡ j - i = omega arith in
-    let y : i + (j - i) ≡ j = omega arith in
-    let r : part s (a + i) (a + j) ≡ drop i (take j (drop a s)) = rw (z, ← drop-drop i a s, take-drop (j - i) i (drop a s), y) in
-    ap (drop i) (take-take j (e - a) (drop a s) k) ∙ sym r
-
-pub part-drop : (s : List ℕ) (a e i : ℕ) → i ≤ e - a → drop i (part s a e) ≡ part s (a + i) e
-part-drop s a e i k =
-    let z : i + (e - (a + i)) ≡ e - a = omega arith in
-    rw (← drop-drop i a s, take-drop (e - (a + i)) i (drop a s), z)
-
--- ---- cell lines
-
-pub end-more : (s : List ℕ) (p n : ℕ) → 0 < n → endOf s p n ≡ endOf s (past s p) (n - 1)
-unfolding endOf
-end-more s p zero h = absurd (omega arith)
-end-more s p (suc n) h = let z : suc n - 1 ≡ n = omega arith in rw z
-
-pub end-from : (s : List ℕ) (p n : ℕ) → p ≤ endOf s p n
-unfolding endOf
-end-from s p zero = omega arith
-end-from s p (suc n) = omega (arith, end-from s (past s p) n)
-
-pub texts-more : (s : List ℕ) (p n : ℕ) → 0 < n → texts s p n ≡ part s (p + 1) (past s p) ∷ texts s (past s p) (n - 1)
-unfolding texts
-texts-more s p zero h = absurd (omega arith)
-texts-more s p (suc n) h = let z : suc n - 1 ≡ n = omega arith in rw z
-
-module _ (w d : ℕ) where
-  pub text-short : (t : List ℕ) → length t ≤ w → wrapLine w d t ≡ t ∷ []
-  text-short t h = wrap-short w d t (omega (arith, width-length t))
-
-  pub text-long : (t : List ℕ) → w < length t → wrapLine w d t ≡ split w d t
-  text-long t h = wrap-long w d t (omega (arith, width-length t))
-
-  pub wrap-more : (t : List ℕ) (ts : List (List ℕ)) → wrapLines w d (t ∷ ts) ≡ wrapLine w d t ++ wrapLines w d ts
-  unfolding wrapLines flat
-  wrap-more t ts = refl
-
-  pub wrap-none : wrapLines w d [] ≡ []
-  unfolding wrapLines flat
-  wrap-none = refl
-
--- ---- a cursor's steps
-
-module _ (s : List ℕ) (w d : ℕ) (pos : 0 < w) where
-  wrap-empty : split w d [] ≡ []
-  wrap-empty = none-at-end w d pos [] 0 (omega arith)
-
-  pub rest-is : (c : CellCursor) → rest s w d c ≡ split w d (part s (c .at) (c .end)) ++ wrapLines w d (texts s (c .end) (c .left))
+module _ (s : List ℕ) (w d : ℕ) where
+  -- the cell lines' first line is found in the first of them, where that comes to the lines ls
+  found-first : (c : Lines) → linesEnd s c ≤ length s → (ls : List (List ℕ)) (a e n : ℕ) → Head w d (firstLine s c) ls a e n
+      → FirstOf s w d (ls ++ wrapLines w d (drop 1 (linesIn s c))) (taken c (Line a e n))
   unfolding rest
-  rest-is c = refl
-
-  pub rest-used : (c : CellCursor) → c .at ≡ c .end → rest s w d c ≡ wrapLines w d (texts s (c .end) (c .left))
-  rest-used c h = rest-is c ∙ rw (part-nil s (c .at) (c .end) h, wrap-empty)
-
-  pub rest-none : (c : CellCursor) → c .at ≡ c .end → c .left ≡ 0 → rest s w d c ≡ []
-  unfolding texts wrapLines flat
-  rest-none c h k = rest-used c h ∙ rw k
-
-  pub line-found : (c : CellCursor) → Inside s c → (i j n : ℕ) → LineIs w d (part s (c .at) (c .end)) 0 i j n
-      → Step s w d c (record { found = true; start = c .at + i; end = c .at + j; cursor = record { at = c .at + n; end = c .end; left = c .left } })
-  line-found c h i j n l =
-      let f = end-from s (c .end) (c .left) in
-      let g : c .end ≤ length s = omega (arith, h .within) in
-      let m = part-length s (c .at) (c .end) g in
+  found-first c h ls a e n l =
       let o = l .onward in
-      let v = l .within in
-      let u = l .some in
-      let k : n ≤ c .end - c .at = omega arith in
-      let a : c .at ≤ c .end = h .order in
-      let q : split w d (part s (c .at) (c .end)) ≡ part s (c .at + i) (c .at + j) ∷ split w d (part s (c .at + n) (c .end)) =
-      l .wraps ∙ rw (part-slice s (c .at) (c .end) i j (omega arith) (omega arith), part-drop s (c .at) (c .end) n k) in
+      let i = l .within in
       record {
-        lines = rest-is c ∙ ap (λ (t : List (List ℕ)). t ++ wrapLines w d (texts s (c .end) (c .left))) q
-            ∙ ap (λ (t : List (List ℕ)). part s (c .at + i) (c .at + j) ∷ t) (sym (rest-is (record { at = c .at + n; end = c .end; left = c .left })));
-        inside = record { order = omega arith; within = h .within };
-        order = omega arith;
+        first = rw (l .wraps);
+        others = rw (l .wraps);
+        found = rw (l .wraps) (sym (some-line (length (split w d (drop n (firstLine s c)) ++ wrapLines w d (drop 1 (linesIn s c))))));
+        inside = record { ends = h; from = i };
+        order = l .order;
         within = omega arith;
-        fits = omega (arith, l .fits);
-        ahead = omega arith;
-        moves = λ _. omega arith;
+        fits = l .fits;
       }
 
-  pub line-none : (c : CellCursor) → Inside s c → split w d (part s (c .at) (c .end)) ≡ []
-      → Step s w d c (record { found = false; start = c .end; end = c .end; cursor = record { at = c .end; end = c .end; left = c .left } })
-  line-none c h q =
-      let f = end-from s (c .end) (c .left) in
-      let v = h .within in
+  -- no cell line is left
+  pub rest-none : (c : CellCursor) → 0 < w → c .lines .left ≤ 0 → rest s w d c ≡ []
+  unfolding rest
+  rest-none c pos h = rw (lines-none s (c .lines) h, wrap-none w d, drop-nil, none-at-end w d pos [] 0 (omega arith))
+
+  pub blank-first : (c : Lines) → 0 < w → linesEnd s c ≤ length s → c .left ≤ 0 → FirstOf s w d [] (noLine c)
+  blank-first c pos h z =
       record {
-        lines = rest-is c ∙ ap (λ (t : List (List ℕ)). t ++ wrapLines w d (texts s (c .end) (c .left))) q
-            ∙ sym (rest-used (record { at = c .end; end = c .end; left = c .left }) refl);
-        inside = record { order = omega arith; within = h .within };
+        first = refl;
+        others = sym (rest-none (record { lines = c; from = 0 }) pos z);
+        found = refl;
+        inside = record { ends = h; from = omega arith };
         order = omega arith;
         within = omega arith;
-        fits = omega arith;
-        ahead = h .order;
-        moves = λ e. absurd (never e);
+        fits = omega (arith, width-length []);
       }
 
-  module _ (c : CellCursor) (h : Inside s c) (u : c .at ≡ c .end) (some : 0 < c .left) where
-    pub entered-at : CellCursor
-    entered-at = record { at = c .end + 1; end = past s (c .end); left = c .left - 1 }
+  pub taken-found : (c : Lines) → linesEnd s c ≤ length s → (ls : List (List ℕ)) (p : Part) (r : Next) → HeadIs w d (firstLine s c) ls p → r ≡ taken c p → r .found ≡ true
+      → FirstOf s w d (ls ++ wrapLines w d (drop 1 (linesIn s c))) r
+  taken-found c h ls (Line a e n) r l q f = rw q (found-first c h ls a e n l)
+  taken-found c h ls Nothing r l q f = absurd (never (sym (ap (λ (x : Next). x .found) q) ∙ f))
 
-    pub enter-room : (past s (c .end) ≤ length s) × (endOf s (past s (c .end)) (c .left - 1) ≤ length s)
-    enter-room = (omega (arith, end-from s (past s (c .end)) (c .left - 1), end-more s (c .end) (c .left) some, h .within), omega (arith, end-more s (c .end) (c .left) some, h .within))
+  pub taken-none : (c : Lines) (t : List ℕ) (ls : List (List ℕ)) (p : Part) (r : Next) → HeadIs w d t ls p → r ≡ taken c p → r .found ≡ false → ls ≡ []
+  taken-none c t ls (Line a e n) r l q f = absurd (never (sym f ∙ ap (λ (x : Next). x .found) q))
+  taken-none c t ls Nothing r l q f = l
 
-    enter-rest : rest s w d c ≡ wrapLine w d (part s (c .end + 1) (past s (c .end))) ++ wrapLines w d (texts s (past s (c .end)) (c .left - 1))
-    enter-rest = rest-used c u ∙ ap (wrapLines w d) (texts-more s (c .end) (c .left) some) ∙ wrap-more w d _ _
+-- ---- the first line of some cell lines
 
-    enter-length : length (part s (c .end + 1) (past s (c .end))) ≡ getD s (c .end) 0
-    enter-length = part-length s (c .end + 1) (past s (c .end)) (enter-room .0) ∙ omega arith
+-- those before c wrap into no line
+pub record Seeking (s : List ℕ) (w d : ℕ) (all c : Lines) : Type 0 where
+  pub same : wrapLines w d (linesIn s all) ≡ wrapLines w d (linesIn s c)
+  pub ends : linesEnd s c ≤ length s
 
-    pub enter-whole : (n : ℕ) → n ≡ getD s (c .end) 0 → n ≤ w
-        → Step s w d c (record { found = true; start = c .end + 1; end = c .end + 1 + n; cursor = record { at = c .end + 1 + n; end = c .end + 1 + n; left = c .left - 1 } })
-    enter-whole n e k =
-        let r = enter-room in
-        let m = enter-length in
-        rw e (record {
-          lines = enter-rest ∙ rw (text-short w d (part s (c .end + 1) (past s (c .end))) (omega arith))
-              (ap (λ (t : List (List ℕ)). part s (c .end + 1) (past s (c .end)) ∷ t) (sym (rest-used (record { at = past s (c .end); end = past s (c .end); left = c .left - 1 }) refl)));
-          inside = record { order = omega arith; within = r .1 };
-          order = omega arith;
-          within = omega arith;
-          fits = omega arith;
-          ahead = omega arith;
-          moves = λ _. omega arith;
-        })
+module _ (s : List ℕ) (w d : ℕ) (pos : 0 < w) (all : Lines) where
+  pub seeking-begins : linesEnd s all ≤ length s → Seeking s w d all all
+  seeking-begins h = record { same = refl; ends = h }
 
-    pub enter-long : (n : ℕ) → n ≡ getD s (c .end) 0 → w < n
-        → Step s w d c (record { found = false; start = c .end + 1; end = c .end + 1; cursor = record { at = c .end + 1; end = c .end + 1 + n; left = c .left - 1 } })
-    enter-long n e k =
-        let r = enter-room in
-        let m = enter-length in
-        rw e (record {
-          lines = enter-rest ∙ rw (text-long w d (part s (c .end + 1) (past s (c .end))) (omega arith))
-              (sym (rest-is (record { at = c .end + 1; end = past s (c .end); left = c .left - 1 })));
-          inside = record { order = omega arith; within = r .1 };
-          order = omega arith;
-          within = omega arith;
-          fits = omega arith;
-          ahead = omega arith;
-          moves = λ e. absurd (never e);
-        })
+  module _ (c : Lines) (S : Seeking s w d all c) where
+    pub seeking-here : 0 < c .left → wrapLines w d (linesIn s all) ≡ wrapLine w d (firstLine s c) ++ wrapLines w d (drop 1 (linesIn s c))
+    seeking-here h = S .same ∙ ap (wrapLines w d) (lines-some s c h) ∙ wrap-more w d (firstLine s c) (drop 1 (linesIn s c))
 
-  -- ---- what a step comes to
-  module _ (c k : CellCursor) (same : rest s w d c ≡ rest s w d k) (on : c .at ≤ k .at) (r : Next) (p : Step s w d k r) where
-    pub stepped : r .found ≡ false → rest s w d c ≡ rest s w d (r .cursor)
-    stepped e = same ∙ p .lines ∙ rw e
+    module _ (some : 0 < c .left) (t : List ℕ) (e : t ≡ firstLine s c) (p : Part) (l : HeadIs w d t (wrapLine w d t) p) (r : Next) (q : r ≡ taken c p) where
+      head-here : HeadIs w d (firstLine s c) (wrapLine w d (firstLine s c)) p
+      head-here = subst (λ (x : List ℕ). HeadIs w d x (wrapLine w d x) p) e l
 
-    pub next-found : r .found ≡ true → NextIs s w d c r
-    next-found e =
-        let q : rest s w d c ≡ part s (r .start) (r .end) ∷ rest s w d (r .cursor) = same ∙ p .lines ∙ rw e in
-        record {
-          first = rw q;
-          others = rw q;
-          found = rw (q, lt-ltb 0 (suc (length (rest s w d (r .cursor)))) (omega arith)) e;
-          inside = p .inside;
-          order = p .order;
-          within = p .within;
-          fits = p .fits;
-          moves = λ f. omega (arith, p .moves f);
-        }
+      pub seeking-found : r .found ≡ true → FirstOf s w d (wrapLines w d (linesIn s all)) r
+      seeking-found f = rw (seeking-here some) (taken-found s w d c (S .ends) (wrapLine w d (firstLine s c)) p r head-here q f)
 
-    pub next-none : r .found ≡ false → Used k r → r .cursor .left ≡ 0 → NextIs s w d c r
-    next-none e v z =
-        let n = rest-none (r .cursor) (v .used e .0) z in
-        let q : rest s w d c ≡ [] = stepped e ∙ n in
-        record {
-          first = rw (q, part-nil s (r .start) (r .end) (v .used e .1));
-          others = rw (q, n);
-          found = rw q e;
-          inside = p .inside;
-          order = p .order;
-          within = p .within;
-          fits = p .fits;
-          moves = λ f. absurd (never (sym e ∙ f));
-        }
+      pub seeking-on : r .found ≡ false → (k : Lines) → LinesNext s c k → Seeking s w d all k
+      seeking-on f k n = record {
+        same = seeking-here some ∙ rw (taken-none s w d c (firstLine s c) (wrapLine w d (firstLine s c)) p r head-here q f, ← n .lines);
+        ends = omega (arith, S .ends, n .ends);
+      }
+
+    pub seeking-done : c .left ≤ 0 → (r : Next) → r ≡ noLine c → FirstOf s w d (wrapLines w d (linesIn s all)) r
+    seeking-done h r q = rw (S .same, lines-none s c h, wrap-none w d, q) (blank-first s w d c pos (S .ends) h)
+
+-- ---- the next line of a cell
+
+module _ (s : List ℕ) (w d : ℕ) (pos : 0 < w) (c : CellCursor) (I : Inside s c) where
+  pub next-ended : c .lines .left ≡ 0 → (r : Next) → r ≡ noLine (c .lines) → FirstOf s w d (rest s w d c) r
+  next-ended h r q = rw (rest-none s w d c pos (omega arith), q) (blank-first s w d (c .lines) pos (I .ends) (omega arith))
+
+  rest-is : rest s w d c ≡ split w d (drop (c .from) (firstLine s (c .lines))) ++ wrapLines w d (drop 1 (linesIn s (c .lines)))
+  unfolding rest
+  rest-is = refl
+
+  module _ (t : List ℕ) (e : t ≡ firstLine s (c .lines)) (p : Part) (l : PartIs w d t (c .from) p) (r : Next) (q : r ≡ taken (c .lines) p) where
+    head-at : HeadIs w d (firstLine s (c .lines)) (split w d (drop (c .from) (firstLine s (c .lines)))) p
+    head-at = subst (λ (x : List ℕ). HeadIs w d x (split w d (drop (c .from) x)) p) e (split-head w d pos t (c .from) p l)
+
+    pub next-found : r .found ≡ true → FirstOf s w d (rest s w d c) r
+    next-found f = rw rest-is (taken-found s w d (c .lines) (I .ends) _ p r head-at q f)
+
+    pub next-further : r .found ≡ false → (k : Lines) → LinesNext s (c .lines) k → rest s w d c ≡ wrapLines w d (linesIn s k)
+    next-further f k n = rest-is ∙ rw (taken-none s w d (c .lines) (firstLine s (c .lines)) _ p r head-at q f, ← n .lines)

@@ -1,21 +1,21 @@
-// The wrapped lines of a cell, found one after another in the sheet.
+// The wrapped lines of a cell, found one after another. Each is a part of a cell line, which the sheet's reader hands on as a part of the sheet.
 use content_split::Part;
+use sheet::records::Lines;
+use sheet::walk;
 ghost use mathlib.Core.Path.{_≡_};
-ghost use Prim.Native.Nat.{ℕ, _+_, _-_, _≤_, _<_};
-ghost use lib.ListN.{length, getD};
-ghost use Rattle.rules.specs.Wrap.{wrapLine};
-ghost use Rattle.cells.specs.Cell.{part, past, rest, Inside};
-ghost use Rattle.cells.specs.Next.{Step, Used, NextIs};
+ghost use Prim.Native.Nat.{_+_, _≤_, _<_};
+ghost use lib.ListN.{length};
+ghost use Rattle.rules.specs.Wrap.{wrapLine, wrapLines};
+ghost use Rattle.sheet.specs.Walk.{linesIn, linesEnd};
+ghost use Rattle.cells.specs.Cell.{rest, Inside, HeadIs, taken, noLine, FirstOf};
 
-// Where the next wrapped line of a cell is looked for: in the characters from `at` to `end` of the cell line that is being wrapped,
-// and then in the `left` cell lines that follow from `end` on.
+// Where the next wrapped line of a cell is looked for: in the first of its cell lines from byte `from` on, and then in those that follow.
 pub struct CellCursor {
-    pub at: usize,
-    pub end: usize,
-    pub left: usize,
+    pub lines: Lines,
+    pub from: usize,
 }
 
-// A wrapped line, from `start` to `end` in the sheet, if there was one, and where to go on.
+// A wrapped line, if there was one: bytes `start` to `end` of the cell line that the cursor stands in. The cursor says where to go on.
 pub struct Next {
     pub found: bool,
     pub start: usize,
@@ -23,131 +23,107 @@ pub struct Next {
     pub cursor: CellCursor,
 }
 
-fn wide(b: u8) -> usize
-    ensures { λ r. ⌜ (r ≡ b) × (r < 256) ⌝ }
+// No line, with nothing to come.
+pub fn no_line(lines: Lines) -> Next
+    ensures { λ r. ⌜ r ≡ noLine lines ⌝ }
 {
-    b as usize
-}
-
-// The next wrapped line of the cell line that the cursor stands in.
-fn in_line(sheet: &[u8], c: CellCursor, width: usize, delimiter: u8) -> Next
-    requires { ⌜ Inside (now sheet) c × (0 < width) ⌝ }
-    ensures { λ r. ⌜ Step (now (sheet .entry)) width delimiter c r × Used c r ⌝ }
-{
-    let at = c.at;
-    let end = c.end;
-    let left = c.left;
-    match content_split::split_line(&sheet[at..end], 0, width, delimiter) {
-        Part::Line {
-            start,
-            end: e,
-            next,
-        } => Next {
-            found: true,
-            start: at + start,
-            end: at + e,
-            cursor: CellCursor {
-                at: at + next,
-                end,
-                left,
-            },
-        },
-        Part::Nothing => Next {
-            found: false,
-            start: end,
-            end,
-            cursor: CellCursor { at: end, end, left },
-        },
-    }
-}
-
-// The cell line that follows, if it is no longer than the width; else the cursor at its start.
-fn enter(sheet: &[u8], c: CellCursor, width: usize, delimiter: u8) -> Next
-    requires { ⌜ Inside (now sheet) c × ((c .at ≡ c .end) × ((0 < c .left) × (0 < width))) ⌝ }
-    ensures { λ r. ⌜ Step (now (sheet .entry)) width delimiter c r × (r .cursor .left < c .left) ⌝ }
-{
-    let p = c.end;
-    let left = c.left - 1;
-    let n = wide(sheet[p]);
-    let a = p + 1;
-    let e = a + n;
-    if n <= width {
-        return Next {
-            found: true,
-            start: a,
-            end: e,
-            cursor: CellCursor {
-                at: e,
-                end: e,
-                left,
-            },
-        };
-    }
     Next {
         found: false,
-        start: a,
-        end: a,
-        cursor: CellCursor {
-            at: a,
-            end: e,
-            left,
-        },
+        start: 0,
+        end: 0,
+        cursor: CellCursor { lines, from: 0 },
     }
+}
+
+// What was found in the first of some cell lines.
+fn take_part(part: Part, lines: Lines) -> Next
+    ensures { λ r. ⌜ r ≡ taken lines part ⌝ }
+{
+    match part {
+        Part::Line { start, end, next } => Next {
+            found: true,
+            start,
+            end,
+            cursor: CellCursor { lines, from: next },
+        },
+        Part::Nothing => no_line(lines),
+    }
+}
+
+// The first line that a cell line wraps into: all of it, where it is no wider than the content.
+fn first_part(text: &[u8], width: usize, delimiter: u8) -> Part
+    requires { ⌜ 0 < width ⌝ }
+    ensures { λ r. ⌜ HeadIs width delimiter (now (text .entry)) (wrapLine width delimiter (now (text .entry))) r ⌝ }
+{
+    if text.len() <= width {
+        return Part::Line {
+            start: 0,
+            end: text.len(),
+            next: text.len(),
+        };
+    }
+    content_split::split_line(text, 0, width, delimiter)
+}
+
+// The first wrapped line of some cell lines. One that is made of delimiters alone may wrap into none.
+pub fn first_line(sheet: &[u8], lines: Lines, width: usize, delimiter: u8) -> Next
+    requires { ⌜ (linesEnd (now sheet) lines ≤ length (now sheet)) × (0 < width) ⌝ }
+    ensures { λ r. ⌜ FirstOf (now (sheet .entry)) width delimiter (wrapLines width delimiter (linesIn (now (sheet .entry)) lines)) r ⌝ }
+{
+    let mut c = lines;
+    while 0 < c.left {
+        let part = first_part(walk::line(sheet, c), width, delimiter);
+        let r = take_part(part, c);
+        if r.found {
+            return r;
+        }
+        c = walk::next_line(sheet, c);
+    }
+    no_line(c)
 }
 
 // The next wrapped line of a cell.
 pub fn next_line(sheet: &[u8], c: CellCursor, width: usize, delimiter: u8) -> Next
     requires { ⌜ Inside (now sheet) c × (0 < width) ⌝ }
-    ensures { λ r. ⌜ NextIs (now (sheet .entry)) width delimiter c r ⌝ }
+    ensures { λ r. ⌜ FirstOf (now (sheet .entry)) width delimiter (rest (now (sheet .entry)) width delimiter c) r ⌝ }
 {
-    let mut k = c;
-    loop {
-        let r = in_line(sheet, k, width, delimiter);
-        if r.found {
-            return r;
-        }
-        let b = r.cursor;
-        if b.left == 0 {
-            return r;
-        }
-        let o = enter(sheet, b, width, delimiter);
-        if o.found {
-            return o;
-        }
-        k = o.cursor;
+    let lines = c.lines;
+    if lines.left == 0 {
+        return no_line(lines);
     }
+    let text = walk::line(sheet, lines);
+    let part = content_split::split_line(text, c.from, width, delimiter);
+    let r = take_part(part, lines);
+    if r.found {
+        return r;
+    }
+    let others = walk::next_line(sheet, lines);
+    first_line(sheet, others, width, delimiter)
 }
 
-// How many lines the cell line at p wraps into.
-fn line_height(sheet: &[u8], p: usize, width: usize, delimiter: u8) -> usize
-    requires { ⌜ (past (now sheet) p ≤ length (now sheet)) × (0 < width) ⌝ }
-    ensures { λ r. ⌜ (r ≡ length (wrapLine width delimiter (part (now (sheet .entry)) (p + 1) (past (now (sheet .entry)) p)))) × (p + r ≤ past (now (sheet .entry)) p) ⌝ }
+// How many lines a cell line wraps into: no more than it has bytes, its length byte included.
+fn line_height(text: &[u8], width: usize, delimiter: u8) -> usize
+    requires { ⌜ 0 < width ⌝ }
+    ensures { λ r. ⌜ (r ≡ length (wrapLine width delimiter (now (text .entry)))) × (r ≤ length (now (text .entry)) + 1) ⌝ }
 {
-    let n = wide(sheet[p]);
-    let start = p + 1;
-    let end = start + n;
-    if width < n {
-        return content_split::count_parts(&sheet[start..end], width, delimiter);
+    if width < text.len() {
+        return content_split::count_parts(text, width, delimiter);
     }
     1
 }
 
-// How many wrapped lines a cell has from the cursor on.
-pub fn cell_height(sheet: &[u8], c: CellCursor, width: usize, delimiter: u8) -> usize
-    requires { ⌜ Inside (now sheet) c × (0 < width) ⌝ }
-    ensures { λ r. ⌜ r ≡ length (rest (now (sheet .entry)) width delimiter c) ⌝ }
+// How many lines some cell lines wrap into.
+pub fn cell_height(sheet: &[u8], lines: Lines, width: usize, delimiter: u8) -> usize
+    requires { ⌜ (linesEnd (now sheet) lines ≤ length (now sheet)) × (0 < width) ⌝ }
+    ensures { λ r. ⌜ r ≡ length (wrapLines width delimiter (linesIn (now (sheet .entry)) lines)) ⌝ }
 {
-    let at = c.at;
-    let end = c.end;
-    let mut n = content_split::count_parts(&sheet[at..end], width, delimiter);
-    let mut p = end;
-    let mut left = c.left;
-    while 0 < left {
-        let lines = line_height(sheet, p, width, delimiter);
-        n += lines;
-        let size = wide(sheet[p]);
-        p = p + 1 + size;
-        left -= 1;
+    let mut c = lines;
+    let mut n: usize = 0;
+    while 0 < c.left {
+        let text = walk::line(sheet, c);
+        let more = line_height(text, width, delimiter);
+        n += more;
+        c = walk::next_line(sheet, c);
     }
     n
 }

@@ -2,16 +2,15 @@ use borrow.Author.Needs.{needs}
 use native.Mathlib.Omega.{arith}
 use mathlib.Core.Path.{refl}
 use denote.Ref.{now}
-use Rattle.cells.proofs.Laws.{end-from}
-use Rattle.cells.proofs.Counts.{Counting, counting-begin, counting-room, counting-on, counting-done}
+use Rattle.cells.proofs.Counts.{Counting, counting-begins, counting-room, counting-on, counting-done}
 use Rattle.cells.proofs.cell_height.Statement.{statement}
 use Rattle.cells.proofs.cell_height.Tie as tie
 
 abbrev Inv-loop : tie.InvT-loop
-Inv-loop sheet width delimiter at end n₀ p₀ left₀ n p left = Counting sheet width delimiter (record { at = at; end = end; left = left₀ }) n p left
+Inv-loop sheet width delimiter c₀ n₀ c n = Counting sheet width delimiter c₀ n c
 
 abbrev μ-loop : tie.MeasureT-loop
-μ-loop sheet width delimiter at end n₀ p₀ left₀ n p left = left
+μ-loop sheet width delimiter c₀ n₀ c n = c .left
 
 pub cell-height-spec : {M : Type 1} → statement M
 cell-height-spec =
@@ -19,18 +18,18 @@ cell-height-spec =
     (tie.spec
     Inv-loop
     μ-loop
-    (λ c. c .before .pre .0 .order)
-    (λ c. search needs)
-    (λ c. omega (arith, c .before .pre .0 .within, end-from (now (c .before .args .sheet)) (c .before .args .c .end) (c .before .args .c .left)))
-    (λ c κs. c .before .before .pre .1)
-    (λ c. let q = c .before .before .before .pre in counting-begin _ _ _ (q .1) _ _ (q .0) (c .count-parts .ensures))
-    (λ c κs. (counting-room _ _ _ _ _ _ _ (c .before .loop .inv) (c .loop-test .taken), c .before .before .before .before .before .pre .1))
-    (λ c. let l = c .before .before .loop in omega (arith, l .inv .few, c .line-height .ensures .1, counting-room _ _ _ _ _ _ _ (l .inv) (c .before .loop-test .taken), c .before .before .before .before .before .before .good))
-    (λ c. omega (arith, counting-room _ _ _ _ _ _ _ (c .before .before .before .loop .inv) (c .before .before .loop-test .taken)))
-    (λ c κs. search needs)
-    (λ c. omega (arith, counting-room _ _ _ _ _ _ _ (c .before .before .before .before .loop .inv) (c .before .before .before .loop-test .taken), c .before .before .before .before .before .before .before .before .good))
-    (λ c. omega (arith, counting-room _ _ _ _ _ _ _ (c .before .before .before .before .loop .inv) (c .before .before .before .loop-test .taken), c .wide .ensures .0, c .before .before .before .before .before .before .before .before .good))
-    (λ c. omega (arith, c .before .before .before .loop-test .taken))
-    (λ c. omega (arith, c .before .before .before .loop-test .taken))
-    (λ c. let h = c .before .before .line-height .ensures in counting-on _ _ _ _ _ _ _ (c .before .before .before .before .loop .inv) (c .before .before .before .loop-test .taken) _ _ _ (h .0) (h .1) (c .wide .ensures .0) refl)
-    (λ c. counting-done _ _ _ _ _ _ _ (c .before .loop .inv) (c .loop-test .left)))
+    (λ c. counting-begins _ _ _ _ (c .before .pre .0))
+    (λ c κs. (c .if1 .taken, c .before .before .loop .inv .ends))
+    (λ c κs. c .before .before .before .before .before .pre .1)
+    (λ c.
+    let i = c .before .before in
+    let a = i .before .before in
+    omega (arith, counting-room _ _ _ _ _ _ (a .loop .inv) (i .if1 .taken) (c .line-height .result) (rw (c .before .line .ensures) at (c .line-height .ensures .1)), a .before .before .good))
+    (λ c κs. (c .before .before .if1 .taken, c .before .before .before .before .loop .inv .ends))
+    (λ c. omega (arith, c .next-line .ensures .left))
+    (λ c.
+    let h = c .before in
+    let i = h .before .before in
+    let e = h .before .line .ensures in
+    counting-on _ _ _ _ _ _ (i .before .before .loop .inv) (i .if1 .taken) (h .line-height .result) _ (rw e at (h .line-height .ensures .0)) (rw e at (h .line-height .ensures .1)) refl _ (c .next-line .ensures))
+    (λ c. counting-done _ _ _ _ _ _ (c .before .before .loop .inv) (c .if1 .left)))
