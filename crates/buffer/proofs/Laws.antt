@@ -101,6 +101,12 @@ build-more g i = ap (λ (k : ℕ). build g k) (sym (add-one i))
 pub lent : (p : List ℕ) (a : ℕ) → take (length p - a) (drop a p) ≡ drop a p
 lent p a = take-all (length p - a) (drop a p) (omega (arith, length-drop a p))
 
+-- it comes back as it was lent
+pub lent-same : (p : List ℕ) (a : ℕ) → a ≤ length p → putMid a (length p - a) p (take (length p - a) (drop a p)) ≡ p
+lent-same p a h =
+    ap (λ (t : List ℕ). take a p ++ (take (length p - a) (drop a p) ++ t)) (drop-of-length-le (drop a p) {i = length p - a} (omega (arith, length-drop a p)))
+    ∙ ap (λ (t : List ℕ). take a p ++ t) (append-nil (take (length p - a) (drop a p)) ∙ lent p a) ∙ take-append-drop a p
+
 -- the whole, once a part from a on has come back with l over its start
 pub lent-back : (p : List ℕ) (a : ℕ) (l ys : List ℕ) → a ≤ length p → ys ≡ over l (take (length p - a) (drop a p)) → putMid a (length p - a) p ys ≡ putAt p a l
 unfolding over putAt

@@ -6,7 +6,7 @@ ghost use mathlib.Core.Path.{_≡_};
 ghost use Prim.Native.Nat.{_+_, _≤_, _<_};
 ghost use lib.ListN.{length};
 ghost use Rattle.rules.specs.Wrap.{wrapLine, wrapLines};
-ghost use Rattle.sheet.specs.Walk.{linesIn, linesEnd};
+ghost use Rattle.sheet.specs.Walk.{linesIn, linesEnd, firstLine};
 ghost use Rattle.cells.specs.Cell.{rest, Inside, HeadIs, taken, noLine, FirstOf};
 
 // Where the next wrapped line of a cell is looked for: in the first of its cell lines from byte `from` on, and then in those that follow.
@@ -21,6 +21,17 @@ pub struct Next {
     pub start: usize,
     pub end: usize,
     pub cursor: CellCursor,
+}
+
+// The first of some cell lines, a blank one where there is none.
+pub fn line_at(sheet: &[u8], lines: Lines) -> &[u8]
+    requires { ⌜ linesEnd (now sheet) lines ≤ length (now sheet) ⌝ }
+    ensures { λ r. ⌜ now r ≡ firstLine (now (sheet .entry)) lines ⌝ }
+{
+    if lines.left == 0 {
+        return &sheet[0..0];
+    }
+    walk::line(sheet, lines)
 }
 
 // No line, with nothing to come.

@@ -1,26 +1,25 @@
 -- Pieces written one after another, areas, and a cell's line as it is shown. Assumes nothing.
 use Prim.Native.Nat.{ℕ, zero, suc, _+_, _-_, _≤_, _<_, min, zero-le, suc-le-suc}
 use mathlib.Core.Path.{_≡_, refl, sym, ap, _∙_}
-use mathlib.Core.List.{List, [], _++_, append-assoc, append-nil}
+use mathlib.Core.List.{List, [], _∷_, _++_, append-assoc, append-nil}
 use mathlib.Core.Logic.{_⊎_, inl, inr, ⊎-elim}
 use mathlib.Core.Bool.{Bool, true, false, cond, _&&_}
 use native.Mathlib.Omega.{arith}
 use lib.ListN.{length, take, drop, length-append, length-replicate, length-take}
-use lib.Seq.{take-all, take-length, length-take-le, take-take}
+use lib.Seq.{slice, length-slice, take-all, take-length, length-take-le, take-take, take-nil}
 use lib.Dec.{leb}
 use borrow.Author.Tests.{le-leb, lt-leb}
 use Rattle.rules.specs.Text.{textWidth, firstOf, blank}
 use Rattle.rules.specs.Wrap.{fitting, cutLine}
 use Rattle.rules.specs.Page.{before}
-use Rattle.rules.proofs.Text.{width-length}
+use Rattle.rules.proofs.Text.{width-length, width-append}
 use Rattle.rules.proofs.Sizes.{before-le}
 use Rattle.buffer.specs.Put.{putAt}
 use Rattle.buffer.proofs.Laws.{put-put}
-use Rattle.cells.specs.Cell.{part}
-use Rattle.cells.proofs.Laws.{part-length}
-use Rattle.formatting.specs.Area.{areaIn, marksShown, shownText, InSheet, After, columnPiece}
-use Rattle.formatting.specs.declared.content_format.Shown.{Shown}
-use Rattle.formatting.specs.declared.content_format.Standing.{Standing}
+use Rattle.sheet.specs.Walk.{firstLine}
+use Rattle.formatting.specs.Area.{areaIn, marksShown, pendingText, shownText, InSheet, After, columnPiece}
+use Rattle.formatting.specs.declared.content_format.VisibleColumn.{VisibleColumn}
+use Rattle.formatting.specs.declared.content_format.Pending.{Pending}
 
 -- two pieces, one after the other
 pub two : (d : List ℕ) (at : ℕ) (a b d₁ d₂ : List ℕ) (p : ℕ) → d₁ ≡ putAt d at a → d₂ ≡ putAt d₁ p b → at + length a ≡ p → at ≤ length d → d₂ ≡ putAt d at (a ++ b)
@@ -36,14 +35,20 @@ four d at a b c e d₁ d₂ d₃ d₄ p q r e₁ e₂ e₃ e₄ x y z h =
     i ∙ ap (putAt d at) (simp append-assoc)
 
 -- an area as it is drawn: blanks, a text, what follows it, blanks
-pub area-is : (v : Shown) (a : ℕ) (text marks : List ℕ) (spare b : ℕ) → spare ≡ v .width - length text - length marks → b ≡ before a spare
+pub area-is : (v : VisibleColumn) (a : ℕ) (text marks : List ℕ) (spare b : ℕ) → spare ≡ v .width - textWidth (text ++ marks) → b ≡ before a spare
     → blank (v .left + b) ++ (text ++ (marks ++ blank (spare - b + v .right))) ≡ areaIn v a (text ++ marks)
 unfolding areaIn
-area-is v a text marks spare b e q =
-    let z : v .width - textWidth (text ++ marks) ≡ spare = omega (arith, length-append text marks, width-length (text ++ marks)) in
-    rw (z, q, append-assoc)
+area-is v a text marks spare b e q = rw (← e, q, append-assoc)
 
-pub area-length : (v : Shown) (a : ℕ) (text : List ℕ) → length text ≤ v .width → length (areaIn v a text) ≡ v .left + (v .width + v .right)
+-- the columns that are left free
+pub spare-is : (w : ℕ) (text marks : List ℕ) → textWidth text + textWidth marks ≤ w
+    → (w - length text - length marks ≡ w - textWidth (text ++ marks)) × (w - length text - length marks + (length text + length marks) ≡ w)
+spare-is w text marks h =
+    let a = width-length text in
+    let b = width-length marks in
+    (omega (arith, width-append text marks), omega arith)
+
+pub area-length : (v : VisibleColumn) (a : ℕ) (text : List ℕ) → textWidth text ≤ v .width → length (areaIn v a text) ≡ v .left + (v .width + v .right)
 unfolding areaIn
 area-length v a text h =
     simp (length-append, length-replicate) (omega (arith, before-le a (v .width - textWidth text), width-length text))
@@ -85,33 +90,59 @@ unfolding cutLine firstOf
 cut-line true w ind l e = rw (fitting-whole w ind e, width-length ind, take-length)
 cut-line false w ind l e = rw (fitting-none w ind e, width-length [])
 
--- the part of the sheet and of the indicator that are shown
-pub shown-is : (s : List ℕ) (w : ℕ) (bytes : List ℕ) (n : ℕ) (cut : Bool) (t : Standing) (m stop : ℕ) → InSheet s w t → n ≤ length bytes
-    → m ≡ marksShown cut n w → m ≤ n → stop ≡ t .start + min (t .end - t .start) (w - m)
-    → part s (t .start) stop ++ take m bytes ≡ shownText s w (take n bytes) cut t
-unfolding shownText
-shown-is s w bytes n true t m stop h k e l q =
-    let i = length-take-le n bytes k in
-    let z : stop - t .start ≡ min (t .end - t .start) (w - m) = omega arith in
-    let b : take m (take n bytes) ≡ take m bytes = take-take m n bytes l in
-    let y : cond (leb (length (take n bytes)) w) (length (take n bytes)) 0 ≡ m = rw i (sym e) in
-    sym (cut-line (leb (length (take n bytes)) w) w (take n bytes) (part s (t .start) (t .end)) refl
-    ∙ rw (y, b, z, take-min (w - m) (t .end - t .start) (drop (t .start) s)))
-shown-is s w bytes n false t m stop h k e l q =
-    let f = h .fits in
-    let z : stop - t .start ≡ t .end - t .start = omega arith in
-    rw (e, append-nil, z)
+-- the bytes a to e of a text, as they are lent
+lent-slice : (a e : ℕ) (l : List ℕ) → take (e - a) (drop a l) ≡ slice a e l
+lent-slice zero e l = let z : e - 0 ≡ e = omega arith in rw z
+lent-slice (suc a) e [] = simp take-nil
+lent-slice (suc a) zero (x ∷ l) = let z : 0 - suc a ≡ 0 = omega arith in rw z
+lent-slice (suc a) (suc e) (x ∷ l) = let z : suc e - suc a ≡ e - a = omega arith in rw z (lent-slice a e l)
 
--- how much of the column it takes
-pub shown-fits : (s : List ℕ) (w : ℕ) (bytes : List ℕ) (n : ℕ) (t : Standing) (m stop : ℕ) → InSheet s w t → n ≤ length bytes → m ≤ n → m ≤ w
-    → stop ≡ t .start + min (t .end - t .start) (w - m) → length (part s (t .start) stop) + length (take m bytes) ≤ w
-shown-fits s w bytes n t m stop h k l x q =
-    let i = h .within in
-    let o = h .order in
-    omega (arith, part-length s (t .start) stop (omega arith), length-take-le m bytes (omega arith))
+module _ (s : List ℕ) (w : ℕ) (t : Pending) (I : InSheet s w t) where
+  line : List ℕ
+  line = firstLine s (t .line .cursor .lines)
+
+  pending-length : length (pendingText s t) ≡ t .line .end - t .line .start
+  pending-length = length-slice (t .line .start) (t .line .end) (firstLine s (t .line .cursor .lines)) (I .within)
+
+  pub pending-fits : t .line .end - t .line .start ≤ w
+  pending-fits = omega (arith, I .fits, width-length (pendingText s t), pending-length)
+
+  module _ (bytes : List ℕ) (n : ℕ) (k : n ≤ length bytes) (m stop : ℕ) (l : m ≤ n) (q : stop ≡ t .line .start + min (t .line .end - t .line .start) (w - m)) where
+    -- how much of the cell line it takes
+    pub shown-within : (t .line .start ≤ stop) × (stop ≤ length (firstLine s (t .line .cursor .lines)))
+    shown-within = (omega arith, omega (arith, I .within, I .order))
+
+    -- the part of the cell line and of the indicator that are shown
+    pub shown-is : (cut : Bool) → m ≡ marksShown cut n w
+        → take (stop - t .line .start) (drop (t .line .start) (firstLine s (t .line .cursor .lines))) ++ take m bytes ≡ shownText s w (take n bytes) cut t
+    unfolding shownText
+    shown-is true e =
+        let i = length-take-le n bytes k in
+        let z : stop - t .line .start ≡ min (t .line .end - t .line .start) (w - m) = omega arith in
+        let b : take m (take n bytes) ≡ take m bytes = take-take m n bytes l in
+        let y : cond (leb (length (take n bytes)) w) (length (take n bytes)) 0 ≡ m = rw i (sym e) in
+        sym (cut-line (leb (length (take n bytes)) w) w (take n bytes) (pendingText s t) refl
+        ∙ rw (
+          y,
+          b,
+          z,
+          ← lent-slice (t .line .start) (t .line .end) (firstLine s (t .line .cursor .lines)),
+          take-min (w - m) (t .line .end - t .line .start) (drop (t .line .start) (firstLine s (t .line .cursor .lines))),
+        ))
+    shown-is false e =
+        let f = pending-fits in
+        let z : stop - t .line .start ≡ t .line .end - t .line .start = omega arith in
+        rw (e, append-nil, z) (lent-slice (t .line .start) (t .line .end) (firstLine s (t .line .cursor .lines)))
+
+    -- how much of the column it takes
+    pub shown-fits : m ≤ w → textWidth (take (stop - t .line .start) (drop (t .line .start) (firstLine s (t .line .cursor .lines)))) + textWidth (take m bytes) ≤ w
+    shown-fits x =
+        let a = take (stop - t .line .start) (drop (t .line .start) (firstLine s (t .line .cursor .lines))) in
+        let f = pending-fits in
+        omega (arith, width-length a, width-length (take m bytes), length-take-le m bytes (omega arith), length-take (stop - t .line .start) (drop (t .line .start) (firstLine s (t .line .cursor .lines))))
 
 -- whether the line is cut is told by the line after it
-pub piece-is : (s : List ℕ) (v : Shown) (t r : Standing) (ind : List ℕ) (last cut : Bool) → cut ≡ (last && r .found) → After s (v .width) t r
+pub piece-is : (s : List ℕ) (v : VisibleColumn) (t r : Pending) (ind : List ℕ) (last cut : Bool) → cut ≡ (last && r .line .found) → After s (v .width) t r
     → areaIn v (t .alignment) (shownText s (v .width) ind cut t) ≡ columnPiece s v t ind last
 unfolding columnPiece
-piece-is s v t r ind last cut e a = rw (e, a .found)
+piece-is s v t r ind last cut e a = rw (e, a .line .found)

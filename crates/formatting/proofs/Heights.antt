@@ -13,32 +13,30 @@ use Rattle.rules.specs.Text.{greatest, upFrom, orElse}
 use Rattle.rules.specs.Sheet.{Cell, Row, Table, noCell}
 use Rattle.rules.specs.Wrap.{wrapLines, exceeds, cutLine, cut}
 use Rattle.rules.specs.Page.{cellLines, wrapped, height}
-use Rattle.cells.specs.Cell.{rest}
-use Rattle.sheet.specs.Walk.{cellsIn, cellsEnd, linesEnd, firstCell, CellIs}
+use Rattle.sheet.specs.Walk.{cellsIn, cellsEnd, linesIn, firstCell, CellIs}
 use Rattle.sheet.specs.declared.records.Cells.{Cells}
 use Rattle.sheet.specs.declared.records.Cell as records
-use Rattle.formatting.specs.Line.{shownAt}
+use Rattle.formatting.specs.Line.{View, visibleAt}
 use Rattle.formatting.specs.Open.{Rising}
 use Rattle.formatting.specs.Height.{cellHeight, heightUpTo, limited}
 use Rattle.formatting.specs.Stand.{shownOf, numberOf, Views}
-use Rattle.formatting.specs.declared.content_format.Shown.{Shown}
-use Rattle.formatting.specs.declared.content_format.View.{View}
-use Rattle.formatting.proofs.Open.{blank-line, no-cells, lines-here, Passing, passing-begins, passing-on, cell-here}
+use Rattle.formatting.specs.declared.content_format.VisibleColumn.{VisibleColumn}
+use Rattle.formatting.proofs.Open.{blank-line, no-cells, Passing, passing-begins, passing-on, cell-here}
 use Rattle.formatting.proofs.Whole.{greatest-snoc, no-lines, map-up, height-numbered}
 
 -- ---- one cell
 
 -- a missing cell
-pub height-missing : (s : List ℕ) (c : Cells) (v : Shown) → c .left ≡ 0 → 1 ≡ cellHeight (firstCell s c) v
+pub height-missing : (s : List ℕ) (c : Cells) (v : VisibleColumn) → c .left ≡ 0 → 1 ≡ cellHeight (firstCell s c) v
 unfolding cellHeight
 height-missing s c v h = rw (no-cells s c h) (sym (ap length (blank-line (v .width) (v .delimiter))))
 
-pub height-here : (s : List ℕ) (c : Cells) (x : records.Cell) → CellIs s c x → (v : Shown) → 0 < v .width → cellsEnd s c ≤ length s → linesEnd s (x .lines) ≤ length s → (d n : ℕ)
-    → d ≡ orElse (x .delimiter) (v .delimiter) → n ≡ length (rest s (v .width) d (record { at = x .lines .at; end = x .lines .at; left = x .lines .left })) → n ≡ cellHeight (firstCell s c) v
+pub height-here : (s : List ℕ) (c : Cells) (x : records.Cell) → CellIs s c x → (v : VisibleColumn) (d n : ℕ)
+    → d ≡ orElse (x .delimiter) (v .delimiter) → n ≡ length (wrapLines (v .width) d (linesIn s (x .lines))) → n ≡ cellHeight (firstCell s c) v
 unfolding cellHeight
-height-here s c x X v wide ends stop d n e f =
+height-here s c x X v d n e f =
     let y : d ≡ orElse (firstCell s c .delimiter) (v .delimiter) = e ∙ ap (λ m. orElse m (v .delimiter)) (X .delimiter) in
-    f ∙ ap length (lines-here s c x X v wide ends stop d) ∙ ap (λ m. length (wrapLines (v .width) m (firstCell s c .lines))) y
+    f ∙ rw (X .lines, y)
 
 -- ---- the columns of a row
 
@@ -52,8 +50,8 @@ unfolding heightUpTo
 measuring-begins s view c h = record { passing = passing-begins s view c h; tall = refl }
 
 pub measuring-on : (s : List ℕ) (view : View) → Rising view → (xs : List Cell) (left : Cells) (passed most i : ℕ) → Measuring s view xs left passed most i → i < view .count
-    → (next : Cells) (n m : ℕ) → cellsIn s next ≡ drop (shownAt view i .number - passed) (cellsIn s left) → cellsEnd s next ≡ cellsEnd s left
-    → n ≡ cellHeight (firstCell s next) (shownAt view i) → m ≡ max most n → Measuring s view xs next (shownAt view i .number) m (i + 1)
+    → (next : Cells) (n m : ℕ) → cellsIn s next ≡ drop (visibleAt view i .number - passed) (cellsIn s left) → cellsEnd s next ≡ cellsEnd s left
+    → n ≡ cellHeight (firstCell s next) (visibleAt view i) → m ≡ max most n → Measuring s view xs next (visibleAt view i .number) m (i + 1)
 unfolding heightUpTo
 measuring-on s view R xs left passed most i M h next n m e f o x =
     let d = cell-here s view xs left passed i (M .passing) h next e in
@@ -91,7 +89,7 @@ limited-max (suc h) a b = omega arith
 
 -- ---- a row
 
-cell-is : (t : Table) (ws : List ℕ) (r : Row) (i : ℕ) (v : Shown) → v ≡ shownOf t ws (numberOf t i) → cellHeight (getD (r .cells) (v .number) noCell) v ≡ length (wrapped t ws r (numberOf t i))
+cell-is : (t : Table) (ws : List ℕ) (r : Row) (i : ℕ) (v : VisibleColumn) → v ≡ shownOf t ws (numberOf t i) → cellHeight (getD (r .cells) (v .number) noCell) v ≡ length (wrapped t ws r (numberOf t i))
 unfolding shownOf wrapped cellHeight
 cell-is t ws r i v e = rw e
 
@@ -99,16 +97,16 @@ module _ (t : Table) (ws : List ℕ) (r : Row) (view : View) (W : Views t ws vie
   lines-of : ℕ → ℕ
   lines-of i = length (cellLines t ws r (numberOf t i))
 
-  column-lines : (i : ℕ) → i < view .count → limited (r .limit) (cellHeight (getD (r .cells) (shownAt view i .number) noCell) (shownAt view i)) ≡ lines-of i
+  column-lines : (i : ℕ) → i < view .count → limited (r .limit) (cellHeight (getD (r .cells) (visibleAt view i .number) noCell) (visibleAt view i)) ≡ lines-of i
   unfolding lines-of cellLines
   column-lines i h =
-      ap (limited (r .limit)) (cell-is t ws r i (shownAt view i) (W .each i h)) ∙ sym (length-cut (getD ws (numberOf t i) 0) (t .indicator) (r .limit) (wrapped t ws r (numberOf t i)))
+      ap (limited (r .limit)) (cell-is t ws r i (visibleAt view i) (W .each i h)) ∙ sym (length-cut (getD ws (numberOf t i) 0) (t .indicator) (r .limit) (wrapped t ws r (numberOf t i)))
 
   up-to : (n : ℕ) → n ≤ view .count → limited (r .limit) (heightUpTo (r .cells) view n) ≡ greatest (map lines-of (upFrom 0 n))
   unfolding heightUpTo
   up-to zero h = limited-none (r .limit) ∙ sym (no-lines lines-of)
   up-to (suc n) h =
-      let v = shownAt view n in
+      let v = visibleAt view n in
       limited-max (r .limit) (heightUpTo (r .cells) view n) (cellHeight (getD (r .cells) (v .number) noCell) v)
       ∙ rw (up-to n (omega arith), column-lines n (omega arith)) (sym (ap greatest (map-up lines-of n) ∙ greatest-snoc (map lines-of (upFrom 0 n)) (lines-of n)))
 

@@ -4,5 +4,7 @@ pub mod Rule
 pub mod Stand
 pub mod Whole
 pub mod Open
-pub mod RowText
 pub mod Heights
+pub mod Lent
+pub mod Parts
+pub mod RowText

@@ -10,43 +10,41 @@ use native.Mathlib.Nat.{eq-or-lt-of-le}
 use lib.ListN.{length, set, length-set, length-append}
 use lib.Seq.{getD-set-same, getD-set-other}
 use lib.Dec.{ltb}
-use Rattle.rules.specs.Wrap.{cutLine}
+use Rattle.rules.specs.Text.{textWidth}
+use Rattle.rules.specs.Sheet.{mostColumns}
 use Rattle.rules.proofs.Text.{width-length}
 use Rattle.rules.proofs.Fits.{short-cutLine}
 use Rattle.buffer.specs.Put.{over, putAt, build, edge}
 use Rattle.buffer.proofs.Laws.{put-nil, put-one, over-put-zero, build-room, build-more}
-use Rattle.cells.specs.Cell.{part}
-use Rattle.cells.proofs.Laws.{part-length}
-use Rattle.formatting.specs.Area.{InSheet, After, following, shownText, columnPiece}
-use Rattle.formatting.specs.Line.{noStanding, shownAt, standingAt, lead, indicatorOf, linePiece, lineBytes, Ready, ReadyAll, AfterAll, anyFound}
-use Rattle.formatting.specs.declared.content_format.Shown.{Shown}
-use Rattle.formatting.specs.declared.content_format.Standing.{Standing}
-use Rattle.formatting.specs.declared.content_format.View.{View}
+use Rattle.formatting.specs.Area.{InSheet, After, pendingText, following, shownText, columnPiece}
+use Rattle.formatting.specs.Line.{View, noPending, visibleAt, pendingAt, lead, linePiece, lineBytes, Ready, ReadyAll, AfterAll, anyFound}
+use Rattle.formatting.specs.declared.content_format.VisibleColumn.{VisibleColumn}
+use Rattle.formatting.specs.declared.content_format.Pending.{Pending}
 use Rattle.formatting.specs.declared.content_format.TextStyle.{TextStyle}
 use Rattle.formatting.proofs.Area.{two, area-length}
 
 -- ---- every visible column's cell at its next line
 
-pub same-below : (ts : List Standing) (i n : ℕ) (u : Standing) → n ≤ i → anyFound (set ts i u) n ≡ anyFound ts n
+pub same-below : (ts : List Pending) (i n : ℕ) (u : Pending) → n ≤ i → anyFound (set ts i u) n ≡ anyFound ts n
 unfolding anyFound
 same-below ts i zero u h = refl
-same-below ts i (suc n) u h = rw (same-below ts i n u (omega arith), getD-set-other ts i n u noStanding (λ e. omega arith))
+same-below ts i (suc n) u h = rw (same-below ts i n u (omega arith), getD-set-other ts i n u noPending (λ e. omega arith))
 
 -- columns before i are at their next line, the others as they were
-pub record Passing (s : List ℕ) (view : View) (ts₀ ts : List Standing) (more : Bool) (i : ℕ) : Type 0 where
+pub record Passing (s : List ℕ) (view : View) (ts₀ ts : List Pending) (more : Bool) (i : ℕ) : Type 0 where
   pub within : i ≤ view .count
-  pub size : length ts ≡ 12
-  pub done : (k : ℕ) → k < i → After s (shownAt view k .width) (standingAt ts₀ k) (standingAt ts k)
-  pub todo : (k : ℕ) → i ≤ k → standingAt ts k ≡ standingAt ts₀ k
+  pub size : length ts ≡ mostColumns
+  pub done : (k : ℕ) → k < i → After s (visibleAt view k .width) (pendingAt ts₀ k) (pendingAt ts k)
+  pub todo : (k : ℕ) → i ≤ k → pendingAt ts k ≡ pendingAt ts₀ k
   pub found : more ≡ anyFound ts i
 
 module _ (s : List ℕ) (view : View) where
-  pub passing-begins : (ts : List Standing) → length ts ≡ 12 → Passing s view ts ts false 0
+  pub passing-begins : (ts : List Pending) → length ts ≡ mostColumns → Passing s view ts ts false 0
   unfolding anyFound
   passing-begins ts h = record { within = omega arith; size = h; done = λ k l. absurd (omega arith); todo = λ k l. refl; found = refl }
 
-  pub passing-on : (ts₀ ts : List Standing) (more m : Bool) (i : ℕ) (u : Standing) → view .count ≤ 12 → i < view .count → Passing s view ts₀ ts more i
-      → After s (shownAt view i .width) (standingAt ts i) u → m ≡ (more || u .found) → Passing s view ts₀ (set ts i u) m (i + 1)
+  pub passing-on : (ts₀ ts : List Pending) (more m : Bool) (i : ℕ) (u : Pending) → view .count ≤ mostColumns → i < view .count → Passing s view ts₀ ts more i
+      → After s (visibleAt view i .width) (pendingAt ts i) u → m ≡ (more || u .line .found) → Passing s view ts₀ (set ts i u) m (i + 1)
   unfolding anyFound
   passing-on ts₀ ts more m i u l h p a e =
       let k : i < length ts = omega (arith, p .size) in
@@ -55,23 +53,23 @@ module _ (s : List ℕ) (view : View) where
         size = length-set ts i u ∙ p .size;
         done = λ c x.
             ⊎-elim
-            (λ (q : c ≡ i). rw (q, getD-set-same ts i u noStanding k, ← p .todo i (omega arith)) a)
-            (λ (q : c < i). rw (getD-set-other ts i c u noStanding (λ z. omega arith)) (p .done c q))
+            (λ (q : c ≡ i). rw (q, getD-set-same ts i u noPending k, ← p .todo i (omega arith)) a)
+            (λ (q : c < i). rw (getD-set-other ts i c u noPending (λ z. omega arith)) (p .done c q))
             (eq-or-lt-of-le (omega arith));
-        todo = λ c x. rw (getD-set-other ts i c u noStanding (λ z. omega arith)) (p .todo c (omega arith));
-        found = rw (add-one i) (e ∙ rw (p .found, same-below ts i i u (omega arith), getD-set-same ts i u noStanding k));
+        todo = λ c x. rw (getD-set-other ts i c u noPending (λ z. omega arith)) (p .todo c (omega arith));
+        found = rw (add-one i) (e ∙ rw (p .found, same-below ts i i u (omega arith), getD-set-same ts i u noPending k));
       }
 
-  pub passing-from : (ts : List Standing) → length ts ≡ 12 → Passing s view ts ts (anyFound ts 0) 0
+  pub passing-from : (ts : List Pending) → length ts ≡ mostColumns → Passing s view ts ts (anyFound ts 0) 0
   unfolding anyFound
   passing-from ts h = passing-begins ts h
 
   -- the same where only the cells count
-  pub passing-next : (ts₀ ts : List Standing) (i : ℕ) (u : Standing) → view .count ≤ 12 → i < view .count → Passing s view ts₀ ts (anyFound ts i) i
-      → After s (shownAt view i .width) (standingAt ts i) u → Passing s view ts₀ (set ts i u) (anyFound (set ts i u) (i + 1)) (i + 1)
-  passing-next ts₀ ts i u l h p a = let q = passing-on ts₀ ts (anyFound ts i) (anyFound ts i || u .found) i u l h p a refl in rw (q .found) at q
+  pub passing-next : (ts₀ ts : List Pending) (i : ℕ) (u : Pending) → view .count ≤ mostColumns → i < view .count → Passing s view ts₀ ts (anyFound ts i) i
+      → After s (visibleAt view i .width) (pendingAt ts i) u → Passing s view ts₀ (set ts i u) (anyFound (set ts i u) (i + 1)) (i + 1)
+  passing-next ts₀ ts i u l h p a = let q = passing-on ts₀ ts (anyFound ts i) (anyFound ts i || u .line .found) i u l h p a refl in rw (q .found) at q
 
-  pub passing-done : (ts₀ ts : List Standing) (more : Bool) (i : ℕ) → view .count ≤ i → Passing s view ts₀ ts more i → AfterAll s view ts₀ ts × (more ≡ anyFound ts (view .count))
+  pub passing-done : (ts₀ ts : List Pending) (more : Bool) (i : ℕ) → view .count ≤ i → Passing s view ts₀ ts more i → AfterAll s view ts₀ ts × (more ≡ anyFound ts (view .count))
   passing-done ts₀ ts more i h p =
       let w = p .within in
       let e : i ≡ view .count = omega arith in
@@ -79,83 +77,83 @@ module _ (s : List ℕ) (view : View) where
 
 -- ---- lengths
 
-shown-length : (s : List ℕ) (w : ℕ) (ind : List ℕ) (cut : Bool) (t : Standing) → InSheet s w t → length (shownText s w ind cut t) ≤ w
+shown-length : (s : List ℕ) (w : ℕ) (ind : List ℕ) (cut : Bool) (t : Pending) → InSheet s w t → textWidth (shownText s w ind cut t) ≤ w
 unfolding shownText
-shown-length s w ind true t h = omega (arith, short-cutLine w ind (part s (t .start) (t .end)), width-length (cutLine w ind (part s (t .start) (t .end))))
-shown-length s w ind false t h = omega (arith, part-length s (t .start) (t .end) (h .within), h .fits)
+shown-length s w ind true t h = short-cutLine w ind (pendingText s t)
+shown-length s w ind false t h = h .fits
 
-pub piece-length : (s : List ℕ) (v : Shown) (t : Standing) (ind : List ℕ) (last : Bool) → InSheet s (v .width) t → length (columnPiece s v t ind last) ≡ v .left + (v .width + v .right)
+pub piece-length : (s : List ℕ) (v : VisibleColumn) (t : Pending) (ind : List ℕ) (last : Bool) → InSheet s (v .width) t → length (columnPiece s v t ind last) ≡ v .left + (v .width + v .right)
 unfolding columnPiece
 piece-length s v t ind last h = area-length v (t .alignment) _ (shown-length s (v .width) ind (last && ltb 0 (length (following s (v .width) t))) t h)
 
-module _ (s : List ℕ) (view : View) (style : TextStyle) (ts : List Standing) (last : Bool) where
-  pub line-is : lineBytes s view style ts last ≡ edge (style .opens) (style .left) ++ (build (linePiece s view style ts last) (view .count) ++ (edge (style .closes) (style .right) ++ (10 ∷ [])))
+module _ (s : List ℕ) (view : View) (ind : List ℕ) (style : TextStyle) (ts : List Pending) (last : Bool) where
+  pub line-is : lineBytes s view ind style ts last ≡ edge (style .opens) (style .left) ++ (build (linePiece s view ind style ts last) (view .count) ++ (edge (style .closes) (style .right) ++ (10 ∷ [])))
   unfolding lineBytes
   line-is = refl
 
-  pub line-length : length (lineBytes s view style ts last)
-      ≡ length (edge (style .opens) (style .left)) + length (build (linePiece s view style ts last) (view .count)) + length (edge (style .closes) (style .right)) + 1
+  pub line-length : length (lineBytes s view ind style ts last)
+      ≡ length (edge (style .opens) (style .left)) + length (build (linePiece s view ind style ts last) (view .count)) + length (edge (style .closes) (style .right)) + 1
   unfolding lineBytes
   line-length =
       let l = edge (style .opens) (style .left) in
-      let b = build (linePiece s view style ts last) (view .count) in
+      let b = build (linePiece s view ind style ts last) (view .count) in
       let r = edge (style .closes) (style .right) in
       omega (arith, length-append l (b ++ (r ++ (10 ∷ []))), length-append b (r ++ (10 ∷ [])), length-append r (10 ∷ []))
 
   -- the whole, once its last byte is stored
-  pub line-whole : (d d₁ d₂ d₃ : List ℕ) (p q e : ℕ) → d₁ ≡ putAt d 0 (edge (style .opens) (style .left)) → d₂ ≡ putAt d₁ p (build (linePiece s view style ts last) (view .count))
-      → d₃ ≡ putAt d₂ q (edge (style .closes) (style .right)) → length (edge (style .opens) (style .left)) ≡ p → p + length (build (linePiece s view style ts last) (view .count)) ≡ q
-      → q + length (edge (style .closes) (style .right)) ≡ e → e < length d₃ → set d₃ e 10 ≡ over (lineBytes s view style ts last) d
+  pub line-whole : (d d₁ d₂ d₃ : List ℕ) (p q e : ℕ) → d₁ ≡ putAt d 0 (edge (style .opens) (style .left)) → d₂ ≡ putAt d₁ p (build (linePiece s view ind style ts last) (view .count))
+      → d₃ ≡ putAt d₂ q (edge (style .closes) (style .right)) → length (edge (style .opens) (style .left)) ≡ p → p + length (build (linePiece s view ind style ts last) (view .count)) ≡ q
+      → q + length (edge (style .closes) (style .right)) ≡ e → e < length d₃ → set d₃ e 10 ≡ over (lineBytes s view ind style ts last) d
   line-whole d d₁ d₂ d₃ p q e e₁ e₂ e₃ x y z h =
       let l = edge (style .opens) (style .left) in
-      let b = build (linePiece s view style ts last) (view .count) in
+      let b = build (linePiece s view ind style ts last) (view .count) in
       let r = edge (style .closes) (style .right) in
       let f : d₂ ≡ putAt d 0 (l ++ b) = two d 0 l b d₁ d₂ p e₁ e₂ (omega arith) (omega arith) in
       let g : d₃ ≡ putAt d 0 ((l ++ b) ++ r) = two d 0 (l ++ b) r d₂ d₃ q f e₃ (omega (arith, length-append l b)) (omega arith) in
       let i : set d₃ e 10 ≡ putAt d 0 (((l ++ b) ++ r) ++ (10 ∷ [])) =
       two d 0 ((l ++ b) ++ r) (10 ∷ []) d₃ (set d₃ e 10) e g (put-one d₃ e 10 h) (omega (arith, length-append l b, length-append (l ++ b) r)) (omega arith) in
-      i ∙ ap (putAt d 0) ((simp append-assoc) ∙ sym line-is) ∙ sym (over-put-zero (lineBytes s view style ts last) d)
+      i ∙ ap (putAt d 0) ((simp append-assoc) ∙ sym line-is) ∙ sym (over-put-zero (lineBytes s view ind style ts last) d)
 
 -- ---- the columns drawn one after another
 
-pub record Drawing (s : List ℕ) (view : View) (style : TextStyle) (ts₀ : List Standing) (last : Bool) (page₀ : List ℕ) (at₀ : ℕ) (page : List ℕ) (ts : List Standing) (more : Bool) (at i : ℕ) : Type 0 where
+pub record Drawing (s : List ℕ) (view : View) (ind : List ℕ) (style : TextStyle) (ts₀ : List Pending) (last : Bool) (page₀ : List ℕ) (at₀ : ℕ) (page : List ℕ) (ts : List Pending) (more : Bool) (at i : ℕ) : Type 0 where
   pub passing : Passing s view ts₀ ts more i
-  pub place : at ≡ at₀ + length (build (linePiece s view style ts₀ last) i)
-  pub text : page ≡ putAt page₀ at₀ (build (linePiece s view style ts₀ last) i)
+  pub place : at ≡ at₀ + length (build (linePiece s view ind style ts₀ last) i)
+  pub text : page ≡ putAt page₀ at₀ (build (linePiece s view ind style ts₀ last) i)
   pub size : length page ≡ length page₀
 
-module _ (s : List ℕ) (view : View) (style : TextStyle) (ts₀ : List Standing) (last : Bool) (page₀ : List ℕ) (at₀ : ℕ) (R : ReadyAll s view ts₀) where
-  pub drawing-begins : Drawing s view style ts₀ last page₀ at₀ page₀ ts₀ false at₀ 0
+module _ (s : List ℕ) (view : View) (ind : List ℕ) (style : TextStyle) (ts₀ : List Pending) (last : Bool) (page₀ : List ℕ) (at₀ : ℕ) (R : ReadyAll s view ts₀) where
+  pub drawing-begins : Drawing s view ind style ts₀ last page₀ at₀ page₀ ts₀ false at₀ 0
   drawing-begins = record { passing = passing-begins s view ts₀ (R .size); place = omega arith; text = sym (put-nil page₀ at₀); size = refl }
 
-  module _ (page : List ℕ) (ts : List Standing) (more : Bool) (at i : ℕ) (D : Drawing s view style ts₀ last page₀ at₀ page ts more at i) (h : i < view .count) where
-    ready : Ready s (shownAt view i) (standingAt ts i)
+  module _ (page : List ℕ) (ts : List Pending) (more : Bool) (at i : ℕ) (D : Drawing s view ind style ts₀ last page₀ at₀ page ts more at i) (h : i < view .count) where
+    ready : Ready s (visibleAt view i) (pendingAt ts i)
     ready = rw (D .passing .todo i (omega arith)) (R .each i h)
 
-    pub column-ready : Ready s (shownAt view i) (standingAt ts i)
+    pub column-ready : Ready s (visibleAt view i) (pendingAt ts i)
     column-ready = ready
 
-    piece-at : edge (lead i (style .joined)) (style .junction) ++ columnPiece s (shownAt view i) (standingAt ts i) (indicatorOf view) last ≡ linePiece s view style ts₀ last i
+    piece-at : edge (lead i (style .joined)) (style .junction) ++ columnPiece s (visibleAt view i) (pendingAt ts i) ind last ≡ linePiece s view ind style ts₀ last i
     unfolding linePiece
     piece-at = rw (D .passing .todo i (omega arith))
 
-    here-length : length (linePiece s view style ts₀ last i) ≡ length (edge (lead i (style .joined)) (style .junction)) + (shownAt view i .left + (shownAt view i .width + shownAt view i .right))
+    here-length : length (linePiece s view ind style ts₀ last i) ≡ length (edge (lead i (style .joined)) (style .junction)) + (visibleAt view i .left + (visibleAt view i .width + visibleAt view i .right))
     here-length =
         sym (ap length piece-at)
-        ∙ length-append (edge (lead i (style .joined)) (style .junction)) (columnPiece s (shownAt view i) (standingAt ts i) (indicatorOf view) last)
-        ∙ ap (λ n. length (edge (lead i (style .joined)) (style .junction)) + n) (piece-length s (shownAt view i) (standingAt ts i) (indicatorOf view) last (ready .line))
+        ∙ length-append (edge (lead i (style .joined)) (style .junction)) (columnPiece s (visibleAt view i) (pendingAt ts i) ind last)
+        ∙ ap (λ n. length (edge (lead i (style .joined)) (style .junction)) + n) (piece-length s (visibleAt view i) (pendingAt ts i) ind last (ready .line))
 
-    pub drawing-room : at₀ + length (build (linePiece s view style ts₀ last) (view .count)) ≤ length page₀
-        → at + (length (edge (lead i (style .joined)) (style .junction)) + (shownAt view i .left + (shownAt view i .width + shownAt view i .right))) ≤ length page
-    drawing-room r = omega (arith, D .place, D .size, here-length, build-room (linePiece s view style ts₀ last) i (view .count) h)
+    pub drawing-room : at₀ + length (build (linePiece s view ind style ts₀ last) (view .count)) ≤ length page₀
+        → at + (length (edge (lead i (style .joined)) (style .junction)) + (visibleAt view i .left + (visibleAt view i .width + visibleAt view i .right))) ≤ length page
+    drawing-room r = omega (arith, D .place, D .size, here-length, build-room (linePiece s view ind style ts₀ last) i (view .count) h)
 
-    pub drawing-on : (page₁ : List ℕ) (u : Standing) (at₁ : ℕ) (m : Bool) → at₀ + length (build (linePiece s view style ts₀ last) (view .count)) ≤ length page₀
-        → at₁ ≡ at + (length (edge (lead i (style .joined)) (style .junction)) + (shownAt view i .left + (shownAt view i .width + shownAt view i .right)))
-        → After s (shownAt view i .width) (standingAt ts i) u
-        → page₁ ≡ putAt page at (edge (lead i (style .joined)) (style .junction) ++ columnPiece s (shownAt view i) (standingAt ts i) (indicatorOf view) last)
-        → length page₁ ≡ length page → m ≡ (more || u .found) → Drawing s view style ts₀ last page₀ at₀ page₁ (set ts i u) m at₁ (i + 1)
+    pub drawing-on : (page₁ : List ℕ) (u : Pending) (at₁ : ℕ) (m : Bool) → at₀ + length (build (linePiece s view ind style ts₀ last) (view .count)) ≤ length page₀
+        → at₁ ≡ at + (length (edge (lead i (style .joined)) (style .junction)) + (visibleAt view i .left + (visibleAt view i .width + visibleAt view i .right)))
+        → After s (visibleAt view i .width) (pendingAt ts i) u
+        → page₁ ≡ putAt page at (edge (lead i (style .joined)) (style .junction) ++ columnPiece s (visibleAt view i) (pendingAt ts i) ind last)
+        → length page₁ ≡ length page → m ≡ (more || u .line .found) → Drawing s view ind style ts₀ last page₀ at₀ page₁ (set ts i u) m at₁ (i + 1)
     drawing-on page₁ u at₁ m r e a w l x =
-        let g = linePiece s view style ts₀ last in
+        let g = linePiece s view ind style ts₀ last in
         let b = build-more g i in
         record {
           passing = passing-on s view ts₀ ts more m i u (R .most) h (D .passing) a x;
@@ -164,8 +162,8 @@ module _ (s : List ℕ) (view : View) (style : TextStyle) (ts₀ : List Standing
           size = l ∙ D .size;
         }
 
-  pub drawing-done : (page : List ℕ) (ts : List Standing) (more : Bool) (at i : ℕ) → Drawing s view style ts₀ last page₀ at₀ page ts more at i → view .count ≤ i
-      → Drawing s view style ts₀ last page₀ at₀ page ts more at (view .count)
+  pub drawing-done : (page : List ℕ) (ts : List Pending) (more : Bool) (at i : ℕ) → Drawing s view ind style ts₀ last page₀ at₀ page ts more at i → view .count ≤ i
+      → Drawing s view ind style ts₀ last page₀ at₀ page ts more at (view .count)
   drawing-done page ts more at i D h =
       let w = D .passing .within in
       let e : i ≡ view .count = omega arith in
@@ -176,6 +174,6 @@ lead-some zero joined h = absurd (h refl)
 lead-some (suc i) joined h = refl
 
 -- a column that isn't passed yet is ready
-pub passing-ready : (s : List ℕ) (view : View) (ts₀ ts : List Standing) (more : Bool) (i : ℕ) → ReadyAll s view ts₀ → Passing s view ts₀ ts more i → i < view .count
-    → Ready s (shownAt view i) (standingAt ts i)
+pub passing-ready : (s : List ℕ) (view : View) (ts₀ ts : List Pending) (more : Bool) (i : ℕ) → ReadyAll s view ts₀ → Passing s view ts₀ ts more i → i < view .count
+    → Ready s (visibleAt view i) (pendingAt ts i)
 passing-ready s view ts₀ ts more i R p h = rw (p .todo i (omega arith)) (R .each i h)

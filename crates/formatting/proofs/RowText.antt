@@ -1,161 +1,203 @@
--- A row's text lines, drawn one after another. Assumes nothing.
+-- Lines of a row passed over and drawn one after another. Assumes nothing.
 use Prim.Native.Nat.{ℕ, zero, suc, _+_, _-_, _≤_, _<_}
-use mathlib.Core.Path.{_≡_, refl, sym, ap, _∙_}
-use mathlib.Core.List.{List, [], _∷_, _++_, map, append-assoc}
-use mathlib.Core.Bool.{Bool, true, false, _&&_}
+use mathlib.Core.Path.{_≡_, refl, sym, ap, subst, _∙_}
+use mathlib.Core.List.{List, [], _∷_, _++_, map}
+use mathlib.Core.Bool.{Bool, true, false, not, _&&_}
 use native.Mathlib.Omega.{arith}
-use native.Mathlib.Numerals.{add-one}
-use lib.ListN.{length, take, drop, getD, length-append, length-map, take-append-drop}
-use lib.Seq.{take-suc, take-all}
-use lib.Dec.{ltb}
-use borrow.Author.Tests.{ltb-true, ltb-false, lt-ltb}
-use Rattle.rules.specs.Sheet.{Row, Table}
+use lib.ListN.{length, take, drop, getD, length-append, length-map, length-drop, take-append-drop}
+use lib.Seq.{take-suc, take-all, getD-drop, drop-cons}
+use lib.Dec.{ltb, leb}
+use borrow.Author.Tests.{ltb-true, ltb-false, lt-ltb, le-ltb, leb-true, leb-false}
+use borrow.Rule.Slice.PartMut.{putMid}
+use Rattle.rules.specs.Sheet.{Row}
 use Rattle.rules.specs.Widths.{visible, contents}
-use Rattle.rules.specs.Page.{areaAt, areas, height, closed}
+use Rattle.rules.specs.Page.{areaAt, areas}
 use Rattle.rules.proofs.Areas.{length-areas, line-at}
 use Rattle.rules.proofs.Lists.{getD-map}
-use Rattle.rules.proofs.Sizes.{closed-none, closed-one, closed-append}
 use Rattle.sheet.specs.Held.{tableOf}
-use Rattle.sheet.specs.Walk.{firstRow, cellsIn, RowIs}
-use Rattle.sheet.specs.declared.records.Rows.{Rows}
-use Rattle.sheet.specs.declared.records.Row as records
-use Rattle.buffer.specs.Put.{over, putAt, build, edge}
-use Rattle.buffer.proofs.Laws.{over-none, over-put, length-over}
-use Rattle.formatting.specs.Line.{linePiece, lineBytes, AfterAll, anyFound, ReadyAll}
-use Rattle.formatting.specs.Open.{OpenedRow}
-use Rattle.formatting.specs.RowText.{styled, rowBytes}
+use Rattle.sheet.specs.declared.records.Indicator.{Indicator}
+use Rattle.buffer.specs.Put.{over}
+use Rattle.buffer.proofs.Laws.{lent, lent-same}
+use Rattle.formatting.specs.Line.{View, lineBytes, AfterAll, anyFound, ReadyAll}
+use Rattle.formatting.specs.Part.{PartIs}
+use Rattle.formatting.specs.RowText.{styled, rowLines, rowHeight, Marks, Sized, StandsAt}
 use Rattle.formatting.specs.Stand.{Views, StandsRow, inLimit, lastOf}
-use Rattle.formatting.specs.declared.content_format.Standing.{Standing}
-use Rattle.formatting.specs.declared.content_format.View.{View}
+use Rattle.formatting.specs.Open.{OpenedRow}
+use Rattle.formatting.specs.declared.content_format.Part.{Part}
+use Rattle.formatting.specs.declared.content_format.Pending.{Pending}
 use Rattle.formatting.specs.declared.content_format.TextStyle.{TextStyle}
-use Rattle.formatting.proofs.Area.{two}
-use Rattle.formatting.proofs.Line.{line-is}
+use Rattle.formatting.proofs.Parts.{part-none, part-line, part-full, part-length, part-room, part-join}
 use Rattle.formatting.proofs.Stand.{in-limit-0}
 use Rattle.formatting.proofs.Whole.{line-styled, height-has, opened-stands, stands-after, stands-ready}
 
--- the table's row that a row of the sheet is
-abbrev pub rowOf : List ℕ → records.Row → Row
-rowOf s r = record { limit = r .limit; cells = cellsIn s (r .cells) }
+pub lines-count : (s : List ℕ) (y : TextStyle) (r : Row) → length (rowLines s y r) ≡ rowHeight s r
+unfolding rowLines
+lines-count s y r = length-map (areas (tableOf s) (contents (tableOf s)) r) (styled y) ∙ length-areas (tableOf s) (contents (tableOf s)) r
 
-pub row-is : (s : List ℕ) (c : Rows) (r : records.Row) → RowIs s c r → rowOf s r ≡ firstRow s c
-row-is s c r R = rw (R .limit, R .cells)
+line-of : (s : List ℕ) (y : TextStyle) (r : Row) (j : ℕ) → j < rowHeight s r
+    → getD (rowLines s y r) j [] ≡ styled y (map (areaAt (tableOf s) (contents (tableOf s)) r j) (visible (tableOf s)))
+unfolding rowLines
+line-of s y r j h =
+    getD-map (styled y) (areas (tableOf s) (contents (tableOf s)) r) j [] [] (omega (arith, length-areas (tableOf s) (contents (tableOf s)) r))
+    ∙ ap (styled y) (line-at (tableOf s) (contents (tableOf s)) r j h)
 
--- its lines
-abbrev pub styledLines : Table → List ℕ → Row → TextStyle → List (List ℕ)
-styledLines t ws r y = map (styled y) (areas t ws r)
-
-styled-count : (t : Table) (ws : List ℕ) (r : Row) (y : TextStyle) → length (styledLines t ws r y) ≡ height t ws r
-styled-count t ws r y = length-map (areas t ws r) (styled y) ∙ length-areas t ws r
-
-styled-at : (t : Table) (ws : List ℕ) (r : Row) (y : TextStyle) (j : ℕ) → j < height t ws r → getD (styledLines t ws r y) j [] ≡ styled y (map (areaAt t ws r j) (visible t))
-styled-at t ws r y j h = getD-map (styled y) (areas t ws r) j [] [] (omega (arith, length-areas t ws r)) ∙ ap (styled y) (line-at t ws r j h)
-
--- one more line
-closed-on : (L : List (List ℕ)) (j : ℕ) → j < length L → closed (take (j + 1) L) ≡ closed (take j L) ++ (getD L j [] ++ (10 ∷ []))
-closed-on L j h =
-    ap (λ n. closed (take n L)) (add-one j) ∙ ap closed (take-suc L j [] h)
-    ∙ closed-append (take j L) (getD L j [] ∷ []) ∙ ap (λ l. closed (take j L) ++ l) (closed-one (getD L j []))
-
-closed-part : (L : List (List ℕ)) (j : ℕ) → length (closed (take j L)) ≤ length (closed L)
-closed-part L j =
-    let e = ap length (ap closed (sym (take-append-drop j L)) ∙ closed-append (take j L) (drop j L)) in
-    omega (arith, e, length-append (closed (take j L)) (closed (drop j L)))
-
--- every line has its 0A
-closed-many : (L : List (List ℕ)) → length L ≤ length (closed L)
-unfolding closed
-closed-many [] = omega arith
-closed-many (l ∷ L) = omega (arith, closed-many L, length-append l (10 ∷ closed L))
-
-first-true : (a b : Bool) → (a && b) ≡ true → a ≡ true
+pub first-true : (a b : Bool) → (a && b) ≡ true → a ≡ true
 first-true true b e = refl
 first-true false b e = e
 
--- the lines before line j are written, and line j stands ready
-pub record Rowing (s : List ℕ) (t : Table) (ws : List ℕ) (r : Row) (view : View) (y : TextStyle) (page₀ page : List ℕ) (ts : List Standing) (more : Bool) (at line : ℕ) : Type 0 where
-  pub stands : StandsRow s t ws r view line ts
-  pub has : more ≡ ltb line (height t ws r)
-  pub within : line ≤ height t ws r
-  pub place : at ≡ length (closed (take line (styledLines t ws r y)))
-  pub text : page ≡ over (closed (take line (styledLines t ws r y))) page₀
-  pub size : length page ≡ length page₀
+pub second-true : (a b : Bool) → (a && b) ≡ true → b ≡ true
+second-true true b e = e
+second-true false b e = let z : _≡_ {A = ℕ} 0 1 = cc in absurd (omega arith)
 
-module _ (s : List ℕ) (t : Table) (ws : List ℕ) (r : Row) (view : View) (W : Views t ws view) (y : TextStyle) (page₀ : List ℕ) where
-  pub rowing-begins : (ts : List Standing) (more : Bool) → OpenedRow s (r .cells) view ts → more ≡ anyFound ts (view .count) → Rowing s t ws r view y page₀ page₀ ts more 0 0
-  rowing-begins ts more o e =
-      let R = opened-stands s t ws r view ts W o in
-      let h = height-has s t ws r view W 0 ts R in
-      record {
-        stands = R;
-        has = e ∙ sym (h ∙ rw (in-limit-0 (r .limit)));
-        within = omega arith;
-        place = omega (arith, ap length closed-none);
-        text = over-none page₀ ∙ ap (λ l. over l page₀) (sym closed-none);
-        size = refl;
-      }
+-- ---- a row entered
 
-  module _ (page : List ℕ) (ts : List Standing) (more : Bool) (at line : ℕ) (G : Rowing s t ws r view y page₀ page ts more at line) where
-    pub rowing-ready : ReadyAll s view ts
-    rowing-ready = stands-ready s t ws r view line ts W (G .stands)
+module _ (s : List ℕ) (view : View) (r : Row) (W : Views (tableOf s) (contents (tableOf s)) view) where
+  pub enters-first : (ts : List Pending) (more : Bool) → OpenedRow s (r .cells) view ts → more ≡ anyFound ts (view .count) → StandsAt s view r 0 more ts
+  enters-first ts more o e =
+      let R = opened-stands s (tableOf s) (contents (tableOf s)) r view ts W o in
+      record { has = e ∙ sym (height-has s (tableOf s) (contents (tableOf s)) r view W 0 ts R ∙ rw (in-limit-0 (r .limit))); stands = λ _. R }
+
+  module _ (j : ℕ) (more : Bool) (ts : List Pending) (S : StandsAt s view r j more ts) (e : more ≡ true) where
+    pub stands-drawn : ReadyAll s view ts
+    stands-drawn = stands-ready s (tableOf s) (contents (tableOf s)) r view j ts W (S .stands e)
+
+    pub stands-less : j < rowHeight s r
+    stands-less = ltb-true j (rowHeight s r) (sym (S .has) ∙ e)
+
+    pub stands-within : inLimit (r .limit) j ≡ true
+    stands-within = first-true (inLimit (r .limit) j) (anyFound ts (view .count))
+        (sym (height-has s (tableOf s) (contents (tableOf s)) r view W j ts (S .stands e)) ∙ sym (S .has) ∙ e)
+
+    -- the row goes on
+    pub stands-more : (limit : ℕ) → limit ≡ r .limit → (us : List Pending) (found m : Bool) → AfterAll s view ts us → found ≡ anyFound us (view .count)
+        → m ≡ (inLimit limit (j + 1) && found) → StandsAt s view r (j + 1) m us
+    stands-more limit l us found m a f g =
+        let R = stands-after s (tableOf s) (contents (tableOf s)) r view j ts us (S .stands e) a in
+        record { has = g ∙ rw (f, l) (sym (height-has s (tableOf s) (contents (tableOf s)) r view W (j + 1) us R)); stands = λ _. R }
+
+-- ---- lines passed over
+
+-- j lines are passed over, or all of the row's, which has no line n then
+pub record Skipping (s : List ℕ) (view : View) (r : Row) (n : ℕ) (ts : List Pending) (more : Bool) (j : ℕ) : Type 0 where
+  pub within : j ≤ n
+  pub stands : StandsAt s view r j more ts
+
+pub skipping-done : (s : List ℕ) (view : View) (r : Row) (n : ℕ) (ts : List Pending) (more : Bool) (j : ℕ) (b : Bool) → Skipping s view r n ts more j
+    → b ≡ (more && ltb j n) → b ≡ false → StandsAt s view r n more ts
+skipping-done s view r n ts true j b S e f =
+    let w = S .within in
+    let z : j ≡ n = omega (arith, ltb-false j n (sym e ∙ f)) in
+    rw z at (S .stands)
+skipping-done s view r n ts false j b S e f =
+    let w = S .within in
+    let h = ltb-false j (rowHeight s r) (sym (S .stands .has)) in
+    record { has = sym (le-ltb n (rowHeight s r) (omega arith)); stands = λ x. let z : _≡_ {A = ℕ} 0 1 = cc in absurd (omega arith) }
+
+-- ---- lines drawn
+
+-- the lines from `first` up to `line` are written, and line `line` is pending, if the row has it
+pub record Running (s : List ℕ) (view : View) (y : TextStyle) (r : Row) (first : ℕ) (b page : List ℕ) (ts : List Pending) (more : Bool) (at line : ℕ) : Type 0 where
+  pub onward : first ≤ line
+  pub stands : StandsAt s view r line more ts
+  pub part : PartIs (take (line - first) (drop first (rowLines s y r))) b page (record { lines = line - first; bytes = at; whole = true })
+
+module _ (s : List ℕ) (view : View) (y : TextStyle) (r : Row) (first : ℕ) (W : Views (tableOf s) (contents (tableOf s)) view) (b : List ℕ) where
+  pub running-begins : (ts : List Pending) (more : Bool) → StandsAt s view r first more ts → Running s view y r first b b ts more 0 first
+  running-begins ts more S =
+      let z : first - first ≡ 0 = omega arith in
+      record { onward = omega arith; stands = S; part = rw z (part-none b) }
+
+  module _ (page : List ℕ) (ts : List Pending) (more : Bool) (at line : ℕ) (G : Running s view y r first b page ts more at line) where
+    pub running-size : length page ≡ length b
+    running-size = part-length _ b page _ (G .part)
+
+    pub running-room : at ≤ length page
+    running-room = part-room _ b page _ (G .part)
 
     module _ (e : more ≡ true) where
-      pub rowing-less : line < height t ws r
-      rowing-less = ltb-true line (height t ws r) (sym (G .has) ∙ e)
+      less : line < rowHeight s r
+      less = stands-less s view r W line more ts (G .stands) e
 
-      within : inLimit (r .limit) line ≡ true
-      within = first-true (inLimit (r .limit) line) (anyFound ts (view .count)) (sym (height-has s t ws r view W line ts (G .stands)) ∙ sym (G .has) ∙ e)
+      left : line - first < length (drop first (rowLines s y r))
+      left = omega (arith, less, lines-count s y r, length-drop first (rowLines s y r), G .onward)
 
-      here : lineBytes s view y ts (lastOf (r .limit) line) ≡ getD (styledLines t ws r y) line [] ++ (10 ∷ [])
-      here = line-styled s t ws r view W line ts (G .stands) y within ∙ ap (λ l. l ++ (10 ∷ [])) (sym (styled-at t ws r y line rowing-less))
+      here-at : getD (drop first (rowLines s y r)) (line - first) [] ≡ getD (rowLines s y r) line []
+      here-at = getD-drop first (rowLines s y r) (line - first) [] ∙ ap (λ k. getD (rowLines s y r) k []) (omega (arith, G .onward))
 
-      one-more : closed (take (line + 1) (styledLines t ws r y)) ≡ closed (take line (styledLines t ws r y)) ++ lineBytes s view y ts (lastOf (r .limit) line)
-      one-more = closed-on (styledLines t ws r y) line (omega (arith, styled-count t ws r y, rowing-less)) ∙ ap (λ l. closed (take line (styledLines t ws r y)) ++ l) (sym here)
+      module _ (i : Indicator) (M : Marks s i) (limit : ℕ) (el : limit ≡ r .limit) (last : Bool) (ea : last ≡ lastOf limit line) where
+        pub line-here : lineBytes s view (take (i .count) (i .characters)) y ts last ≡ getD (rowLines s y r) line [] ++ (10 ∷ [])
+        line-here =
+            rw (M .are, ea, el)
+            (line-styled s (tableOf s) (contents (tableOf s)) r view W line ts (G .stands .stands e) y (stands-within s view r W line more ts (G .stands) e)
+            ∙ ap (λ l. l ++ (10 ∷ [])) (sym (line-of s y r line less)))
 
-      pub rowing-room : length (closed (styledLines t ws r y)) ≤ length page₀ → at + length (lineBytes s view y ts (lastOf (r .limit) line)) ≤ length page
-      rowing-room k =
-          omega (arith, G .place, G .size, ap length one-more, length-append (closed (take line (styledLines t ws r y))) (lineBytes s view y ts (lastOf (r .limit) line)), closed-part (styledLines t ws r y) (line + 1))
+        pub line-size : (size : ℕ) → Sized s y r size → length (lineBytes s view (take (i .count) (i .characters)) y ts last) ≡ size
+        line-size size Z = ap length line-here ∙ length-append (getD (rowLines s y r) line []) (10 ∷ []) ∙ Z .each line less
 
-      pub rowing-few : length (closed (styledLines t ws r y)) ≤ length page₀ → line + 1 ≤ length page₀
-      rowing-few k = omega (arith, rowing-less, styled-count t ws r y, closed-many (styledLines t ws r y))
+        pub running-on : (size : ℕ) → Sized s y r size → size ≤ length page - at → (c ys : List ℕ) (us : List Pending) (found m : Bool) (n : ℕ)
+            → ys ≡ over (lineBytes s view (take (i .count) (i .characters)) y ts last) (take (length page - at) (drop at page)) → c ≡ putMid at (length page - at) page ys
+            → n ≡ length (lineBytes s view (take (i .count) (i .characters)) y ts last) → AfterAll s view ts us → found ≡ anyFound us (view .count)
+            → m ≡ (inLimit limit (line + 1) && found) → Running s view y r first b c us m (at + n) (line + 1)
+        running-on size Z room c ys us found m n o p q a f g =
+            let l = getD (rowLines s y r) line [] in
+            let lines = drop first (rowLines s y r) in
+            let wide : n ≡ length (getD (rowLines s y r) line []) + 1 = q ∙ ap length line-here ∙ length-append (getD (rowLines s y r) line []) (10 ∷ []) in
+            let fits : length (getD (rowLines s y r) line []) + 1 ≤ length (take (length page - at) (drop at page)) =
+            omega (arith, room, Z .each line less, ap length (lent page at), length-drop at page) in
+            let one = part-line (getD (rowLines s y r) line []) (take (length page - at) (drop at page)) ys fits
+            (o ∙ ap (λ t. over t (take (length page - at) (drop at page))) line-here) in
+            let so-far = take (line - first) (drop first (rowLines s y r)) in
+            let both = part-join (take (line - first) (drop first (rowLines s y r))) (getD (rowLines s y r) line [] ∷ []) b page c ys
+            (record { lines = line - first; bytes = at; whole = true }) (record { lines = 1; bytes = length (getD (rowLines s y r) line []) + 1; whole = true })
+            (G .part) refl one p in
+            let k : line + 1 - first ≡ suc (line - first) = omega (arith, G .onward) in
+            let grown : take (line + 1 - first) (drop first (rowLines s y r)) ≡ take (line - first) (drop first (rowLines s y r)) ++ (getD (rowLines s y r) line [] ∷ []) =
+            ap (λ j. take j (drop first (rowLines s y r))) k ∙ take-suc (drop first (rowLines s y r)) (line - first) [] left ∙ rw here-at in
+            let count : line + 1 - first ≡ line - first + 1 = omega (arith, G .onward) in
+            record {
+              onward = omega (arith, G .onward);
+              stands = stands-more s view r W line more ts (G .stands) e limit el us found m a f g;
+              part = rw (grown, count, wide) both;
+            }
 
-      pub rowing-on : (page₁ : List ℕ) (us : List Standing) (found m : Bool) (at₁ : ℕ) → length (closed (styledLines t ws r y)) ≤ length page₀
-          → page₁ ≡ putAt page at (lineBytes s view y ts (lastOf (r .limit) line)) → at₁ ≡ at + length (lineBytes s view y ts (lastOf (r .limit) line))
-          → AfterAll s view ts us → found ≡ anyFound us (view .count) → m ≡ (inLimit (r .limit) (line + 1) && found)
-          → Rowing s t ws r view y page₀ page₁ us m at₁ (line + 1)
-      rowing-on page₁ us found m at₁ k p q a f g =
-          let L = styledLines t ws r y in
-          let B = lineBytes s view y ts (lastOf (r .limit) line) in
-          let R = stands-after s t ws r view line ts us (G .stands) a in
-          let h = height-has s t ws r view W (line + 1) us R in
-          let d : page₁ ≡ over (closed (take (line + 1) L)) page₀ =
-          p ∙ ap (λ u. putAt u at B) (G .text) ∙ over-put (closed (take line L)) page₀ B at (sym (G .place)) ∙ ap (λ l. over l page₀) (sym one-more) in
-          record {
-            stands = R;
-            has = g ∙ rw f (sym h);
-            within = omega (arith, rowing-less);
-            place = q ∙ omega (arith, G .place, ap length one-more, length-append (closed (take line L)) B);
-            text = d;
-            size = ap length d ∙ length-over (closed (take (line + 1) L)) page₀ (omega (arith, closed-part L (line + 1)));
-          }
+    -- the row has no further line
+    pub running-ends : more ≡ false → PartIs (drop first (rowLines s y r)) b page (record { lines = line - first; bytes = at; whole = true })
+    running-ends e =
+        let h = ltb-false line (rowHeight s r) (sym (G .stands .has) ∙ e) in
+        let all : take (line - first) (drop first (rowLines s y r)) ≡ drop first (rowLines s y r) =
+        take-all (line - first) (drop first (rowLines s y r)) (omega (arith, lines-count s y r, length-drop first (rowLines s y r))) in
+        rw all at (G .part)
 
-    pub rowing-done : more ≡ false → (at ≡ length (closed (styledLines t ws r y))) × (page ≡ over (closed (styledLines t ws r y)) page₀)
-    rowing-done e =
-        let L = styledLines t ws r y in
-        let z : take line L ≡ L = take-all line L (omega (arith, styled-count t ws r y, ltb-false line (height t ws r) (sym (G .has) ∙ e))) in
-        (G .place ∙ ap (λ l. length (closed l)) z, G .text ∙ ap (λ l. over (closed l) page₀) z)
+    -- there is no room for it
+    pub running-full : more ≡ true → (size : ℕ) → Sized s y r size → length page - at < size
+        → PartIs (drop first (rowLines s y r)) b page (record { lines = line - first; bytes = at; whole = false })
+    running-full e size Z h =
+        let lines = drop first (rowLines s y r) in
+        let rest = drop (suc (line - first)) (drop first (rowLines s y r)) in
+        let next : drop (line - first) (drop first (rowLines s y r)) ≡ getD (rowLines s y r) line [] ∷ drop (suc (line - first)) (drop first (rowLines s y r)) =
+        drop-cons (drop first (rowLines s y r)) (line - first) [] (left e) ∙ rw (here-at e) in
+        let whole : drop first (rowLines s y r)
+        ≡ take (line - first) (drop first (rowLines s y r)) ++ (getD (rowLines s y r) line [] ∷ drop (suc (line - first)) (drop first (rowLines s y r))) =
+        sym (take-append-drop (line - first) (drop first (rowLines s y r))) ∙ rw next in
+        let none = part-full (getD (rowLines s y r) line []) (drop (suc (line - first)) (drop first (rowLines s y r))) (take (length page - at) (drop at page))
+        (omega (arith, Z .each line (less e), ap length (lent page at), length-drop at page)) in
+        let both = part-join (take (line - first) (drop first (rowLines s y r))) (getD (rowLines s y r) line [] ∷ drop (suc (line - first)) (drop first (rowLines s y r)))
+        b page page (take (length page - at) (drop at page)) (record { lines = line - first; bytes = at; whole = true }) (record { lines = 0; bytes = 0; whole = false })
+        (G .part) refl none (sym (lent-same page at running-room)) in
+        let z : at + 0 ≡ at = omega arith in
+        let w : line - first + 0 ≡ line - first = omega arith in
+        subst (λ (ls : List (List ℕ)). PartIs ls b page (record { lines = line - first; bytes = at; whole = false })) (sym whole) (rw (z, w) at both)
 
--- the bytes of a sheet's row are its lines'
-pub row-bytes : (s : List ℕ) (y : TextStyle) (c : Rows) (r : records.Row) → RowIs s c r → rowBytes s y c ≡ closed (styledLines (tableOf s) (contents (tableOf s)) (rowOf s r) y)
-unfolding rowBytes
-row-bytes s y c r R = ap (λ x. closed (styledLines (tableOf s) (contents (tableOf s)) x y)) (sym (row-is s c r R))
+    -- what has been drawn where the loop ends
+    pub running-done : (size : ℕ) → Sized s y r size → (t : Bool) → t ≡ (more && leb size (length page - at)) → t ≡ false
+        → PartIs (drop first (rowLines s y r)) b page (record { lines = line - first; bytes = at; whole = not more })
+    running-done size Z t e f = by more refl
+      where
+        by : (m : Bool) → more ≡ m → PartIs (drop first (rowLines s y r)) b page (record { lines = line - first; bytes = at; whole = not m })
+        by true q = running-full q size Z (leb-false size (length page - at) (sym (rw q at e) ∙ f))
+        by false q = running-ends q
 
--- a line is its left edge, its columns, and its right edge with its 0A
-pub line-put : (s : List ℕ) (view : View) (y : TextStyle) (ts : List Standing) (last : Bool) (d d₁ d₂ d₃ : List ℕ) (a p q : ℕ) → d₁ ≡ putAt d a (edge (y .opens) (y .left))
-    → d₂ ≡ putAt d₁ p (build (linePiece s view y ts last) (view .count)) → d₃ ≡ putAt d₂ q (edge (y .closes) (y .right) ++ (10 ∷ []))
-    → a + length (edge (y .opens) (y .left)) ≡ p → p + length (build (linePiece s view y ts last) (view .count)) ≡ q → a ≤ length d → d₃ ≡ putAt d a (lineBytes s view y ts last)
-line-put s view y ts last d d₁ d₂ d₃ a p q e₁ e₂ e₃ x z h =
-    let l = edge (y .opens) (y .left) in
-    let b = build (linePiece s view y ts last) (view .count) in
-    let c = edge (y .closes) (y .right) ++ (10 ∷ []) in
-    let f : d₂ ≡ putAt d a (l ++ b) = two d a l b d₁ d₂ p e₁ e₂ x h in
-    two d a (l ++ b) c d₂ d₃ q f e₃ (omega (arith, length-append l b)) h ∙ ap (putAt d a) (append-assoc l b c ∙ sym (line-is s view y ts last))
+-- ---- the loop's test
+
+pub goes : (more b : Bool) (size room : ℕ) → b ≡ (more && leb size room) → b ≡ true → (more ≡ true) × (size ≤ room)
+goes more b size room e h = (first-true more (leb size room) (sym e ∙ h), leb-true size room (second-true more (leb size room) (sym e ∙ h)))

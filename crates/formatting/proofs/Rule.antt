@@ -6,9 +6,8 @@ use native.Mathlib.Omega.{arith}
 use lib.ListN.{length, set, length-append, length-replicate}
 use Rattle.buffer.specs.Put.{over, putAt, build, edge}
 use Rattle.buffer.proofs.Laws.{put-nil, put-one, over-put-zero, build-room, build-more}
-use Rattle.formatting.specs.Line.{shownAt, lead}
+use Rattle.formatting.specs.Line.{View, visibleAt, lead}
 use Rattle.formatting.specs.Rule.{ruleArea, rulePiece, ruleBytes}
-use Rattle.formatting.specs.declared.content_format.View.{View}
 use Rattle.formatting.specs.declared.borders.RuleStyle.{RuleStyle}
 use Rattle.formatting.proofs.Area.{two}
 
@@ -52,19 +51,19 @@ module _ (view : View) (style : RuleStyle) (page₀ : List ℕ) (at₀ : ℕ) wh
   ruling-begins = record { within = omega arith; place = omega arith; text = sym (put-nil page₀ at₀); size = refl }
 
   module _ (page : List ℕ) (at i : ℕ) (D : Ruling view style page₀ at₀ page at i) (h : i < view .count) where
-    here-length : length (rulePiece view style i) ≡ length (edge (lead i (style .joined)) (style .junction)) + (shownAt view i .left + (shownAt view i .width + shownAt view i .right))
+    here-length : length (rulePiece view style i) ≡ length (edge (lead i (style .joined)) (style .junction)) + (visibleAt view i .left + (visibleAt view i .width + visibleAt view i .right))
     unfolding rulePiece
     here-length =
-        length-append (edge (lead i (style .joined)) (style .junction)) (ruleArea (shownAt view i) (style .fill))
-        ∙ ap (λ n. length (edge (lead i (style .joined)) (style .junction)) + n) (length-replicate (shownAt view i .left + (shownAt view i .width + shownAt view i .right)) (style .fill))
+        length-append (edge (lead i (style .joined)) (style .junction)) (ruleArea (visibleAt view i) (style .fill))
+        ∙ ap (λ n. length (edge (lead i (style .joined)) (style .junction)) + n) (length-replicate (visibleAt view i .left + (visibleAt view i .width + visibleAt view i .right)) (style .fill))
 
     pub ruling-room : at₀ + length (build (rulePiece view style) (view .count)) ≤ length page₀
-        → at + (length (edge (lead i (style .joined)) (style .junction)) + (shownAt view i .left + (shownAt view i .width + shownAt view i .right))) ≤ length page
+        → at + (length (edge (lead i (style .joined)) (style .junction)) + (visibleAt view i .left + (visibleAt view i .width + visibleAt view i .right))) ≤ length page
     ruling-room r = omega (arith, D .place, D .size, here-length, build-room (rulePiece view style) i (view .count) h)
 
     pub ruling-on : (page₁ : List ℕ) (at₁ : ℕ) → at₀ + length (build (rulePiece view style) (view .count)) ≤ length page₀
-        → at₁ ≡ at + (length (edge (lead i (style .joined)) (style .junction)) + (shownAt view i .left + (shownAt view i .width + shownAt view i .right)))
-        → page₁ ≡ putAt page at (edge (lead i (style .joined)) (style .junction) ++ ruleArea (shownAt view i) (style .fill))
+        → at₁ ≡ at + (length (edge (lead i (style .joined)) (style .junction)) + (visibleAt view i .left + (visibleAt view i .width + visibleAt view i .right)))
+        → page₁ ≡ putAt page at (edge (lead i (style .joined)) (style .junction) ++ ruleArea (visibleAt view i) (style .fill))
         → length page₁ ≡ length page → Ruling view style page₀ at₀ page₁ at₁ (i + 1)
     unfolding rulePiece
     ruling-on page₁ at₁ r e w l =

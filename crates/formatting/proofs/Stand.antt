@@ -1,4 +1,4 @@
--- What stands ready for a row is what the document's rules say: its lines, its cut, its height. Assumes nothing.
+-- What is pending for a row is what the document's rules say: its lines, its cut, its height. Assumes nothing.
 use Prim.Native.Nat.{ℕ, zero, suc, _+_, _-_, _≤_, _<_}
 use mathlib.Core.Path.{_≡_, refl, sym, ap, _∙_}
 use mathlib.Core.List.{List, [], _∷_, _++_}
@@ -11,70 +11,77 @@ use borrow.Author.Tests.{ltb-true, ltb-false, lt-ltb, le-ltb, eq-eqb, ne-eqb, eq
 use Rattle.rules.specs.Sheet.{Row, Table, columnAt, cellAt}
 use Rattle.rules.specs.Wrap.{exceeds, cutLine, cut}
 use Rattle.rules.specs.Page.{area, areaAt, alignmentOf, wrapped, cellLines, height}
-use Rattle.cells.specs.Cell.{part}
-use Rattle.formatting.specs.Area.{areaIn, shownText, After, following, columnPiece}
-use Rattle.formatting.specs.Line.{Ready, shownAt, indicatorOf}
+use Rattle.cells.specs.Cell.{FirstOf}
+use Rattle.formatting.specs.Area.{areaIn, pendingText, shownText, After, following, columnPiece}
+use Rattle.formatting.specs.Line.{View, Ready, visibleAt}
 use Rattle.formatting.specs.Stand.{shownOf, numberOf, Views, remaining, Stands, StandsCell, inLimit, lastOf}
-use Rattle.formatting.specs.declared.content_format.Shown.{Shown}
-use Rattle.formatting.specs.declared.content_format.Standing.{Standing}
-use Rattle.formatting.specs.declared.content_format.View.{View}
+use Rattle.formatting.specs.declared.content_format.VisibleColumn.{VisibleColumn}
+use Rattle.formatting.specs.declared.content_format.Pending.{Pending}
 
 -- ---- one cell
 
--- a cell whose following lines are known, at the next of them
-pub stands-next : (s : List ℕ) (v : Shown) (ls : List (List ℕ)) (j : ℕ) (t r : Standing) → 0 < v .width → following s (v .width) t ≡ drop j ls → After s (v .width) t r → Stands s v ls j r
+-- the first of some lines is pending, those being a cell's from j on
+pub stands-next : (s : List ℕ) (v : VisibleColumn) (ls : List (List ℕ)) (j d : ℕ) (next : List (List ℕ)) (r : Pending)
+    → 0 < v .width → next ≡ drop j ls → FirstOf s (v .width) d next (r .line) → r .delimiter ≡ d → Stands s v ls j r
 unfolding remaining
-stands-next s v ls j t r wide next a = go (following s (v .width) t) refl
+stands-next s v ls j d next r wide e a f = go next refl
   where
     ready : Ready s v r
-    ready = record { wide = wide; line = a .ready; inside = a .inside }
+    ready = record {
+      wide = wide;
+      line = record { ends = a .inside .ends; order = a .order; within = a .within; fits = a .fits };
+      inside = a .inside;
+    }
 
-    go : (f : List (List ℕ)) → following s (v .width) t ≡ f → Stands s v ls j r
-    go [] e =
-        let n : r .found ≡ false = a .found ∙ rw e in
-        let p : part s (r .start) (r .end) ≡ [] = sym (a .first) ∙ rw e in
-        let q : following s (v .width) r ≡ [] = sym (a .others) ∙ rw e in
-        record { lines = rw (n, remaining) (sym (sym next ∙ e)); none = λ x. (q, p); ready = ready }
-    go (x ∷ f) e =
-        let n : r .found ≡ true = a .found ∙ rw (e, lt-ltb 0 (suc (length f)) (omega arith)) in
-        let p : x ≡ part s (r .start) (r .end) = sym (rw e) ∙ a .first in
-        let q : following s (v .width) r ≡ f = sym (a .others) ∙ rw e in
+    others : following s (v .width) r ≡ drop 1 next
+    others = rw f (sym (a .others))
+
+    go : (l : List (List ℕ)) → next ≡ l → Stands s v ls j r
+    go [] q =
+        let n : r .line .found ≡ false = a .found ∙ rw q in
+        let p : pendingText s r ≡ [] = sym (a .first) ∙ rw q in
+        let o : following s (v .width) r ≡ [] = others ∙ rw q in
+        record { lines = rw (n, remaining) (sym (sym e ∙ q)); none = λ x. (o, p); ready = ready }
+    go (x ∷ l) q =
+        let n : r .line .found ≡ true = a .found ∙ rw (q, lt-ltb 0 (suc (length l)) (omega arith)) in
+        let p : x ≡ pendingText s r = sym (rw q) ∙ a .first in
+        let o : following s (v .width) r ≡ l = others ∙ rw q in
         record {
-          lines = rw (n, remaining) (sym (sym next ∙ e ∙ rw (p, q)));
+          lines = rw (n, remaining) (sym (sym e ∙ q ∙ rw (p, o)));
           none = λ y. let z : _≡_ {A = ℕ} 0 1 = cc in absurd (omega arith);
           ready = ready;
         }
 
-module _ (s : List ℕ) (v : Shown) (ls : List (List ℕ)) (j : ℕ) (t : Standing) (S : Stands s v ls j t) where
-  remains-found : t .found ≡ true → drop j ls ≡ part s (t .start) (t .end) ∷ following s (v .width) t
+module _ (s : List ℕ) (v : VisibleColumn) (ls : List (List ℕ)) (j : ℕ) (t : Pending) (S : Stands s v ls j t) where
+  remains-found : t .line .found ≡ true → drop j ls ≡ pendingText s t ∷ following s (v .width) t
   unfolding remaining
   remains-found e = sym (S .lines) ∙ rw (e, remaining)
 
-  remains-none : t .found ≡ false → drop j ls ≡ []
+  remains-none : t .line .found ≡ false → drop j ls ≡ []
   unfolding remaining
   remains-none e = sym (S .lines) ∙ rw (e, remaining)
 
   first-of : getD ls j [] ≡ getD (drop j ls) 0 []
   first-of = sym (getD-drop j ls 0 [] ∙ ap (λ i. getD ls i []) (omega arith))
 
-  -- the line that stands ready, blank where there is none
-  pub stands-line : getD ls j [] ≡ part s (t .start) (t .end)
-  stands-line = go (t .found) refl
+  -- the pending line, blank where there is none
+  pub stands-line : getD ls j [] ≡ pendingText s t
+  stands-line = go (t .line .found) refl
     where
-      go : (b : Bool) → t .found ≡ b → getD ls j [] ≡ part s (t .start) (t .end)
+      go : (b : Bool) → t .line .found ≡ b → getD ls j [] ≡ pendingText s t
       go true e = first-of ∙ rw (remains-found e)
       go false e = first-of ∙ rw (remains-none e) (sym (S .none e .1))
 
-  pub stands-found : t .found ≡ ltb j (length ls)
-  stands-found = go (t .found) refl
+  pub stands-found : t .line .found ≡ ltb j (length ls)
+  stands-found = go (t .line .found) refl
     where
-      go : (b : Bool) → t .found ≡ b → t .found ≡ ltb j (length ls)
+      go : (b : Bool) → t .line .found ≡ b → t .line .found ≡ ltb j (length ls)
       go true e = e ∙ sym (lt-ltb j (length ls) (omega (arith, length-drop j ls, ap length (remains-found e))))
       go false e = e ∙ sym (le-ltb j (length ls) (omega (arith, length-drop j ls, ap length (remains-none e))))
 
   -- another line follows
   pub stands-follows : ltb 0 (length (following s (v .width) t)) ≡ ltb (j + 1) (length ls)
-  stands-follows = go (t .found) refl
+  stands-follows = go (t .line .found) refl
     where
       n : ℕ
       n = length (following s (v .width) t)
@@ -83,15 +90,15 @@ module _ (s : List ℕ) (v : Shown) (ls : List (List ℕ)) (j : ℕ) (t : Standi
       by true e q = e ∙ sym (lt-ltb (j + 1) (length ls) (omega (arith, ltb-true 0 n e)))
       by false e q = e ∙ sym (le-ltb (j + 1) (length ls) (omega (arith, ltb-false 0 n e)))
 
-      go : (b : Bool) → t .found ≡ b → ltb 0 n ≡ ltb (j + 1) (length ls)
+      go : (b : Bool) → t .line .found ≡ b → ltb 0 n ≡ ltb (j + 1) (length ls)
       go true e = by (ltb 0 n) refl (omega (arith, length-drop j ls, ap length (remains-found e)))
       go false e = le-ltb 0 n (omega (arith, ap length (S .none e .0))) ∙ sym (le-ltb (j + 1) (length ls) (omega (arith, length-drop j ls, ap length (remains-none e))))
 
   -- the next line
-  pub stands-on : (r : Standing) → After s (v .width) t r → Stands s v ls (j + 1) r
-  stands-on r a = stands-next s v ls (j + 1) t r (S .ready .wide) (by (t .found) refl) a
+  pub stands-on : (r : Pending) → After s (v .width) t r → Stands s v ls (j + 1) r
+  stands-on r a = stands-next s v ls (j + 1) (t .delimiter) (following s (v .width) t) r (S .ready .wide) (by (t .line .found) refl) (a .line) (a .delimiter)
     where
-      by : (b : Bool) → t .found ≡ b → following s (v .width) t ≡ drop (j + 1) ls
+      by : (b : Bool) → t .line .found ≡ b → following s (v .width) t ≡ drop (j + 1) ls
       by true e = sym (rw (← drop-drop 1 j ls, remains-found e))
       by false e = S .none e .0 ∙ sym (rw (← drop-drop 1 j ls, remains-none e))
 
@@ -173,7 +180,7 @@ last-line (suc l) line h = go (eqb line (suc l - 1)) refl
 
 -- ---- one column of a row
 
-text-shown : (s : List ℕ) (w : ℕ) (ind : List ℕ) (b : Bool) (t : Standing) (l : List ℕ) → l ≡ part s (t .start) (t .end)
+text-shown : (s : List ℕ) (w : ℕ) (ind : List ℕ) (b : Bool) (t : Pending) (l : List ℕ) → l ≡ pendingText s t
     → shownText s w ind b t ≡ elim b [ true ↦ cutLine w ind l | false ↦ l ]
 unfolding shownText
 text-shown s w ind true t l e = rw e
@@ -189,21 +196,21 @@ area-in t ws j a l = refl
 
 module _ (s : List ℕ) (t : Table) (ws : List ℕ) (r : Row) (view : View) (W : Views t ws view) (j : ℕ) where
   -- a column's piece of line j is the document's area
-  pub piece-area : (i : ℕ) (st : Standing) → i < view .count → StandsCell s t ws r (shownAt view i) i j st → inLimit (r .limit) j ≡ true
-      → columnPiece s (shownAt view i) st (indicatorOf view) (lastOf (r .limit) j) ≡ areaAt t ws r j (numberOf t i)
+  pub piece-area : (i : ℕ) (st : Pending) → i < view .count → StandsCell s t ws r (visibleAt view i) i j st → inLimit (r .limit) j ≡ true
+      → columnPiece s (visibleAt view i) st (t .indicator) (lastOf (r .limit) j) ≡ areaAt t ws r j (numberOf t i)
   unfolding columnPiece areaAt cellLines
   piece-area i st h C e =
-      let v = shownAt view i in
+      let v = visibleAt view i in
       let ls = wrapped t ws r (numberOf t i) in
       let x : v ≡ shownOf t ws (numberOf t i) = W .each i h in
-      let w : v .width ≡ getD ws (numberOf t i) 0 = ap (λ (u : Shown). u .width) x ∙ shown-wide t ws (numberOf t i) in
+      let w : v .width ≡ getD ws (numberOf t i) 0 = ap (λ (u : VisibleColumn). u .width) x ∙ shown-wide t ws (numberOf t i) in
       let f = stands-follows s v ls j st (C .stands) in
       let l = stands-line s v ls j st (C .stands) in
-      let y : shownText s (v .width) (indicatorOf view) (lastOf (r .limit) j && ltb 0 (length (following s (v .width) st))) st ≡ getD (cut (v .width) (indicatorOf view) (r .limit) ls) j [] =
-      ap (λ b. shownText s (v .width) (indicatorOf view) (lastOf (r .limit) j && b) st) f
-      ∙ text-shown s (v .width) (indicatorOf view) (lastOf (r .limit) j && ltb (j + 1) (length ls)) st (getD ls j []) l
-      ∙ sym (cut-at (v .width) (indicatorOf view) (r .limit) j ls e) in
+      let y : shownText s (v .width) (t .indicator) (lastOf (r .limit) j && ltb 0 (length (following s (v .width) st))) st ≡ getD (cut (v .width) (t .indicator) (r .limit) ls) j [] =
+      ap (λ b. shownText s (v .width) (t .indicator) (lastOf (r .limit) j && b) st) f
+      ∙ text-shown s (v .width) (t .indicator) (lastOf (r .limit) j && ltb (j + 1) (length ls)) st (getD ls j []) l
+      ∙ sym (cut-at (v .width) (t .indicator) (r .limit) j ls e) in
       ap (areaIn v (st .alignment)) y
-      ∙ rw (C .alignment, w, W .indicator)
+      ∙ rw (C .alignment, w)
       (ap (λ u. areaIn u (alignmentOf (columnAt t (numberOf t i)) (cellAt r (numberOf t i))) (getD (cut (getD ws (numberOf t i) 0) (t .indicator) (r .limit) ls) j [])) x
       ∙ area-in t ws (numberOf t i) (alignmentOf (columnAt t (numberOf t i)) (cellAt r (numberOf t i))) (getD (cut (getD ws (numberOf t i) 0) (t .indicator) (r .limit) ls) j []))

@@ -16,14 +16,13 @@ use Rattle.rules.specs.Page.{areaAt, cellLines, wrapped, height, joined, joined
 use Rattle.rules.proofs.Lists.{upFrom-last, length-upFrom}
 use Rattle.buffer.specs.Put.{build, edge}
 use Rattle.formatting.specs.Area.{columnPiece}
-use Rattle.formatting.specs.Line.{lead, shownAt, standingAt, indicatorOf, linePiece, lineBytes, anyFound, AfterAll, ReadyAll}
+use Rattle.formatting.specs.Line.{View, lead, visibleAt, pendingAt, linePiece, lineBytes, anyFound, AfterAll, ReadyAll}
 use Rattle.formatting.specs.Rule.{ruleArea, rulePiece, ruleBytes}
 use Rattle.formatting.specs.Open.{OpenedAt, OpenedRow}
 use Rattle.formatting.specs.RowText.{styled}
 use Rattle.formatting.specs.Stand.{shownOf, numberOf, Views, StandsCell, StandsRow, inLimit, lastOf, textStyleOf, ruleStyleOf}
-use Rattle.formatting.specs.declared.content_format.Shown.{Shown}
-use Rattle.formatting.specs.declared.content_format.Standing.{Standing}
-use Rattle.formatting.specs.declared.content_format.View.{View}
+use Rattle.formatting.specs.declared.content_format.VisibleColumn.{VisibleColumn}
+use Rattle.formatting.specs.declared.content_format.Pending.{Pending}
 use Rattle.formatting.specs.declared.content_format.TextStyle.{TextStyle}
 use Rattle.formatting.proofs.Stand.{piece-area, stands-found, cut-has, stands-on}
 
@@ -91,25 +90,25 @@ pub styled-text : (S : List ℕ) (k : ℕ) (ps : List (List ℕ)) → styled (te
 unfolding styled textStyleOf textLine
 styled-text S k ps = rw (edge-same (anyLeft S) (glyphAt S k), edge-same (anyJunction S) (glyphAt S (k + 1)), edge-same (anyRight S) (glyphAt S (k + 2)))
 
-module _ (s : List ℕ) (t : Table) (ws : List ℕ) (r : Row) (view : View) (W : Views t ws view) (j : ℕ) (ts : List Standing) (R : StandsRow s t ws r view j ts) where
+module _ (s : List ℕ) (t : Table) (ws : List ℕ) (r : Row) (view : View) (W : Views t ws view) (j : ℕ) (ts : List Pending) (R : StandsRow s t ws r view j ts) where
   pub line-styled : (y : TextStyle) → inLimit (r .limit) j ≡ true
-      → lineBytes s view y ts (lastOf (r .limit) j) ≡ styled y (map (areaAt t ws r j) (visible t)) ++ (10 ∷ [])
+      → lineBytes s view (t .indicator) y ts (lastOf (r .limit) j) ≡ styled y (map (areaAt t ws r j) (visible t)) ++ (10 ∷ [])
   unfolding lineBytes linePiece styled lineOf
   line-styled y e =
       let g : ℕ → List ℕ = λ i. areaAt t ws r j (numberOf t i) in
-      let p : build (λ i. edge (lead i (y .joined)) (y .junction) ++ columnPiece s (shownAt view i) (standingAt ts i) (indicatorOf view) (lastOf (r .limit) j)) (view .count)
+      let p : build (λ i. edge (lead i (y .joined)) (y .junction) ++ columnPiece s (visibleAt view i) (pendingAt ts i) (t .indicator) (lastOf (r .limit) j)) (view .count)
       ≡ build (λ i. edge (lead i (y .joined)) (y .junction) ++ g i) (view .count) =
-      build-same _ _ (view .count) (λ i h. ap (λ l. edge (lead i (y .joined)) (y .junction) ++ l) (piece-area s t ws r view W j i (standingAt ts i) h (R .each i h) e)) in
+      build-same _ _ (view .count) (λ i h. ap (λ l. edge (lead i (y .joined)) (y .junction) ++ l) (piece-area s t ws r view W j i (pendingAt ts i) h (R .each i h) e)) in
       let q : map (areaAt t ws r j) (visible t) ≡ map g (upFrom 0 (view .count)) = map-numbered (areaAt t ws r j) 0 (visible t) ∙ ap (λ n. map g (upFrom 0 n)) (sym (W .count)) in
       rw (p, build-joined (y .joined) (y .junction) g (view .count), q) (simp append-assoc)
 
   pub line-drawn : (S : List ℕ) (k : ℕ) → inLimit (r .limit) j ≡ true
-      → lineBytes s view (textStyleOf S k) ts (lastOf (r .limit) j) ≡ textLine S k (map (areaAt t ws r j) (visible t)) ++ (10 ∷ [])
+      → lineBytes s view (t .indicator) (textStyleOf S k) ts (lastOf (r .limit) j) ≡ textLine S k (map (areaAt t ws r j) (visible t)) ++ (10 ∷ [])
   line-drawn S k e = line-styled (textStyleOf S k) e ∙ ap (λ l. l ++ (10 ∷ [])) (styled-text S k (map (areaAt t ws r j) (visible t)))
 
 -- ---- a border or a rule
 
-area-fill : (t : Table) (ws : List ℕ) (j f : ℕ) (v : Shown) → v ≡ shownOf t ws j → ruleArea v f ≡ replicate (visibleWidth t ws j) f
+area-fill : (t : Table) (ws : List ℕ) (j f : ℕ) (v : VisibleColumn) → v ≡ shownOf t ws j → ruleArea v f ≡ replicate (visibleWidth t ws j) f
 unfolding shownOf
 area-fill t ws j f v e =
     let z : columnAt t j .left + (getD ws j 0 + columnAt t j .right) ≡ visibleWidth t ws j = omega arith in
@@ -122,8 +121,8 @@ rule-drawn t ws view W S always k =
     let b = always || anyJunction S in
     let f = glyph (glyphAt S (k + 1)) in
     let g : ℕ → List ℕ = λ i. replicate (visibleWidth t ws (numberOf t i)) f in
-    let p : build (λ i. edge (lead i b) (glyph (glyphAt S (k + 2))) ++ ruleArea (shownAt view i) f) (view .count) ≡ build (λ i. edge (lead i b) (glyph (glyphAt S (k + 2))) ++ g i) (view .count) =
-    build-same _ _ (view .count) (λ i h. ap (λ l. edge (lead i b) (glyph (glyphAt S (k + 2))) ++ l) (area-fill t ws (numberOf t i) f (shownAt view i) (W .each i h))) in
+    let p : build (λ i. edge (lead i b) (glyph (glyphAt S (k + 2))) ++ ruleArea (visibleAt view i) f) (view .count) ≡ build (λ i. edge (lead i b) (glyph (glyphAt S (k + 2))) ++ g i) (view .count) =
+    build-same _ _ (view .count) (λ i h. ap (λ l. edge (lead i b) (glyph (glyphAt S (k + 2))) ++ l) (area-fill t ws (numberOf t i) f (visibleAt view i) (W .each i h))) in
     let q : map (λ v. replicate v f) (map (visibleWidth t ws) (visible t)) ≡ map g (upFrom 0 (view .count)) =
     map-map (visibleWidth t ws) (λ v. replicate v f) (visible t) ∙ map-numbered (λ j. replicate (visibleWidth t ws j) f) 0 (visible t) ∙ ap (λ n. map g (upFrom 0 n)) (sym (W .count)) in
     rw (p, build-joined b (glyph (glyphAt S (k + 2))) g (view .count), q, edge-same (anyLeft S) (glyphAt S k), edge-same b (glyphAt S (k + 2)), edge-same (anyRight S) (glyphAt S (k + 3)))
@@ -163,15 +162,15 @@ unfolding height
 height-numbered t ws r view W =
     ap greatest (map-numbered (λ c. length (cellLines t ws r c)) 0 (visible t) ∙ ap (λ n. map (λ i. length (cellLines t ws r (numberOf t i))) (upFrom 0 n)) (sym (W .count)))
 
-module _ (s : List ℕ) (t : Table) (ws : List ℕ) (r : Row) (view : View) (W : Views t ws view) (j : ℕ) (ts : List Standing) (R : StandsRow s t ws r view j ts) where
+module _ (s : List ℕ) (t : Table) (ws : List ℕ) (r : Row) (view : View) (W : Views t ws view) (j : ℕ) (ts : List Pending) (R : StandsRow s t ws r view j ts) where
   lines-of : ℕ → ℕ
   lines-of i = length (cellLines t ws r (numberOf t i))
 
-  column-has : (i : ℕ) → i < view .count → ltb j (lines-of i) ≡ (inLimit (r .limit) j && standingAt ts i .found)
+  column-has : (i : ℕ) → i < view .count → ltb j (lines-of i) ≡ (inLimit (r .limit) j && pendingAt ts i .line .found)
   unfolding lines-of cellLines
   column-has i h =
       cut-has (getD ws (numberOf t i) 0) (t .indicator) (r .limit) j (wrapped t ws r (numberOf t i))
-      ∙ ap (λ b. inLimit (r .limit) j && b) (sym (stands-found s (shownAt view i) (wrapped t ws r (numberOf t i)) j (standingAt ts i) (R .each i h .stands)))
+      ∙ ap (λ b. inLimit (r .limit) j && b) (sym (stands-found s (visibleAt view i) (wrapped t ws r (numberOf t i)) j (pendingAt ts i) (R .each i h .stands)))
 
   up-to : (n : ℕ) → n ≤ view .count → ltb j (greatest (map lines-of (upFrom 0 n))) ≡ (inLimit (r .limit) j && anyFound ts n)
   unfolding anyFound
@@ -183,23 +182,23 @@ module _ (s : List ℕ) (t : Table) (ws : List ℕ) (r : Row) (view : View) (W :
   up-to (suc n) h =
       ap (ltb j) (ap greatest (map-up lines-of n) ∙ greatest-snoc (map lines-of (upFrom 0 n)) (lines-of n))
       ∙ below-max j (greatest (map lines-of (upFrom 0 n))) (lines-of n)
-      ∙ rw (up-to n (omega arith), column-has n (omega arith)) (both-either (inLimit (r .limit) j) (anyFound ts n) (standingAt ts n .found))
+      ∙ rw (up-to n (omega arith), column-has n (omega arith)) (both-either (inLimit (r .limit) j) (anyFound ts n) (pendingAt ts n .line .found))
 
-  -- a row has line j if the limit leaves it and it stands ready in some visible column
+  -- a row has line j if the limit leaves it and it is pending in some visible column
   pub height-has : ltb j (height t ws r) ≡ (inLimit (r .limit) j && anyFound ts (view .count))
   unfolding lines-of
   height-has = ap (ltb j) (height-numbered t ws r view W) ∙ up-to (view .count) (omega arith)
 
 -- ---- a row opened
 
-opened-cell : (s : List ℕ) (t : Table) (ws : List ℕ) (r : Row) (i : ℕ) (v : Shown) (st : Standing) → v ≡ shownOf t ws (numberOf t i) → OpenedAt s (getD (r .cells) (v .number) noCell) v st
+opened-cell : (s : List ℕ) (t : Table) (ws : List ℕ) (r : Row) (i : ℕ) (v : VisibleColumn) (st : Pending) → v ≡ shownOf t ws (numberOf t i) → OpenedAt s (getD (r .cells) (v .number) noCell) v st
     → StandsCell s t ws r v i 0 st
 unfolding shownOf wrapped
 opened-cell s t ws r i v st e o =
-    let n : v .number ≡ numberOf t i = ap (λ (u : Shown). u .number) e in
-    let w : v .width ≡ getD ws (numberOf t i) 0 = ap (λ (u : Shown). u .width) e in
-    let d : v .delimiter ≡ orElse (columnAt t (numberOf t i) .delimiter) (orElse (t .delimiter) 32) = ap (λ (u : Shown). u .delimiter) e in
-    let a : v .alignment ≡ orElse (columnAt t (numberOf t i) .alignment) 1 = ap (λ (u : Shown). u .alignment) e in
+    let n : v .number ≡ numberOf t i = ap (λ (u : VisibleColumn). u .number) e in
+    let w : v .width ≡ getD ws (numberOf t i) 0 = ap (λ (u : VisibleColumn). u .width) e in
+    let d : v .delimiter ≡ orElse (columnAt t (numberOf t i) .delimiter) (orElse (t .delimiter) 32) = ap (λ (u : VisibleColumn). u .delimiter) e in
+    let a : v .alignment ≡ orElse (columnAt t (numberOf t i) .alignment) 1 = ap (λ (u : VisibleColumn). u .alignment) e in
     let x = cellAt r (numberOf t i) in
     let y : getD (r .cells) (v .number) noCell ≡ x = ap (λ k. getD (r .cells) k noCell) n in
     record {
@@ -208,23 +207,23 @@ opened-cell s t ws r i v st e o =
       alignment = o .alignment ∙ rw (a, y);
     }
 
-pub opened-stands : (s : List ℕ) (t : Table) (ws : List ℕ) (r : Row) (view : View) (ts : List Standing) → Views t ws view → OpenedRow s (r .cells) view ts → StandsRow s t ws r view 0 ts
-opened-stands s t ws r view ts W o = record { size = o .size; each = λ i h. opened-cell s t ws r i (shownAt view i) (standingAt ts i) (W .each i h) (o .each i h) }
+pub opened-stands : (s : List ℕ) (t : Table) (ws : List ℕ) (r : Row) (view : View) (ts : List Pending) → Views t ws view → OpenedRow s (r .cells) view ts → StandsRow s t ws r view 0 ts
+opened-stands s t ws r view ts W o = record { size = o .size; each = λ i h. opened-cell s t ws r i (visibleAt view i) (pendingAt ts i) (W .each i h) (o .each i h) }
 
 -- the next line of a row
-pub stands-after : (s : List ℕ) (t : Table) (ws : List ℕ) (r : Row) (view : View) (j : ℕ) (ts us : List Standing) → StandsRow s t ws r view j ts → AfterAll s view ts us → StandsRow s t ws r view (j + 1) us
+pub stands-after : (s : List ℕ) (t : Table) (ws : List ℕ) (r : Row) (view : View) (j : ℕ) (ts us : List Pending) → StandsRow s t ws r view j ts → AfterAll s view ts us → StandsRow s t ws r view (j + 1) us
 stands-after s t ws r view j ts us R A = record {
   size = A .size;
   each = λ i h.
       let c = R .each i h in
       let a = A .each i h in
       record {
-        stands = stands-on s (shownAt view i) (wrapped t ws r (numberOf t i)) j (standingAt ts i) (c .stands) (standingAt us i) a;
+        stands = stands-on s (visibleAt view i) (wrapped t ws r (numberOf t i)) j (pendingAt ts i) (c .stands) (pendingAt us i) a;
         delimiter = a .delimiter ∙ c .delimiter;
         alignment = a .alignment ∙ c .alignment;
       };
 }
 
--- what stands ready can be drawn
-pub stands-ready : (s : List ℕ) (t : Table) (ws : List ℕ) (r : Row) (view : View) (j : ℕ) (ts : List Standing) → Views t ws view → StandsRow s t ws r view j ts → ReadyAll s view ts
-stands-ready s t ws r view j ts W R = record { size = R .size; most = W .most; indicator = W .marks; each = λ i h. R .each i h .stands .ready }
+-- what is pending can be drawn
+pub stands-ready : (s : List ℕ) (t : Table) (ws : List ℕ) (r : Row) (view : View) (j : ℕ) (ts : List Pending) → Views t ws view → StandsRow s t ws r view j ts → ReadyAll s view ts
+stands-ready s t ws r view j ts W R = record { size = R .size; most = W .most; each = λ i h. R .each i h .stands .ready }

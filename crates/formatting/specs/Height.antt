@@ -5,18 +5,17 @@ use lib.ListN.{length, getD}
 use Rattle.rules.specs.Text.{orElse}
 use Rattle.rules.specs.Sheet.{Cell, noCell}
 use Rattle.rules.specs.Wrap.{wrapLines}
-use Rattle.formatting.specs.Line.{shownAt}
-use Rattle.formatting.specs.declared.content_format.Shown.{Shown}
-use Rattle.formatting.specs.declared.content_format.View.{View}
+use Rattle.formatting.specs.Line.{View, visibleAt}
+use Rattle.formatting.specs.declared.content_format.VisibleColumn.{VisibleColumn}
 
 -- the lines of the cell x in a column, wrapped
-unfoldable pub cellHeight : Cell → Shown → ℕ
+unfoldable pub cellHeight : Cell → VisibleColumn → ℕ
 cellHeight x v = length (wrapLines (v .width) (orElse (x .delimiter) (v .delimiter)) (x .lines))
 
 -- the most lines of a cell in the first n visible columns
 unfoldable pub heightUpTo : List Cell → View → ℕ → ℕ
 heightUpTo xs view zero = 0
-heightUpTo xs view (suc n) = max (heightUpTo xs view n) (cellHeight (getD xs (shownAt view n .number) noCell) (shownAt view n))
+heightUpTo xs view (suc n) = max (heightUpTo xs view n) (cellHeight (getD xs (visibleAt view n .number) noCell) (visibleAt view n))
 
 -- the lines that a limit leaves, 0 being none
 unfoldable pub limited : ℕ → ℕ → ℕ

@@ -1,5 +1,7 @@
 pub mod Area
 pub mod Line
+pub mod Packed
+pub mod Part
 pub mod Rule
 pub mod Stand
 pub mod Open

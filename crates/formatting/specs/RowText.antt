@@ -1,25 +1,35 @@
--- A row's text lines as bytes, by what they are drawn with. Assumes nothing.
-use Prim.Native.Nat.{ℕ, _≤_, _<_}
-use mathlib.Core.List.{List, map}
-use lib.ListN.{length}
+-- A row's text lines, by what they are drawn with. Assumes nothing.
+use Prim.Native.Nat.{ℕ, _+_, _≤_, _<_}
+use mathlib.Core.Path.{_≡_}
+use mathlib.Core.List.{List, [], map}
+use mathlib.Core.Bool.{Bool, true}
+use lib.ListN.{length, take, getD}
+use lib.Dec.{ltb}
+use Rattle.rules.specs.Sheet.{Row, mostColumns}
 use Rattle.rules.specs.Widths.{contents}
-use Rattle.rules.specs.Page.{lineOf, areas, closed}
+use Rattle.rules.specs.Page.{lineOf, areas, height}
 use Rattle.sheet.specs.Held.{tableOf}
-use Rattle.sheet.specs.Walk.{rowsEnd, firstRow}
+use Rattle.sheet.specs.Walk.{rowsEnd}
 use Rattle.sheet.specs.declared.records.Rows.{Rows}
+use Rattle.sheet.specs.declared.records.Indicator.{Indicator}
 use Rattle.buffer.specs.Put.{edge}
+use Rattle.formatting.specs.Line.{View}
 use Rattle.formatting.specs.Open.{Rising, WideAll}
-use Rattle.formatting.specs.Stand.{Views}
-use Rattle.formatting.specs.declared.content_format.View.{View}
+use Rattle.formatting.specs.Stand.{Views, StandsRow}
+use Rattle.formatting.specs.declared.content_format.Pending.{Pending}
 use Rattle.formatting.specs.declared.content_format.TextStyle.{TextStyle}
+use Rattle.formatting.specs.declared.content_format.Entered.{Entered}
 
 -- a text line of these parts
 unfoldable pub styled : TextStyle → List (List ℕ) → List ℕ
 styled y ps = lineOf (edge (y .opens) (y .left)) (edge (y .joined) (y .junction)) (edge (y .closes) (y .right)) ps
 
--- the lines of the first of some rows of a sheet, each closed
-unfoldable pub rowBytes : List ℕ → TextStyle → Rows → List ℕ
-rowBytes s y c = closed (map (styled y) (areas (tableOf s) (contents (tableOf s)) (firstRow s c)))
+-- a row's lines, and how many they are
+unfoldable pub rowLines : List ℕ → TextStyle → Row → List (List ℕ)
+rowLines s y r = map (styled y) (areas (tableOf s) (contents (tableOf s)) r)
+
+abbrev pub rowHeight : List ℕ → Row → ℕ
+rowHeight s r = height (tableOf s) (contents (tableOf s)) r
 
 -- there is a row, and the view shows the sheet's visible columns
 pub record Drawable (s : List ℕ) (view : View) (c : Rows) : Type 0 where
@@ -28,3 +38,22 @@ pub record Drawable (s : List ℕ) (view : View) (c : Rows) : Type 0 where
   pub views : Views (tableOf s) (contents (tableOf s)) view
   pub rising : Rising view
   pub wide : WideAll view
+
+-- the table's indicator
+pub record Marks (s : List ℕ) (i : Indicator) : Type 0 where
+  pub are : take (i .count) (i .characters) ≡ tableOf s .indicator
+  pub within : i .count ≤ length (i .characters)
+
+-- each of a row's lines takes n bytes, its 0A included
+pub record Sized (s : List ℕ) (y : TextStyle) (r : Row) (n : ℕ) : Type 0 where
+  pub each : (k : ℕ) → k < rowHeight s r → length (getD (rowLines s y r) k []) + 1 ≡ n
+  pub few : rowHeight s r ≤ 1000000
+
+-- whether a row has line j, which is then pending
+pub record StandsAt (s : List ℕ) (view : View) (r : Row) (j : ℕ) (more : Bool) (ts : List Pending) : Type 0 where
+  pub has : more ≡ ltb j (rowHeight s r)
+  pub stands : more ≡ true → StandsRow s (tableOf s) (contents (tableOf s)) r view j ts
+
+pub record EnteredIs (s : List ℕ) (view : View) (r : Row) (j : ℕ) (e : Entered) (ts : List Pending) : Type 0 where
+  pub limit : e .limit ≡ r .limit
+  pub stands : StandsAt s view r j (e .more) ts

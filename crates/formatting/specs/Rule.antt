@@ -3,19 +3,19 @@ use Prim.Native.Nat.{ℕ, _+_, _≤_, _<_}
 use mathlib.Core.Path.{_≡_}
 use mathlib.Core.List.{List, [], _∷_, _++_}
 use lib.ListN.{length, replicate}
+use Rattle.rules.specs.Sheet.{mostColumns}
 use Rattle.buffer.specs.Put.{build, edge}
-use Rattle.formatting.specs.Line.{shownAt, lead}
-use Rattle.formatting.specs.declared.content_format.Shown.{Shown}
-use Rattle.formatting.specs.declared.content_format.View.{View}
+use Rattle.formatting.specs.Line.{View, visibleAt, lead}
+use Rattle.formatting.specs.declared.content_format.VisibleColumn.{VisibleColumn}
 use Rattle.formatting.specs.declared.borders.RuleStyle.{RuleStyle}
 
 -- a column's fill
-abbrev pub ruleArea : Shown → ℕ → List ℕ
+abbrev pub ruleArea : VisibleColumn → ℕ → List ℕ
 ruleArea v f = replicate (v .left + (v .width + v .right)) f
 
 -- what visible column i adds
 unfoldable pub rulePiece : View → RuleStyle → ℕ → List ℕ
-rulePiece view style i = edge (lead i (style .joined)) (style .junction) ++ ruleArea (shownAt view i) (style .fill)
+rulePiece view style i = edge (lead i (style .joined)) (style .junction) ++ ruleArea (visibleAt view i) (style .fill)
 
 -- the line with its 0A
 unfoldable pub ruleBytes : View → RuleStyle → List ℕ
@@ -23,5 +23,5 @@ ruleBytes view style = edge (style .opens) (style .left) ++ (build (rulePiece vi
 
 -- visible widths are small
 pub record NarrowAll (view : View) : Type 0 where
-  pub most : view .count ≤ 12
-  pub each : (i : ℕ) → i < view .count → shownAt view i .left + (shownAt view i .width + shownAt view i .right) < 65536
+  pub most : view .count ≤ mostColumns
+  pub each : (i : ℕ) → i < view .count → visibleAt view i .left + (visibleAt view i .width + visibleAt view i .right) < 65536

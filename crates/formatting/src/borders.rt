@@ -4,9 +4,11 @@ ghost use mathlib.Core.List.{_++_};
 ghost use Prim.Native.Nat.{ℕ, _+_, _≤_, _<_};
 ghost use lib.ListN.{length, replicate};
 ghost use Rattle.buffer.specs.Put.{over, putAt, edge};
+ghost use Rattle.formatting.specs.Packed.{viewOf};
 ghost use Rattle.formatting.specs.Rule.{ruleBytes, NarrowAll, ruleArea};
-use crate::content_format::Shown;
-use crate::content_format::View;
+use crate::content_format::VisibleColumn;
+use crate::packed;
+use rules::MOST_COLUMNS;
 
 // The characters of a border or a rule, and which of them are drawn.
 pub struct RuleStyle {
@@ -20,7 +22,14 @@ pub struct RuleStyle {
 }
 
 // A junction, if one stands before the column, and the column's fill.
-fn draw_fill(page: &mut [u8], at: usize, v: Shown, joins: bool, junction: u8, fill: u8) -> usize
+fn draw_fill(
+    page: &mut [u8],
+    at: usize,
+    v: VisibleColumn,
+    joins: bool,
+    junction: u8,
+    fill: u8,
+) -> usize
     requires { ⌜ v .left + (v .width + v .right) < 65536 ⌝ }
     requires { ⌜ at + (length (edge joins junction) + (v .left + (v .width + v .right))) ≤ length (now page) ⌝ }
     ensures { λ r. ⌜ r ≡ at + (length (edge joins junction) + (v .left + (v .width + v .right))) ⌝ }
@@ -31,17 +40,22 @@ fn draw_fill(page: &mut [u8], at: usize, v: Shown, joins: bool, junction: u8, fi
 }
 
 // A border or a rule at the start of the page.
-pub fn draw_line(page: &mut [u8], view: View, style: RuleStyle) -> usize
-    requires { ⌜ NarrowAll view ⌝ }
-    requires { ⌜ length (ruleBytes view style) ≤ length (now page) ⌝ }
-    ensures { λ r. ⌜ r ≡ length (ruleBytes view style) ⌝ }
-    ensures { λ _. ⌜ now (page .exit) ≡ over (ruleBytes view style) (now (page .entry)) ⌝ }
+pub fn draw_line(
+    page: &mut [u8],
+    columns: &[[usize; 6]; MOST_COLUMNS],
+    count: usize,
+    style: RuleStyle,
+) -> usize
+    requires { ⌜ NarrowAll (viewOf (now columns) count) ⌝ }
+    requires { ⌜ length (ruleBytes (viewOf (now columns) count) style) ≤ length (now page) ⌝ }
+    ensures { λ r. ⌜ r ≡ length (ruleBytes (viewOf (now (columns .entry)) count) style) ⌝ }
+    ensures { λ _. ⌜ now (page .exit) ≡ over (ruleBytes (viewOf (now (columns .entry)) count) style) (now (page .entry)) ⌝ }
 {
-    let n = view.count;
     let mut at = buffer::draw_edge(page, 0, style.opens, style.left);
     let mut i: usize = 0;
-    while i < n {
-        let v = view.columns[i];
+    while i < count {
+        let y = columns[i];
+        let v = packed::column_from(y);
         let joins = crate::content_format::joins_before(i, style.joined);
         at = draw_fill(page, at, v, joins, style.junction, style.fill);
         i += 1;

@@ -1,28 +1,32 @@
 // The text lines of a row, drawn one after another. A cell's next wrapped line is found one line ahead, so that each is found once.
 ghost use mathlib.Core.Path.{_≡_};
 ghost use mathlib.Core.List.{[], _∷_, _++_};
-ghost use mathlib.Core.Bool.{_&&_, _||_};
-ghost use Prim.Native.Nat.{ℕ, _+_, _-_, _≤_, _<_, min};
-ghost use lib.ListN.{length, take};
-ghost use lib.Dec.{ltb};
-ghost use Rattle.rules.specs.Widths.{contents};
+ghost use mathlib.Core.Bool.{Bool, _&&_};
+ghost use Prim.Native.Nat.{ℕ, _+_, _-_, _≤_, _<_};
+ghost use lib.ListN.{length, take, drop};
+ghost use lib.Dec.{ltb, leb};
+ghost use Rattle.rules.specs.Text.{textWidth};
+ghost use Rattle.rules.specs.Sheet.{mostColumns};
 ghost use Rattle.rules.specs.Page.{before};
-ghost use Rattle.sheet.specs.Held.{tableOf};
 ghost use Rattle.sheet.specs.Walk.{firstRow};
 ghost use Rattle.buffer.specs.Put.{over, putAt, edge};
-ghost use Rattle.cells.specs.Cell.{rest, Inside};
-ghost use Rattle.formatting.specs.Area.{areaIn, marksShown, shownText, InSheet, standingFrom, After, columnPiece};
+ghost use Rattle.cells.specs.Cell.{Inside};
+ghost use Rattle.formatting.specs.Area.{areaIn, marksShown, shownText, InSheet, After, columnPiece};
 ghost use Rattle.formatting.specs.Line.{lead, lineBytes, ReadyAll, AfterAll, anyFound};
-ghost use Rattle.formatting.specs.Stand.{Views, StandsRow, inLimit, lastOf};
-ghost use Rattle.formatting.specs.RowText.{Drawable, rowBytes};
+ghost use Rattle.formatting.specs.Stand.{inLimit, lastOf};
+ghost use Rattle.formatting.specs.Packed.{viewOf, pendingsOf};
+ghost use Rattle.formatting.specs.Part.{PartIs};
+ghost use Rattle.formatting.specs.RowText.{Drawable, rowLines, rowHeight, StandsAt, EnteredIs, Sized, Marks};
+use crate::packed;
 use crate::row;
-use cells::CellCursor;
+use cells::Next;
+use rules::MOST_COLUMNS;
 use sheet::records::Indicator;
 use sheet::records::Rows;
 use sheet::walk;
 
 // A visible column as it is drawn: its number in the sheet, its content width and paddings, and what a cell takes that chooses nothing.
-pub struct Shown {
+pub struct VisibleColumn {
     pub number: usize,
     pub width: usize,
     pub left: usize,
@@ -31,12 +35,9 @@ pub struct Shown {
     pub alignment: u8,
 }
 
-// A cell's line that is drawn next, a part of the sheet, if there is one, and where the line after it is looked for.
-pub struct Standing {
-    pub found: bool,
-    pub start: usize,
-    pub end: usize,
-    pub cursor: CellCursor,
+// A cell's pending line: the one that is drawn next, and where the line after it is looked for.
+pub struct Pending {
+    pub line: Next,
     pub delimiter: u8,
     pub alignment: u8,
 }
@@ -52,21 +53,30 @@ fn spaces_before(alignment: u8, spare: usize) -> usize
     }
 }
 
+// The columns that a text and the indicator after it leave free.
+fn spare_columns(width: usize, text: &[u8], marks: &[u8]) -> usize
+    requires { ⌜ textWidth (now text) + textWidth (now marks) ≤ width ⌝ }
+    ensures { λ r. ⌜ r ≡ width - textWidth (now (text .entry) ++ now (marks .entry)) ⌝ }
+    ensures { λ r. ⌜ r + (length (now (text .entry)) + length (now (marks .entry))) ≡ width ⌝ }
+{
+    width - text.len() - marks.len()
+}
+
 // A column's area: padding, a part of the sheet and of the indicator, aligned, padding.
 fn align_line(
     page: &mut [u8],
     at: usize,
     text: &[u8],
     marks: &[u8],
-    v: Shown,
+    v: VisibleColumn,
     alignment: u8,
 ) -> usize
-    requires { ⌜ length (now text) + length (now marks) ≤ v .width ⌝ }
+    requires { ⌜ textWidth (now text) + textWidth (now marks) ≤ v .width ⌝ }
     requires { ⌜ at + (v .left + (v .width + v .right)) ≤ length (now page) ⌝ }
     ensures { λ r. ⌜ r ≡ at + (v .left + (v .width + v .right)) ⌝ }
     ensures { λ _. ⌜ now (page .exit) ≡ putAt (now (page .entry)) at (areaIn v alignment (now (text .entry) ++ now (marks .entry))) ⌝ }
 {
-    let spare = v.width - text.len() - marks.len();
+    let spare = spare_columns(v.width, text, marks);
     let b = spaces_before(alignment, spare);
     let p = buffer::fill(page, at, v.left + b, 32);
     let q = buffer::copy(page, p, text);
@@ -86,19 +96,13 @@ fn marks_shown(cut: bool, count: usize, width: usize) -> usize
     0
 }
 
-fn shorter(a: usize, b: usize) -> usize
-    ensures { λ r. ⌜ r ≡ min a b ⌝ }
-{
-    if a < b { a } else { b }
-}
-
 // The area of a cell's line; where the cell is cut, the line is shortened until it and the indicator fit.
 fn draw_cell(
     page: &mut [u8],
     at: usize,
     sheet: &[u8],
-    v: Shown,
-    t: Standing,
+    v: VisibleColumn,
+    t: Pending,
     indicator: Indicator,
     cut: bool,
 ) -> usize
@@ -109,61 +113,42 @@ fn draw_cell(
 {
     let width = v.width;
     let m = marks_shown(cut, indicator.count, width);
-    let start = t.start;
-    let stop = start + shorter(t.end - start, width - m);
+    let line = t.line;
+    let cursor = line.cursor;
+    let lines = cursor.lines;
+    let text = cells::line_at(sheet, lines);
+    let start = line.start;
+    let stop = start + numbers::lesser(line.end - start, width - m);
     let characters = indicator.characters;
     align_line(
         page,
         at,
-        &sheet[start..stop],
+        &text[start..stop],
         &characters[..m],
         v,
         t.alignment,
     )
 }
 
-// A cell's line from a cursor on.
-pub fn line_after(
-    sheet: &[u8],
-    width: usize,
-    from: CellCursor,
-    delimiter: u8,
-    alignment: u8,
-) -> Standing
-    requires { ⌜ Inside (now sheet) from × (0 < width) ⌝ }
-    ensures { λ r. ⌜ After (now (sheet .entry)) width (standingFrom from delimiter alignment) r ⌝ }
-{
-    let n = cells::next_line(sheet, from, width, delimiter);
-    let cursor = n.cursor;
-    Standing {
-        found: n.found,
-        start: n.start,
-        end: n.end,
-        cursor,
-        delimiter,
-        alignment,
-    }
-}
-
 // The cell's next line.
-pub fn advance(sheet: &[u8], width: usize, t: Standing) -> Standing
-    requires { ⌜ Inside (now sheet) (t .cursor) × (0 < width) ⌝ }
+pub fn advance(sheet: &[u8], width: usize, t: Pending) -> Pending
+    requires { ⌜ Inside (now sheet) (t .line .cursor) × (0 < width) ⌝ }
     ensures { λ r. ⌜ After (now (sheet .entry)) width t r ⌝ }
 {
-    let from = t.cursor;
-    line_after(sheet, width, from, t.delimiter, t.alignment)
+    let line = t.line;
+    let cursor = line.cursor;
+    let next = cells::next_line(sheet, cursor, width, t.delimiter);
+    Pending {
+        line: next,
+        delimiter: t.delimiter,
+        alignment: t.alignment,
+    }
 }
 
 // Where a column's area ends, and the cell's next line.
 pub struct Drawn {
     pub at: usize,
-    pub standing: Standing,
-}
-
-pub fn both(a: bool, b: bool) -> bool
-    ensures { λ r. ⌜ r ≡ (a && b) ⌝ }
-{
-    if a { b } else { false }
+    pub pending: Pending,
 }
 
 // What a column adds to a line: a junction, if one stands before it, and its area. The last line that the limit leaves is cut if another follows.
@@ -171,33 +156,27 @@ fn draw_column(
     page: &mut [u8],
     at: usize,
     sheet: &[u8],
-    v: Shown,
-    t: Standing,
+    v: VisibleColumn,
+    t: Pending,
     indicator: Indicator,
     last: bool,
     joins: bool,
     junction: u8,
 ) -> Drawn
-    requires { ⌜ InSheet (now sheet) (v .width) t × (Inside (now sheet) (t .cursor) × ((0 < v .width) × (indicator .count ≤ length (indicator .characters)))) ⌝ }
+    requires { ⌜ InSheet (now sheet) (v .width) t × (Inside (now sheet) (t .line .cursor) × ((0 < v .width) × (indicator .count ≤ length (indicator .characters)))) ⌝ }
     requires { ⌜ at + (length (edge joins junction) + (v .left + (v .width + v .right))) ≤ length (now page) ⌝ }
-    ensures { λ r. ⌜ (r .at ≡ at + (length (edge joins junction) + (v .left + (v .width + v .right)))) × After (now (sheet .entry)) (v .width) t (r .standing) ⌝ }
+    ensures { λ r. ⌜ (r .at ≡ at + (length (edge joins junction) + (v .left + (v .width + v .right)))) × After (now (sheet .entry)) (v .width) t (r .pending) ⌝ }
     ensures { λ _. ⌜ now (page .exit) ≡ putAt (now (page .entry)) at (edge joins junction ++ columnPiece (now (sheet .entry)) v t (take (indicator .count) (indicator .characters)) last) ⌝ }
 {
     let next = advance(sheet, v.width, t);
-    let cut = both(last, next.found);
+    let line = next.line;
+    let cut = numbers::both(last, line.found);
     let p = buffer::draw_edge(page, at, joins, junction);
     let q = draw_cell(page, p, sheet, v, t, indicator, cut);
     Drawn {
         at: q,
-        standing: next,
+        pending: next,
     }
-}
-
-// What drawing needs of a table: its visible columns, from left to right, and the indicator.
-pub struct View {
-    pub count: usize,
-    pub columns: [Shown; 12],
-    pub indicator: Indicator,
 }
 
 // The characters of a text line, and which of them are drawn.
@@ -210,13 +189,6 @@ pub struct TextStyle {
     pub closes: bool,
 }
 
-// What was written, every cell's next line, and whether there is one.
-pub struct Lined {
-    pub written: usize,
-    pub standings: [Standing; 12],
-    pub more: bool,
-}
-
 // A junction stands before every visible column but the first.
 pub fn joins_before(i: usize, joined: bool) -> bool
     ensures { λ r. ⌜ r ≡ lead i joined ⌝ }
@@ -227,36 +199,37 @@ pub fn joins_before(i: usize, joined: bool) -> bool
     joined
 }
 
-pub fn either(a: bool, b: bool) -> bool
-    ensures { λ r. ⌜ r ≡ (a || b) ⌝ }
-{
-    if a { true } else { b }
+// What was written, and whether a cell has a line after it.
+pub struct Lined {
+    pub written: usize,
+    pub more: bool,
 }
 
-// A text line at the start of the page.
-pub fn draw_text_line(
+// A text line at the start of the page, and each cell's next line in the place of the one that is drawn.
+fn write_line(
     page: &mut [u8],
     sheet: &[u8],
-    view: View,
+    columns: &[[usize; 6]; MOST_COLUMNS],
+    count: usize,
+    indicator: Indicator,
     style: TextStyle,
     last: bool,
-    standings: [Standing; 12],
+    state: &mut [[usize; 8]; MOST_COLUMNS],
 ) -> Lined
-    requires { ⌜ ReadyAll (now sheet) view standings ⌝ }
-    requires { ⌜ length (lineBytes (now sheet) view style standings last) ≤ length (now page) ⌝ }
-    ensures { λ r. ⌜ r .written ≡ length (lineBytes (now (sheet .entry)) view style standings last) ⌝ }
-    ensures { λ r. ⌜ AfterAll (now (sheet .entry)) view standings (r .standings) × (r .more ≡ anyFound (r .standings) (view .count)) ⌝ }
-    ensures { λ _. ⌜ now (page .exit) ≡ over (lineBytes (now (sheet .entry)) view style standings last) (now (page .entry)) ⌝ }
+    requires { ⌜ ReadyAll (now sheet) (viewOf (now columns) count) (pendingsOf (now state)) × (indicator .count ≤ length (indicator .characters)) ⌝ }
+    requires { ⌜ length (lineBytes (now sheet) (viewOf (now columns) count) (take (indicator .count) (indicator .characters)) style (pendingsOf (now state)) last) ≤ length (now page) ⌝ }
+    ensures { λ r. ⌜ r .written ≡ length (lineBytes (now (sheet .entry)) (viewOf (now (columns .entry)) count) (take (indicator .count) (indicator .characters)) style (pendingsOf (now (state .entry))) last) ⌝ }
+    ensures { λ r. ⌜ AfterAll (now (sheet .entry)) (viewOf (now (columns .entry)) count) (pendingsOf (now (state .entry))) (pendingsOf (now (state .exit))) × (r .more ≡ anyFound (pendingsOf (now (state .exit))) count) ⌝ }
+    ensures { λ _. ⌜ now (page .exit) ≡ over (lineBytes (now (sheet .entry)) (viewOf (now (columns .entry)) count) (take (indicator .count) (indicator .characters)) style (pendingsOf (now (state .entry))) last) (now (page .entry)) ⌝ }
 {
-    let indicator = view.indicator;
-    let n = view.count;
-    let mut ts = standings;
     let mut more = false;
     let mut at = buffer::draw_edge(page, 0, style.opens, style.left);
     let mut i: usize = 0;
-    while i < n {
-        let v = view.columns[i];
-        let t = ts[i];
+    while i < count {
+        let y = columns[i];
+        let v = packed::column_from(y);
+        let x = state[i];
+        let t = packed::pending_from(x);
         let joins = joins_before(i, style.joined);
         let d = draw_column(
             page,
@@ -270,22 +243,50 @@ pub fn draw_text_line(
             style.junction,
         );
         at = d.at;
-        let u = d.standing;
-        more = either(more, u.found);
-        ts[i] = u;
+        let u = d.pending;
+        let line = u.line;
+        more = numbers::either(more, line.found);
+        let z = packed::pack_pending(u);
+        state[i] = z;
         i += 1;
     }
     let e = buffer::draw_edge(page, at, style.closes, style.right);
     page[e] = 10;
     Lined {
         written: e + 1,
-        standings: ts,
         more,
     }
 }
 
-// A row goes on to its next line if one stands ready and the limit leaves it.
-pub fn stays(limit: usize, line: usize, more: bool) -> bool
+// Each cell's next line, with nothing drawn; whether there is one.
+fn skip_line(
+    sheet: &[u8],
+    columns: &[[usize; 6]; MOST_COLUMNS],
+    count: usize,
+    state: &mut [[usize; 8]; MOST_COLUMNS],
+) -> bool
+    requires { ⌜ ReadyAll (now sheet) (viewOf (now columns) count) (pendingsOf (now state)) ⌝ }
+    ensures { λ r. ⌜ AfterAll (now (sheet .entry)) (viewOf (now (columns .entry)) count) (pendingsOf (now (state .entry))) (pendingsOf (now (state .exit))) × (r ≡ anyFound (pendingsOf (now (state .exit))) count) ⌝ }
+{
+    let mut more = false;
+    let mut i: usize = 0;
+    while i < count {
+        let y = columns[i];
+        let v = packed::column_from(y);
+        let x = state[i];
+        let t = packed::pending_from(x);
+        let u = advance(sheet, v.width, t);
+        let line = u.line;
+        more = numbers::either(more, line.found);
+        let z = packed::pack_pending(u);
+        state[i] = z;
+        i += 1;
+    }
+    more
+}
+
+// A row goes on to its next line if one is pending and the limit leaves it.
+fn stays(limit: usize, line: usize, more: bool) -> bool
     ensures { λ r. ⌜ r ≡ (inLimit limit (line + 1) && more) ⌝ }
 {
     if limit == 0 {
@@ -298,7 +299,7 @@ pub fn stays(limit: usize, line: usize, more: bool) -> bool
 }
 
 // The last line that the limit leaves.
-pub fn is_last(limit: usize, line: usize) -> bool
+fn is_last(limit: usize, line: usize) -> bool
     ensures { λ r. ⌜ r ≡ lastOf limit line ⌝ }
 {
     if limit == 0 {
@@ -307,109 +308,114 @@ pub fn is_last(limit: usize, line: usize) -> bool
     line == limit - 1
 }
 
-// A line's right edge and its 0A.
-fn close_line(page: &mut [u8], at: usize, style: TextStyle) -> usize
-    requires { ⌜ at + (length (edge (style .closes) (style .right)) + 1) ≤ length (now page) ⌝ }
-    ensures { λ r. ⌜ r ≡ at + (length (edge (style .closes) (style .right)) + 1) ⌝ }
-    ensures { λ _. ⌜ now (page .exit) ≡ putAt (now (page .entry)) at (edge (style .closes) (style .right) ++ (10 ∷ [])) ⌝ }
-{
-    let e = buffer::draw_edge(page, at, style.closes, style.right);
-    page[e] = 10;
-    e + 1
-}
-
-// A row's text lines at the start of the page. Its cells' lines are kept in one array that every line changes in place: a function for
-// a line would copy it in and out, which takes longer than to draw a short line.
-pub fn draw_row(page: &mut [u8], sheet: &[u8], view: View, style: TextStyle, here: Rows) -> usize
-    requires { ⌜ Drawable (now sheet) view here ⌝ }
-    requires { ⌜ length (rowBytes (now sheet) style here) ≤ length (now page) ⌝ }
-    ensures { λ r. ⌜ r ≡ length (rowBytes (now (sheet .entry)) style here) ⌝ }
-    ensures { λ _. ⌜ now (page .exit) ≡ over (rowBytes (now (sheet .entry)) style here) (now (page .entry)) ⌝ }
-{
-    let r = walk::row(sheet, here);
-    let cells = r.cells;
-    let opened = row::format_row(sheet, view, cells);
-    let mut ts = opened.standings;
-    let mut more = opened.more;
-    let marks = view.indicator;
-    let n = view.count;
-    let mut at: usize = 0;
-    let mut line: usize = 0;
-    while more {
-        let last = is_last(r.limit, line);
-        at = buffer::draw_edge(page, at, style.opens, style.left);
-        let mut found = false;
-        let mut i: usize = 0;
-        while i < n {
-            let v = view.columns[i];
-            let t = ts[i];
-            let joins = joins_before(i, style.joined);
-            let d = draw_column(page, at, sheet, v, t, marks, last, joins, style.junction);
-            at = d.at;
-            let u = d.standing;
-            found = either(found, u.found);
-            ts[i] = u;
-            i += 1;
-        }
-        at = close_line(page, at, style);
-        more = stays(r.limit, line, found);
-        line += 1;
-    }
-    at
-}
-
-// The next lines of a row's cells, with nothing drawn.
-pub struct Skipped {
-    pub standings: [Standing; 12],
+// A row's limit, and whether the row has the line that is asked for.
+pub struct Entered {
+    pub limit: usize,
     pub more: bool,
 }
 
-pub fn skip_text_line(sheet: &[u8], view: View, standings: [Standing; 12]) -> Skipped
-    requires { ⌜ ReadyAll (now sheet) view standings ⌝ }
-    ensures { λ r. ⌜ AfterAll (now (sheet .entry)) view standings (r .standings) × (r .more ≡ anyFound (r .standings) (view .count)) ⌝ }
+// A row's cells from its first line on to line n, with nothing drawn; whether the row has that line.
+fn skip_lines(
+    sheet: &[u8],
+    columns: &[[usize; 6]; MOST_COLUMNS],
+    count: usize,
+    here: Rows,
+    limit: usize,
+    n: usize,
+    opened: bool,
+    state: &mut [[usize; 8]; MOST_COLUMNS],
+) -> bool
+    requires { ⌜ Drawable (now sheet) (viewOf (now columns) count) here × (limit ≡ firstRow (now sheet) here .limit) ⌝ }
+    requires { ⌜ StandsAt (now sheet) (viewOf (now columns) count) (firstRow (now sheet) here) 0 opened (pendingsOf (now state)) ⌝ }
+    ensures { λ r. ⌜ StandsAt (now (sheet .entry)) (viewOf (now (columns .entry)) count) (firstRow (now (sheet .entry)) here) n r (pendingsOf (now (state .exit))) ⌝ }
 {
-    let n = view.count;
-    let mut ts = standings;
-    let mut more = false;
-    let mut i: usize = 0;
-    while i < n {
-        let v = view.columns[i];
-        let t = ts[i];
-        let u = advance(sheet, v.width, t);
-        more = either(more, u.found);
-        ts[i] = u;
-        i += 1;
+    let mut more = opened;
+    let mut j: usize = 0;
+    while numbers::both(more, j < n) {
+        let found = skip_line(sheet, columns, count, state);
+        more = stays(limit, j, found);
+        j += 1;
     }
-    Skipped {
-        standings: ts,
+    more
+}
+
+// The first of some rows, at its line n.
+fn enter_row(
+    sheet: &[u8],
+    columns: &[[usize; 6]; MOST_COLUMNS],
+    count: usize,
+    here: Rows,
+    n: usize,
+    state: &mut [[usize; 8]; MOST_COLUMNS],
+) -> Entered
+    requires { ⌜ Drawable (now sheet) (viewOf (now columns) count) here × (length (now state) ≡ mostColumns) ⌝ }
+    ensures { λ r. ⌜ EnteredIs (now (sheet .entry)) (viewOf (now (columns .entry)) count) (firstRow (now (sheet .entry)) here) n r (pendingsOf (now (state .exit))) ⌝ }
+{
+    let r = walk::row(sheet, here);
+    let cells = r.cells;
+    let opened = row::format_row(sheet, columns, count, cells, state);
+    let more = skip_lines(sheet, columns, count, here, r.limit, n, opened, state);
+    Entered {
+        limit: r.limit,
         more,
     }
 }
 
-// A row's cells n lines further, with nothing drawn: in one array, as they are drawn.
-pub fn skip_lines(
-    sheet: &[u8],
-    view: View,
-    here: Rows,
-    standings: [Standing; 12],
-    n: usize,
-) -> [Standing; 12]
-    requires { ⌜ Views (tableOf (now sheet)) (contents (tableOf (now sheet))) view × StandsRow (now sheet) (tableOf (now sheet)) (contents (tableOf (now sheet))) (firstRow (now sheet) here) view 0 standings ⌝ }
-    ensures { λ r. ⌜ StandsRow (now (sheet .entry)) (tableOf (now (sheet .entry))) (contents (tableOf (now (sheet .entry)))) (firstRow (now (sheet .entry)) here) view n r ⌝ }
+// Lines that were written, their bytes, and whether they were all that were asked for.
+pub struct Part {
+    pub lines: usize,
+    pub bytes: usize,
+    pub whole: bool,
+}
+
+// A line comes next, and there is room for it.
+fn goes_on(more: bool, room: usize, size: usize) -> bool
+    ensures { λ r. ⌜ r ≡ (more && leb size room) ⌝ }
 {
-    let count = view.count;
-    let mut ts = standings;
-    let mut j: usize = 0;
-    while j < n {
-        let mut i: usize = 0;
-        while i < count {
-            let v = view.columns[i];
-            let t = ts[i];
-            let u = advance(sheet, v.width, t);
-            ts[i] = u;
-            i += 1;
-        }
-        j += 1;
+    if more { size <= room } else { false }
+}
+
+// The text lines of the first of some rows from its line `first` on, as many as the page has room for. Each takes `size` bytes, its 0A included.
+pub fn draw_row(
+    page: &mut [u8],
+    sheet: &[u8],
+    columns: &[[usize; 6]; MOST_COLUMNS],
+    count: usize,
+    indicator: Indicator,
+    style: TextStyle,
+    here: Rows,
+    first: usize,
+    size: usize,
+) -> Part
+    requires { ⌜ Drawable (now sheet) (viewOf (now columns) count) here × Marks (now sheet) indicator ⌝ }
+    requires { ⌜ Sized (now sheet) style (firstRow (now sheet) here) size ⌝ }
+    ensures { λ r. ⌜ PartIs (drop first (rowLines (now (sheet .entry)) style (firstRow (now (sheet .entry)) here))) (now (page .entry)) (now (page .exit)) r ⌝ }
+{
+    let mut state = [[0usize; 8]; MOST_COLUMNS];
+    let entered = enter_row(sheet, columns, count, here, first, &mut state);
+    let limit = entered.limit;
+    let mut more = entered.more;
+    let mut at: usize = 0;
+    let mut line = first;
+    while goes_on(more, page.len() - at, size) {
+        let last = is_last(limit, line);
+        let l = write_line(
+            &mut page[at..],
+            sheet,
+            columns,
+            count,
+            indicator,
+            style,
+            last,
+            &mut state,
+        );
+        at += l.written;
+        more = stays(limit, line, l.more);
+        line += 1;
     }
-    ts
+    Part {
+        lines: line - first,
+        bytes: at,
+        whole: !more,
+    }
 }

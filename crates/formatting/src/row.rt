@@ -1,60 +1,60 @@
-// A row's cells opened at their first lines: comfy-table's `format_row`.
+// A row's cells opened at their first lines, comfy-table's `format_row`, and their heights.
 ghost use mathlib.Core.Path.{_≡_};
-ghost use Prim.Native.Nat.{ℕ, _≤_, _<_, max};
+ghost use Prim.Native.Nat.{ℕ, _≤_, _<_};
 ghost use lib.ListN.{length, drop, getD};
-ghost use Rattle.rules.specs.Text.{orElse};
+ghost use Rattle.rules.specs.Sheet.{mostColumns};
 ghost use Rattle.sheet.specs.Walk.{cellsIn, cellsEnd, firstCell};
 ghost use Rattle.formatting.specs.Height.{cellHeight, heightUpTo};
 ghost use Rattle.formatting.specs.Line.{anyFound};
-ghost use Rattle.formatting.specs.Open.{OpenedAt, OpenedRow, Rising, WideAll};
-use crate::content_format;
-use crate::content_format::Shown;
-use crate::content_format::Skipped;
-use crate::content_format::Standing;
-use crate::content_format::View;
+ghost use Rattle.formatting.specs.Open.{OpenedAt, OpenedRow, Rising, WideAll, missing};
+ghost use Rattle.formatting.specs.Packed.{viewOf, pendingsOf};
+use crate::content_format::Pending;
+use crate::content_format::VisibleColumn;
+use crate::packed;
 use cells::CellCursor;
+use cells::Next;
+use rules::MOST_COLUMNS;
 use sheet::records::Cells;
+use sheet::records::Lines;
 use sheet::walk;
 
-// A code, or what stands for it where it is 0.
-pub fn or_else(a: u8, b: u8) -> u8
-    ensures { λ r. ⌜ r ≡ orElse a b ⌝ }
+// A missing cell: one blank line, which is no part of the sheet.
+fn missing_cell(v: VisibleColumn) -> Pending
+    ensures { λ r. ⌜ r ≡ missing v ⌝ }
 {
-    if a == 0 {
-        return b;
+    let lines = Lines { at: 0, left: 0 };
+    let cursor = CellCursor { lines, from: 0 };
+    let line = Next {
+        found: true,
+        start: 0,
+        end: 0,
+        cursor,
+    };
+    Pending {
+        line,
+        delimiter: v.delimiter,
+        alignment: v.alignment,
     }
-    a
 }
 
-// The first of the cells at its first line. A missing cell is one blank line, which is no part of the sheet.
-fn open_cell(sheet: &[u8], cells: Cells, v: Shown) -> Standing
+// The first of the cells at its first line.
+fn open_cell(sheet: &[u8], cells: Cells, v: VisibleColumn) -> Pending
     requires { ⌜ (0 < v .width) × (cellsEnd (now sheet) cells ≤ length (now sheet)) ⌝ }
     ensures { λ r. ⌜ OpenedAt (now (sheet .entry)) (firstCell (now (sheet .entry)) cells) v r ⌝ }
 {
     if cells.left == 0 {
-        return Standing {
-            found: true,
-            start: 0,
-            end: 0,
-            cursor: CellCursor {
-                at: 0,
-                end: 0,
-                left: 0,
-            },
-            delimiter: v.delimiter,
-            alignment: v.alignment,
-        };
+        return missing_cell(v);
     }
     let x = walk::cell(sheet, cells);
     let lines = x.lines;
-    let from = CellCursor {
-        at: lines.at,
-        end: lines.at,
-        left: lines.left,
-    };
-    let delimiter = or_else(x.delimiter, v.delimiter);
-    let alignment = or_else(x.alignment, v.alignment);
-    content_format::line_after(sheet, v.width, from, delimiter, alignment)
+    let delimiter = numbers::or_else(x.delimiter, v.delimiter);
+    let alignment = numbers::or_else(x.alignment, v.alignment);
+    let line = cells::first_line(sheet, lines, v.width, delimiter);
+    Pending {
+        line,
+        delimiter,
+        alignment,
+    }
 }
 
 // The cells after the first n.
@@ -74,53 +74,40 @@ fn skip_cells(sheet: &[u8], cells: Cells, n: usize) -> Cells
     c
 }
 
-// Every visible column's cell of a row at its first line.
-pub fn format_row(sheet: &[u8], view: View, cells: Cells) -> Skipped
-    requires { ⌜ Rising view × (WideAll view × (cellsEnd (now sheet) cells ≤ length (now sheet))) ⌝ }
-    ensures { λ r. ⌜ OpenedRow (now (sheet .entry)) (cellsIn (now (sheet .entry)) cells) view (r .standings) ⌝ }
-    ensures { λ r. ⌜ r .more ≡ anyFound (r .standings) (view .count) ⌝ }
+// Every visible column's cell of a row at its first line; whether there is one.
+pub fn format_row(
+    sheet: &[u8],
+    columns: &[[usize; 6]; MOST_COLUMNS],
+    count: usize,
+    cells: Cells,
+    state: &mut [[usize; 8]; MOST_COLUMNS],
+) -> bool
+    requires { ⌜ Rising (viewOf (now columns) count) × (WideAll (viewOf (now columns) count) × (cellsEnd (now sheet) cells ≤ length (now sheet))) ⌝ }
+    requires { ⌜ length (now state) ≡ mostColumns ⌝ }
+    ensures { λ r. ⌜ OpenedRow (now (sheet .entry)) (cellsIn (now (sheet .entry)) cells) (viewOf (now (columns .entry)) count) (pendingsOf (now (state .exit))) × (r ≡ anyFound (pendingsOf (now (state .exit))) count) ⌝ }
 {
-    let n = view.count;
-    let mut ts = [Standing {
-        found: false,
-        start: 0,
-        end: 0,
-        cursor: CellCursor {
-            at: 0,
-            end: 0,
-            left: 0,
-        },
-        delimiter: 0,
-        alignment: 0,
-    }; 12];
     let mut left = cells;
     let mut passed: usize = 0;
     let mut more = false;
     let mut i: usize = 0;
-    while i < n {
-        let v = view.columns[i];
+    while i < count {
+        let y = columns[i];
+        let v = packed::column_from(y);
         let number = v.number;
         left = skip_cells(sheet, left, number - passed);
         passed = number;
         let t = open_cell(sheet, left, v);
-        more = content_format::either(more, t.found);
-        ts[i] = t;
+        let line = t.line;
+        more = numbers::either(more, line.found);
+        let z = packed::pack_pending(t);
+        state[i] = z;
         i += 1;
     }
-    Skipped {
-        standings: ts,
-        more,
-    }
-}
-
-fn greater(a: usize, b: usize) -> usize
-    ensures { λ r. ⌜ r ≡ max a b ⌝ }
-{
-    if a < b { b } else { a }
+    more
 }
 
 // The lines of the first of the cells, wrapped. A missing cell is one blank line.
-fn open_height(sheet: &[u8], from: Cells, v: Shown) -> usize
+fn open_height(sheet: &[u8], from: Cells, v: VisibleColumn) -> usize
     requires { ⌜ (0 < v .width) × (cellsEnd (now sheet) from ≤ length (now sheet)) ⌝ }
     ensures { λ r. ⌜ r ≡ cellHeight (firstCell (now (sheet .entry)) from) v ⌝ }
 {
@@ -129,32 +116,32 @@ fn open_height(sheet: &[u8], from: Cells, v: Shown) -> usize
     }
     let x = walk::cell(sheet, from);
     let lines = x.lines;
-    let c = CellCursor {
-        at: lines.at,
-        end: lines.at,
-        left: lines.left,
-    };
-    let delimiter = or_else(x.delimiter, v.delimiter);
-    cells::cell_height(sheet, c, v.width, delimiter)
+    let delimiter = numbers::or_else(x.delimiter, v.delimiter);
+    cells::cell_height(sheet, lines, v.width, delimiter)
 }
 
 // The most lines of a visible column's cell, the row's limit left aside.
-pub fn row_height(sheet: &[u8], view: View, from: Cells) -> usize
-    requires { ⌜ Rising view × (WideAll view × (cellsEnd (now sheet) from ≤ length (now sheet))) ⌝ }
-    ensures { λ r. ⌜ r ≡ heightUpTo (cellsIn (now (sheet .entry)) from) view (view .count) ⌝ }
+pub fn row_height(
+    sheet: &[u8],
+    columns: &[[usize; 6]; MOST_COLUMNS],
+    count: usize,
+    from: Cells,
+) -> usize
+    requires { ⌜ Rising (viewOf (now columns) count) × (WideAll (viewOf (now columns) count) × (cellsEnd (now sheet) from ≤ length (now sheet))) ⌝ }
+    ensures { λ r. ⌜ r ≡ heightUpTo (cellsIn (now (sheet .entry)) from) (viewOf (now (columns .entry)) count) count ⌝ }
 {
-    let n = view.count;
     let mut left = from;
     let mut passed: usize = 0;
     let mut most: usize = 0;
     let mut i: usize = 0;
-    while i < n {
-        let v = view.columns[i];
+    while i < count {
+        let y = columns[i];
+        let v = packed::column_from(y);
         let number = v.number;
         left = skip_cells(sheet, left, number - passed);
         passed = number;
         let lines = open_height(sheet, left, v);
-        most = greater(most, lines);
+        most = numbers::greater(most, lines);
         i += 1;
     }
     most

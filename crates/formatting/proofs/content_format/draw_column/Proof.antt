@@ -1,3 +1,4 @@
+use borrow.Author.Needs.{needs}
 use native.Mathlib.Omega.{arith}
 use mathlib.Core.Path.{sym, ap, _∙_}
 use denote.Ref.{now}
@@ -5,7 +6,6 @@ use lib.ListN.{take}
 use Rattle.buffer.specs.Put.{putAt, edge}
 use Rattle.formatting.specs.Area.{columnPiece}
 use Rattle.formatting.proofs.Area.{two, piece-is}
-use borrow.Author.Needs.{needs}
 use Rattle.formatting.proofs.content_format.draw_column.Statement.{statement}
 use Rattle.formatting.proofs.content_format.draw_column.Tie as tie
 
@@ -18,14 +18,17 @@ draw-column-spec =
     (λ c κs. search needs)
     (λ c κs. search needs)
     (λ c. search needs)
-    (λ c. let s = c .before .before .before .before .before .before .before .before .before .before .before .before in
-    let a = s .args in
-    let n = c .before .before .before .before .before .before .before .before .before .advance in
+    (λ c.
+    let d = c .before .before .draw-cell in
     let e = c .before .before .before .before .before .before .draw-edge in
-    let d = c .before .before .draw-cell in (
+    let b = c .before .before .before .before .before .before .before .before .both in
+    let n = c .before .before .before .before .before .before .before .before .before .before .advance in
+    let s = c .before .before .before .before .before .before .before .before .before .before .before .before .before in
+    let a = s .args in
+    let ind = take (a .indicator .count) (a .indicator .characters) in (
       (omega (arith, d .ensures .0, e .ensures .0), n .ensures),
-      two (now (a .page)) (a .at) (edge (a .joins) (a .junction)) (columnPiece (now (a .sheet)) (a .v) (a .t) (take (a .indicator .count) (a .indicator .characters)) (a .last))
+      two (now (a .page)) (a .at) (edge (a .joins) (a .junction)) (columnPiece (now (a .sheet)) (a .v) (a .t) ind (a .last))
           (e .last .0) (d .last .0) (e .result) (e .ensures .1)
-          (d .ensures .1 ∙ ap (putAt (e .last .0) (e .result)) (piece-is (now (a .sheet)) (a .v) (a .t) (n .result) (take (a .indicator .count) (a .indicator .characters)) (a .last) (c .before .before .before .before .before .before .before .before .both .result) (c .before .before .before .before .before .before .before .before .both .ensures) (n .ensures)))
+          (d .ensures .1 ∙ ap (putAt (e .last .0) (e .result)) (piece-is (now (a .sheet)) (a .v) (a .t) (n .result) ind (a .last) (b .result) (b .ensures) (n .ensures)))
           (sym (e .ensures .0)) (omega (arith, s .pre .1)),
     )))

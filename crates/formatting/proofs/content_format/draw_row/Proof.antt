@@ -1,221 +1,116 @@
-use native.Mathlib.Omega.{arith}
 use borrow.Author.Needs.{needs}
+use native.Mathlib.Omega.{arith}
+use Prim.Native.Nat.{_-_, _<_}
+use mathlib.Core.Path.{_≡_, refl, sym, ap, _∙_}
+use mathlib.Core.Bool.{true}
 use denote.Ref.{now}
-use Prim.Native.Nat.{_+_, _-_, _≤_}
-use mathlib.Core.Path.{_≡_, sym, ap, _∙_}
-use lib.ListN.{length}
-use Rattle.rules.specs.Page.{height, closed}
-use Rattle.rules.specs.Widths.{contents}
-use Rattle.sheet.specs.Held.{tableOf}
-use Rattle.sheet.proofs.Walks.{row-whole}
-use Rattle.buffer.specs.Put.{over, putAt, build}
-use Rattle.formatting.specs.Line.{linePiece, lineBytes}
-use Rattle.formatting.specs.Stand.{lastOf}
-use Rattle.formatting.proofs.Line.{line-length, Drawing, drawing-begins, column-ready, drawing-room, drawing-on, drawing-done, passing-done}
-use Rattle.formatting.proofs.RowText.{Rowing, rowOf, styledLines, row-bytes, rowing-begins, rowing-ready, rowing-less, rowing-room, rowing-few, rowing-on, rowing-done, line-put}
+use lib.ListN.{length, take, length-drop}
+use Rattle.rules.specs.Sheet.{Row}
+use Rattle.sheet.specs.Walk.{firstRow}
+use Rattle.buffer.proofs.Laws.{lent}
+use Rattle.formatting.specs.Packed.{viewOf, pendingsOf}
+use Rattle.formatting.specs.RowText.{Sized, StandsAt}
+use Rattle.formatting.proofs.RowText.{Running, running-begins, running-size, running-room, line-size, running-on, running-done, stands-drawn, stands-less, goes}
 use Rattle.formatting.proofs.content_format.draw_row.Statement.{statement}
 use Rattle.formatting.proofs.content_format.draw_row.Tie as tie
 
-abbrev Inv-loop2 : tie.InvT-loop2
-Inv-loop2 page₀ sheet style view r ts₀ more marks n at₀ line last found₀ i₀ page ts at found i = Drawing sheet view style ts₀ last page₀ at₀ page ts found at i
-
-abbrev μ-loop2 : tie.MeasureT-loop2
-μ-loop2 page₀ sheet style view r ts₀ more marks n at₀ line last found₀ i₀ page ts at found i = n - i
-
+-- the row isn't seen by the loop, so what it needs is said of every row that it may be entered at
 abbrev Inv-loop : tie.InvT-loop
-Inv-loop page₀ sheet style view r ts₀ more₀ marks n at₀ line₀ page ts more at line =
-    Rowing sheet (tableOf sheet) (contents (tableOf sheet)) (rowOf sheet r) view style page₀ page ts more at line
+Inv-loop page₀ sheet columns count indicator style first size state₀ limit more₀ at₀ line₀ page state more at line =
+    (r : Row) → limit ≡ r .limit → Sized sheet style r size → StandsAt sheet (viewOf columns count) r first more₀ (pendingsOf state₀)
+    → Running sheet (viewOf columns count) style r first page₀ page (pendingsOf state) more at line
 
 abbrev μ-loop : tie.MeasureT-loop
-μ-loop page₀ sheet style view r ts₀ more₀ marks n at₀ line₀ page ts more at line = height (tableOf sheet) (contents (tableOf sheet)) (rowOf sheet r) - line
+μ-loop page₀ sheet columns count indicator style first size state₀ limit more₀ at₀ line₀ page state more at line = length page₀ - at
 
 pub draw-row-spec : {M : Type 1} → statement M
 draw-row-spec =
     tie.close
     (tie.spec
-    Inv-loop2
-    μ-loop2
     Inv-loop
     μ-loop
-    (λ c κs. let s = c .before .before in (s .pre .0 .some, s .pre .0 .ends))
-    (λ c κs. let s = c .before .before .before .before in
-    let k = c .before .row in
-    (s .pre .0 .rising, (s .pre .0 .wide, omega (arith, k .ensures .ends, row-whole (now (s .args .sheet)) (s .args .here) (s .pre .0 .some) (s .pre .0 .ends)))))
+    (λ c κs. (c .before .before .before .pre .0 .0, refl))
+    (λ c. λ r e Z S. let s = c .before .before .before .before in let a = s .args in running-begins (now (a .sheet)) (viewOf (now (a .columns)) (a .count)) (a .style) r (a .first) (s .pre .0 .0 .views) (now (a .page)) _ _ S)
     (λ c.
-    let s = c .before .before .before .before .before .before .before in
+    let s = c .before .before .before .before .before in
     let a = s .args in
-    let S = now (a .sheet) in
-    let T = tableOf S in
-    let W = contents T in
-    let rowed = c .before .before .before .before .row in
-    let r = rowOf S (rowed .result) in
-    let D = s .pre .0 in
-    let q : length (closed (styledLines T W r (a .style))) ≤ length (now (a .page)) = omega (arith, s .pre .1, ap length (row-bytes S (a .style) (a .here) (rowed .result) (rowed .ensures))) in
-    let f = c .before .before .format-row in
-    rowing-begins S T W r (a .t3) (D .views) (a .style) (now (a .page)) (f .result .standings) (f .result .more) (f .ensures .0) (f .ensures .1))
+    let l = c .loop in
+    let G = l .inv (firstRow (now (a .sheet)) (a .here)) (c .before .enter-row .ensures .limit) (s .pre .1) (c .before .enter-row .ensures .stands) in
+    running-room (now (a .sheet)) (viewOf (now (a .columns)) (a .count)) (a .style) (firstRow (now (a .sheet)) (a .here)) (a .first) (s .pre .0 .0 .views) (now (a .page)) (l .page) (pendingsOf (l .state)) (l .more) (l .at) (l .line) G)
     (λ c κs. search needs)
-    (λ c κs.
-    let s = c .before .before .before .before .before .before .before .before .before .before .before in
+    (λ c κs. search needs)
+    (λ c.
+    let s = c .before .before .before .before .before .before .before .before in
     let a = s .args in
-    let S = now (a .sheet) in
-    let T = tableOf S in
-    let W = contents T in
-    let rowed = c .before .before .before .before .before .before .before .before .row in
-    let r = rowOf S (rowed .result) in
-    let D = s .pre .0 in
-    let q : length (closed (styledLines T W r (a .style))) ≤ length (now (a .page)) = omega (arith, s .pre .1, ap length (row-bytes S (a .style) (a .here) (rowed .result) (rowed .ensures))) in
     let l = c .before .before .before .loop in
-    let h = c .before .before .loop-test .taken in
-    omega (arith, rowing-room S T W r (a .t3) (D .views) (a .style) (now (a .page)) (l .page) (l .ts) (l .more) (l .at) (l .line) (l .inv) h q, line-length S (a .t3) (a .style) (l .ts) (lastOf (rowed .result .limit) (l .line))))
+    let G = l .inv (firstRow (now (a .sheet)) (a .here)) (c .before .before .before .before .enter-row .ensures .limit) (s .pre .1) (c .before .before .before .before .enter-row .ensures .stands) in
+    running-room (now (a .sheet)) (viewOf (now (a .columns)) (a .count)) (a .style) (firstRow (now (a .sheet)) (a .here)) (a .first) (s .pre .0 .0 .views) (now (a .page)) (l .page) (pendingsOf (l .state)) (l .more) (l .at) (l .line) G)
+    (λ c.
+    let s = c .before .before .before .before .before .before .before .before in
+    let a = s .args in
+    let l = c .before .before .before .loop in
+    let G = l .inv (firstRow (now (a .sheet)) (a .here)) (c .before .before .before .before .enter-row .ensures .limit) (s .pre .1) (c .before .before .before .before .enter-row .ensures .stands) in
+    running-room (now (a .sheet)) (viewOf (now (a .columns)) (a .count)) (a .style) (firstRow (now (a .sheet)) (a .here)) (a .first) (s .pre .0 .0 .views) (now (a .page)) (l .page) (pendingsOf (l .state)) (l .more) (l .at) (l .line) G)
+    (λ c. search needs)
+    (λ c κs.
+    let s = c .before .before .before .before .before .before .before .before .before .before in
+    let a = s .args in
+    let l = c .before .before .before .before .before .loop in
+    let G = l .inv (firstRow (now (a .sheet)) (a .here)) (c .before .before .before .before .before .before .enter-row .ensures .limit) (s .pre .1) (c .before .before .before .before .before .before .enter-row .ensures .stands) in
+    let g = goes (l .more) (c .before .before .before .before .goes-on .result) (a .size) _ (c .before .before .before .before .goes-on .ensures) (c .before .before .before .if1 .taken) in
+    let last = c .before .before .is-last in
+    let room = lent (l .page) (l .at) in (
+      (stands-drawn (now (a .sheet)) (viewOf (now (a .columns)) (a .count)) (firstRow (now (a .sheet)) (a .here)) (s .pre .0 .0 .views) (l .line) (l .more) (pendingsOf (l .state)) (G .stands) (g .0), s .pre .0 .1 .within),
+      omega (arith, line-size (now (a .sheet)) (viewOf (now (a .columns)) (a .count)) (a .style) (firstRow (now (a .sheet)) (a .here)) (a .first) (s .pre .0 .0 .views) (now (a .page)) (l .page) (pendingsOf (l .state)) (l .more) (l .at) (l .line) G (g .0) (a .indicator) (s .pre .0 .1) _ (c .before .before .before .before .before .before .enter-row .ensures .limit) (last .result) (last .ensures) (a .size) (s .pre .1), g .1, ap length room, length-drop (l .at) (l .page)),
+    ))
     (λ c.
     let s = c .before .before .before .before .before .before .before .before .before .before .before .before .before .before in
     let a = s .args in
-    let S = now (a .sheet) in
-    let T = tableOf S in
-    let W = contents T in
-    let rowed = c .before .before .before .before .before .before .before .before .before .before .before .row in
-    let r = rowOf S (rowed .result) in
-    let D = s .pre .0 in
-    let q : length (closed (styledLines T W r (a .style))) ≤ length (now (a .page)) = omega (arith, s .pre .1, ap length (row-bytes S (a .style) (a .here) (rowed .result) (rowed .ensures))) in
-    let l = c .before .before .before .before .before .before .loop in
-    let z = c .before .before .before .before .is-last in
-    let e = c .before .before .draw-edge in
-    drawing-begins S (a .t3) (a .style) (l .ts) (z .result) (e .last .0) (e .result) (rowing-ready S T W r (a .t3) (D .views) (a .style) (now (a .page)) (l .page) (l .ts) (l .more) (l .at) (l .line) (l .inv)))
-    (λ c. omega (arith, c .before .before .before .before .before .before .before .before .before .before .before .before .before .before .before .before .pre .0 .views .most))
-    (λ c. omega (arith, c .before .before .before .before .before .before .before .before .before .before .before .before .before .before .before .before .pre .0 .views .most))
-    (λ c. omega (arith, c .before .before .before .before .before .before .before .before .before .before .before .before .before .before .before .before .before .pre .0 .views .most))
-    (λ c. omega (arith, c .before .before .before .before .before .before .before .before .before .before .before .before .before .before .before .before .before .pre .0 .views .most))
-    (λ c κs. search needs)
-    (λ c κs.
-    let s = c .before .before .before .before .before .before .before .before .before .before .before .before .before .before .before .before .before .before .before .before in
-    let a = s .args in
-    let S = now (a .sheet) in
-    let T = tableOf S in
-    let W = contents T in
-    let rowed = c .before .before .before .before .before .before .before .before .before .before .before .before .before .before .before .before .before .row in
-    let r = rowOf S (rowed .result) in
-    let D = s .pre .0 in
-    let q : length (closed (styledLines T W r (a .style))) ≤ length (now (a .page)) = omega (arith, s .pre .1, ap length (row-bytes S (a .style) (a .here) (rowed .result) (rowed .ensures))) in
-    let l = c .before .before .before .before .before .before .before .before .before .before .before .before .loop in
-    let h = c .before .before .before .before .before .before .before .before .before .before .before .loop-test .taken in
-    let z = c .before .before .before .before .before .before .before .before .before .before .is-last in
-    let e = c .before .before .before .before .before .before .before .before .draw-edge in
-    let m = c .before .before .before .before .before .loop2 in
-    let i = c .before .before .before .before .loop2-test .taken in
-    let R = rowing-ready S T W r (a .t3) (D .views) (a .style) (now (a .page)) (l .page) (l .ts) (l .more) (l .at) (l .line) (l .inv) in
-    let y = column-ready S (a .t3) (a .style) (l .ts) (z .result) (e .last .0) (e .result) R (m .page) (m .ts) (m .found) (m .at) (m .i) (m .inv) i in (
-      (y .line, (y .inside, (y .wide, D .views .marks))),
-      rw (c .before .joins-before .ensures)
-          (drawing-room S (a .t3) (a .style) (l .ts) (z .result) (e .last .0) (e .result) R (m .page) (m .ts) (m .found) (m .at) (m .i) (m .inv) i (omega (arith, rowing-room S T W r (a .t3) (D .views) (a .style) (now (a .page)) (l .page) (l .ts) (l .more) (l .at) (l .line) (l .inv) h q, ap (λ b. length (lineBytes S (a .t3) (a .style) (l .ts) b)) (z .ensures), e .ensures .0, e .kept .0, line-length S (a .t3) (a .style) (l .ts) (z .result)))),
-    ))
-    (λ c κs. search needs)
-    (λ c. omega (arith, c .before .before .before .before .before .before .before .before .before .before .before .before .before .before .before .before .before .before .before .before .before .before .before .before .before .pre .0 .views .most))
-    (λ c. omega (arith, c .before .before .before .before .before .before .before .before .before .before .before .before .before .before .before .before .before .before .before .before .before .before .before .before .before .pre .0 .views .most))
-    (λ c. omega (arith, c .before .before .before .before .before .before .before .before .before .before .before .before .before .before .before .before .before .before .before .before .before .before .before .before .before .pre .0 .views .most))
-    (λ c. omega arith)
-    (λ c.
-    let s = c .before .before .before .before .before .before .before .before .before .before .before .before .before .before .before .before .before .before .before .before .before .before .before .before .before in
-    let a = s .args in
-    let S = now (a .sheet) in
-    let T = tableOf S in
-    let W = contents T in
-    let rowed = c .before .before .before .before .before .before .before .before .before .before .before .before .before .before .before .before .before .before .before .before .before .before .row in
-    let r = rowOf S (rowed .result) in
-    let D = s .pre .0 in
-    let q : length (closed (styledLines T W r (a .style))) ≤ length (now (a .page)) = omega (arith, s .pre .1, ap length (row-bytes S (a .style) (a .here) (rowed .result) (rowed .ensures))) in
-    let l = c .before .before .before .before .before .before .before .before .before .before .before .before .before .before .before .before .before .loop in
-    let h = c .before .before .before .before .before .before .before .before .before .before .before .before .before .before .before .before .loop-test .taken in
-    let z = c .before .before .before .before .before .before .before .before .before .before .before .before .before .before .before .is-last in
-    let e = c .before .before .before .before .before .before .before .before .before .before .before .before .before .draw-edge in
-    let m = c .before .before .before .before .before .before .before .before .before .before .loop2 in
-    let i = c .before .before .before .before .before .before .before .before .before .loop2-test .taken in
-    let d = c .before .before .before .before .draw-column in
-    let j = c .before .before .before .before .before .before .joins-before .ensures in
-    drawing-on S (a .t3) (a .style) (l .ts) (z .result) (e .last .0) (e .result) (rowing-ready S T W r (a .t3) (D .views) (a .style) (now (a .page)) (l .page) (l .ts) (l .more) (l .at) (l .line) (l .inv)) (m .page) (m .ts) (m .found) (m .at) (m .i) (m .inv) i
-    (d .last .0) (d .result .standing) (d .result .at) (c .either .result) (omega (arith, rowing-room S T W r (a .t3) (D .views) (a .style) (now (a .page)) (l .page) (l .ts) (l .more) (l .at) (l .line) (l .inv) h q, ap (λ b. length (lineBytes S (a .t3) (a .style) (l .ts) b)) (z .ensures), e .ensures .0, e .kept .0, line-length S (a .t3) (a .style) (l .ts) (z .result)))
-    (rw j at (d .ensures .0 .0)) (d .ensures .0 .1) (rw j at (d .ensures .1)) (d .kept .0) (c .either .ensures))
-    (λ c κs.
-    let s = c .before .before .before .before .before .before .before .before .before .before .before .before .before .before .before .before .before in
-    let a = s .args in
-    let S = now (a .sheet) in
-    let T = tableOf S in
-    let W = contents T in
-    let rowed = c .before .before .before .before .before .before .before .before .before .before .before .before .before .before .row in
-    let r = rowOf S (rowed .result) in
-    let D = s .pre .0 in
-    let q : length (closed (styledLines T W r (a .style))) ≤ length (now (a .page)) = omega (arith, s .pre .1, ap length (row-bytes S (a .style) (a .here) (rowed .result) (rowed .ensures))) in
     let l = c .before .before .before .before .before .before .before .before .before .loop in
-    let h = c .before .before .before .before .before .before .before .before .loop-test .taken in
-    let z = c .before .before .before .before .before .before .before .is-last in
-    let e = c .before .before .before .before .before .draw-edge in
-    let m = c .before .before .loop2 in
-    let d = drawing-done S (a .t3) (a .style) (l .ts) (z .result) (e .last .0) (e .result) (rowing-ready S T W r (a .t3) (D .views) (a .style) (now (a .page)) (l .page) (l .ts) (l .more) (l .at) (l .line) (l .inv)) (m .page) (m .ts) (m .found) (m .at) (m .i) (m .inv) (c .before .loop2-test .left) in
-    let k : e .result + length (build (linePiece S (a .t3) (a .style) (l .ts) (z .result)) (a .t3 .count)) ≤ length (e .last .0) = omega (arith, rowing-room S T W r (a .t3) (D .views) (a .style) (now (a .page)) (l .page) (l .ts) (l .more) (l .at) (l .line) (l .inv) h q, ap (λ b. length (lineBytes S (a .t3) (a .style) (l .ts) b)) (z .ensures), e .ensures .0, e .kept .0, line-length S (a .t3) (a .style) (l .ts) (z .result)) in
-    omega (arith, d .place, d .size, rowing-room S T W r (a .t3) (D .views) (a .style) (now (a .page)) (l .page) (l .ts) (l .more) (l .at) (l .line) (l .inv) h q, ap (λ b. length (lineBytes S (a .t3) (a .style) (l .ts) b)) (z .ensures), e .ensures .0, e .kept .0, line-length S (a .t3) (a .style) (l .ts) (z .result)))
+    let G = l .inv (firstRow (now (a .sheet)) (a .here)) (c .before .before .before .before .before .before .before .before .before .before .enter-row .ensures .limit) (s .pre .1) (c .before .before .before .before .before .before .before .before .before .before .enter-row .ensures .stands) in
+    let g = goes (l .more) (c .before .before .before .before .before .before .before .before .goes-on .result) (a .size) _ (c .before .before .before .before .before .before .before .before .goes-on .ensures) (c .before .before .before .before .before .before .before .if1 .taken) in
+    omega (arith, c .before .before .before .write-line .ensures .0, line-size (now (a .sheet)) (viewOf (now (a .columns)) (a .count)) (a .style) (firstRow (now (a .sheet)) (a .here)) (a .first) (s .pre .0 .0 .views) (now (a .page)) (l .page) (pendingsOf (l .state)) (l .more) (l .at) (l .line) G (g .0) (a .indicator) (s .pre .0 .1) _ (c .before .before .before .before .before .before .before .before .before .before .enter-row .ensures .limit) (c .before .before .before .before .before .before .is-last .result) (c .before .before .before .before .before .before .is-last .ensures) (a .size) (s .pre .1), g .1, running-room (now (a .sheet)) (viewOf (now (a .columns)) (a .count)) (a .style) (firstRow (now (a .sheet)) (a .here)) (a .first) (s .pre .0 .0 .views) (now (a .page)) (l .page) (pendingsOf (l .state)) (l .more) (l .at) (l .line) G, running-size (now (a .sheet)) (viewOf (now (a .columns)) (a .count)) (a .style) (firstRow (now (a .sheet)) (a .here)) (a .first) (s .pre .0 .0 .views) (now (a .page)) (l .page) (pendingsOf (l .state)) (l .more) (l .at) (l .line) G, s .good))
     (λ c κs. search needs)
     (λ c.
-    let s = c .before .before .before .before .before .before .before .before .before .before .before .before .before .before .before .before .before .before .before .before .before in
+    let s = c .before .before .before .before .before .before .before .before .before .before .before .before .before .before .before in
     let a = s .args in
-    let S = now (a .sheet) in
-    let T = tableOf S in
-    let W = contents T in
-    let rowed = c .before .before .before .before .before .before .before .before .before .before .before .before .before .before .before .before .before .before .row in
-    let r = rowOf S (rowed .result) in
-    let D = s .pre .0 in
-    let q : length (closed (styledLines T W r (a .style))) ≤ length (now (a .page)) = omega (arith, s .pre .1, ap length (row-bytes S (a .style) (a .here) (rowed .result) (rowed .ensures))) in
-    let l = c .before .before .before .before .before .before .before .before .before .before .before .before .before .loop in
-    let h = c .before .before .before .before .before .before .before .before .before .before .before .before .loop-test .taken in
-    omega (arith, s .good, rowing-few S T W r (a .t3) (D .views) (a .style) (now (a .page)) (l .page) (l .ts) (l .more) (l .at) (l .line) (l .inv) h q))
+    let l = c .before .before .before .before .before .before .before .before .before .before .loop in
+    let G = l .inv (firstRow (now (a .sheet)) (a .here)) (c .before .before .before .before .before .before .before .before .before .before .before .enter-row .ensures .limit) (s .pre .1) (c .before .before .before .before .before .before .before .before .before .before .before .enter-row .ensures .stands) in
+    let g = goes (l .more) (c .before .before .before .before .before .before .before .before .before .goes-on .result) (a .size) _ (c .before .before .before .before .before .before .before .before .before .goes-on .ensures) (c .before .before .before .before .before .before .before .before .if1 .taken) in
+    omega (arith, stands-less (now (a .sheet)) (viewOf (now (a .columns)) (a .count)) (firstRow (now (a .sheet)) (a .here)) (s .pre .0 .0 .views) (l .line) (l .more) (pendingsOf (l .state)) (G .stands) (g .0), s .pre .1 .few))
     (λ c.
-    let s = c .before .before .before .before .before .before .before .before .before .before .before .before .before .before .before .before .before .before .before .before .before in
+    let s = c .before .before .before .before .before .before .before .before .before .before .before .before .before .before .before in
     let a = s .args in
-    let S = now (a .sheet) in
-    let T = tableOf S in
-    let W = contents T in
-    let rowed = c .before .before .before .before .before .before .before .before .before .before .before .before .before .before .before .before .before .before .row in
-    let r = rowOf S (rowed .result) in
-    let D = s .pre .0 in
-    let q : length (closed (styledLines T W r (a .style))) ≤ length (now (a .page)) = omega (arith, s .pre .1, ap length (row-bytes S (a .style) (a .here) (rowed .result) (rowed .ensures))) in
-    let l = c .before .before .before .before .before .before .before .before .before .before .before .before .before .loop in
-    let h = c .before .before .before .before .before .before .before .before .before .before .before .before .loop-test .taken in
-    omega (arith, rowing-less S T W r (a .t3) (D .views) (a .style) (now (a .page)) (l .page) (l .ts) (l .more) (l .at) (l .line) (l .inv) h))
+    let l = c .before .before .before .before .before .before .before .before .before .before .loop in
+    let G = l .inv (firstRow (now (a .sheet)) (a .here)) (c .before .before .before .before .before .before .before .before .before .before .before .enter-row .ensures .limit) (s .pre .1) (c .before .before .before .before .before .before .before .before .before .before .before .enter-row .ensures .stands) in
+    let g = goes (l .more) (c .before .before .before .before .before .before .before .before .before .goes-on .result) (a .size) _ (c .before .before .before .before .before .before .before .before .before .goes-on .ensures) (c .before .before .before .before .before .before .before .before .if1 .taken) in
+    let z = s .pre .1 .each (l .line) (stands-less (now (a .sheet)) (viewOf (now (a .columns)) (a .count)) (firstRow (now (a .sheet)) (a .here)) (s .pre .0 .0 .views) (l .line) (l .more) (pendingsOf (l .state)) (G .stands) (g .0)) in
+    omega (arith, c .before .before .before .before .write-line .ensures .0, line-size (now (a .sheet)) (viewOf (now (a .columns)) (a .count)) (a .style) (firstRow (now (a .sheet)) (a .here)) (a .first) (s .pre .0 .0 .views) (now (a .page)) (l .page) (pendingsOf (l .state)) (l .more) (l .at) (l .line) G (g .0) (a .indicator) (s .pre .0 .1) _ (c .before .before .before .before .before .before .before .before .before .before .before .enter-row .ensures .limit) (c .before .before .before .before .before .before .before .is-last .result) (c .before .before .before .before .before .before .before .is-last .ensures) (a .size) (s .pre .1), g .1, running-room (now (a .sheet)) (viewOf (now (a .columns)) (a .count)) (a .style) (firstRow (now (a .sheet)) (a .here)) (a .first) (s .pre .0 .0 .views) (now (a .page)) (l .page) (pendingsOf (l .state)) (l .more) (l .at) (l .line) G, running-size (now (a .sheet)) (viewOf (now (a .columns)) (a .count)) (a .style) (firstRow (now (a .sheet)) (a .here)) (a .first) (s .pre .0 .0 .views) (now (a .page)) (l .page) (pendingsOf (l .state)) (l .more) (l .at) (l .line) G, z))
     (λ c.
-    let s = c .before .before .before .before .before .before .before .before .before .before .before .before .before .before .before .before .before .before .before .before .before in
+    λ r e Z S.
+    let s = c .before .before .before .before .before .before .before .before .before .before .before .before .before .before .before in
     let a = s .args in
-    let S = now (a .sheet) in
-    let T = tableOf S in
-    let W = contents T in
-    let rowed = c .before .before .before .before .before .before .before .before .before .before .before .before .before .before .before .before .before .before .row in
-    let r = rowOf S (rowed .result) in
-    let D = s .pre .0 in
-    let q : length (closed (styledLines T W r (a .style))) ≤ length (now (a .page)) = omega (arith, s .pre .1, ap length (row-bytes S (a .style) (a .here) (rowed .result) (rowed .ensures))) in
-    let l = c .before .before .before .before .before .before .before .before .before .before .before .before .before .loop in
-    let h = c .before .before .before .before .before .before .before .before .before .before .before .before .loop-test .taken in
-    let z = c .before .before .before .before .before .before .before .before .before .before .before .is-last in
-    let e = c .before .before .before .before .before .before .before .before .before .draw-edge in
-    let m = c .before .before .before .before .before .before .loop2 in
-    let d = drawing-done S (a .t3) (a .style) (l .ts) (z .result) (e .last .0) (e .result) (rowing-ready S T W r (a .t3) (D .views) (a .style) (now (a .page)) (l .page) (l .ts) (l .more) (l .at) (l .line) (l .inv)) (m .page) (m .ts) (m .found) (m .at) (m .i) (m .inv) (c .before .before .before .before .before .loop2-test .left) in
-    let f = c .before .before .before .close-line in
-    let R = rowing-ready S T W r (a .t3) (D .views) (a .style) (now (a .page)) (l .page) (l .ts) (l .more) (l .at) (l .line) (l .inv) in
-    let P = passing-done S (a .t3) (l .ts) (m .ts) (m .found) (m .i) (c .before .before .before .before .before .loop2-test .left) (m .inv .passing) in
-    let y : lineBytes S (a .t3) (a .style) (l .ts) (z .result) ≡ lineBytes S (a .t3) (a .style) (l .ts) (lastOf (rowed .result .limit) (l .line)) = ap (lineBytes S (a .t3) (a .style) (l .ts)) (z .ensures) in
-    rowing-on S T W r (a .t3) (D .views) (a .style) (now (a .page)) (l .page) (l .ts) (l .more) (l .at) (l .line) (l .inv) h (f .last .0) (m .ts) (m .found) (c .stays .result) (f .result) q
-    (line-put S (a .t3) (a .style) (l .ts) (z .result) (l .page) (e .last .0) (m .page) (f .last .0) (l .at) (e .result) (m .at) (e .ensures .1) (d .text) (f .ensures .1) (sym (e .ensures .0)) (sym (d .place)) (omega (arith, rowing-room S T W r (a .t3) (D .views) (a .style) (now (a .page)) (l .page) (l .ts) (l .more) (l .at) (l .line) (l .inv) h q))
-    ∙ ap (putAt (l .page) (l .at)) y)
-    (omega (arith, f .ensures .0, d .place, e .ensures .0, line-length S (a .t3) (a .style) (l .ts) (z .result), ap length y))
-    (P .0) (P .1) (c .stays .ensures))
-    (λ c. c .before .loop .inv .size)
+    let l = c .before .before .before .before .before .before .before .before .before .before .loop in
+    let w = c .before .before .before .before .write-line in
+    let g = goes (l .more) (c .before .before .before .before .before .before .before .before .before .goes-on .result) (a .size) _ (c .before .before .before .before .before .before .before .before .before .goes-on .ensures) (c .before .before .before .before .before .before .before .before .if1 .taken) in
+    running-on (now (a .sheet)) (viewOf (now (a .columns)) (a .count)) (a .style) r (a .first) (s .pre .0 .0 .views) (now (a .page)) (l .page) (pendingsOf (l .state)) (l .more) (l .at) (l .line) (l .inv r e Z S)
+    (g .0) (a .indicator) (s .pre .0 .1) _ e (c .before .before .before .before .before .before .before .is-last .result) (c .before .before .before .before .before .before .before .is-last .ensures) (a .size) Z (g .1) _ (w .last .0) _ (w .result .more) (c .stays .result) (w .result .written)
+    (w .ensures .1 .1) refl (w .ensures .0) (w .ensures .1 .0 .0) (w .ensures .1 .0 .1) (c .stays .ensures))
     (λ c.
-    let s = c .before .before .before .before .before .before .before .before .before in
+    let s = c .before .before .before .before .before .before .before in
     let a = s .args in
-    let S = now (a .sheet) in
-    let T = tableOf S in
-    let W = contents T in
-    let rowed = c .before .before .before .before .before .before .row in
-    let r = rowOf S (rowed .result) in
-    let D = s .pre .0 in
-    let q : length (closed (styledLines T W r (a .style))) ≤ length (now (a .page)) = omega (arith, s .pre .1, ap length (row-bytes S (a .style) (a .here) (rowed .result) (rowed .ensures))) in
-    let l = c .before .loop in
-    let b = row-bytes S (a .style) (a .here) (rowed .result) (rowed .ensures) in
-    let d = rowing-done S T W r (a .t3) (D .views) (a .style) (now (a .page)) (l .page) (l .ts) (l .more) (l .at) (l .line) (l .inv) (c .loop-test .left) in
-    (d .0 ∙ ap length (sym b), d .1 ∙ ap (λ x. over x (now (a .page))) (sym b))))
+    let l = c .before .before .loop in
+    let G = l .inv (firstRow (now (a .sheet)) (a .here)) (c .before .before .before .enter-row .ensures .limit) (s .pre .1) (c .before .before .before .enter-row .ensures .stands) in
+    G .onward)
+    (λ c.
+    let s = c .before .before .before .before .before .before .before in
+    let a = s .args in
+    let l = c .before .before .loop in
+    let G = l .inv (firstRow (now (a .sheet)) (a .here)) (c .before .before .before .enter-row .ensures .limit) (s .pre .1) (c .before .before .before .enter-row .ensures .stands) in
+    running-size (now (a .sheet)) (viewOf (now (a .columns)) (a .count)) (a .style) (firstRow (now (a .sheet)) (a .here)) (a .first) (s .pre .0 .0 .views) (now (a .page)) (l .page) (pendingsOf (l .state)) (l .more) (l .at) (l .line) G)
+    (λ c.
+    let s = c .before .before .before .before .before .before .before in
+    let a = s .args in
+    let l = c .before .before .loop in
+    let G = l .inv (firstRow (now (a .sheet)) (a .here)) (c .before .before .before .enter-row .ensures .limit) (s .pre .1) (c .before .before .before .enter-row .ensures .stands) in
+    running-done (now (a .sheet)) (viewOf (now (a .columns)) (a .count)) (a .style) (firstRow (now (a .sheet)) (a .here)) (a .first) (s .pre .0 .0 .views) (now (a .page)) (l .page) (pendingsOf (l .state)) (l .more) (l .at) (l .line) G (a .size) (s .pre .1) (c .before .goes-on .result) (c .before .goes-on .ensures) (c .if1 .left)))

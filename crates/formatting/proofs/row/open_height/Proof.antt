@@ -1,9 +1,9 @@
+use borrow.Author.Needs.{needs}
 use native.Mathlib.Omega.{arith}
+use Prim.Native.Nat.{_<_}
 use denote.Ref.{now}
 use Rattle.sheet.proofs.Walks.{lines-inside}
-use Rattle.formatting.proofs.Open.{opened-inside}
 use Rattle.formatting.proofs.Heights.{height-missing, height-here}
-use borrow.Author.Needs.{needs}
 use Rattle.formatting.proofs.row.open_height.Statement.{statement}
 use Rattle.formatting.proofs.row.open_height.Tie as tie
 
@@ -14,13 +14,12 @@ open-height-spec =
     (λ c. let s = c .before .before .before in height-missing (now (s .args .sheet)) (s .args .from) (s .args .v) (c .if1 .taken))
     (λ c κs. search needs)
     (λ c κs. search needs)
-    (λ c κs. let s = c .before .before .before .before .before .before in
-    let a = s .args in
-    let X = c .before .before .cell .ensures in
-    let k = lines-inside (now (a .sheet)) (a .from) (c .before .before .cell .result) (omega (arith, c .before .before .before .if1 .left)) (s .pre .1) X in
-    (opened-inside (now (a .sheet)) (a .from) (c .before .before .cell .result) X (a .v) (s .pre .0) (s .pre .1) k, s .pre .0))
-    (λ c. let s = c .before .before .before .before .before .before .before in
-    let a = s .args in
-    let X = c .before .before .before .cell .ensures in
-    let k = lines-inside (now (a .sheet)) (a .from) (c .before .before .before .cell .result) (omega (arith, c .before .before .before .before .if1 .left)) (s .pre .1) X in
-    height-here (now (a .sheet)) (a .from) (c .before .before .before .cell .result) X (a .v) (s .pre .0) (s .pre .1) k (c .before .or-else .result) (c .cell-height .result) (c .before .or-else .ensures) (c .cell-height .ensures)))
+    (λ c κs.
+    let s = c .before .before .before .before .before .before in
+    let x = c .before .before .cell in
+    let some : 0 < s .args .from .left = omega (arith, c .before .before .before .if1 .left) in
+    (lines-inside (now (s .args .sheet)) (s .args .from) (x .result) some (s .pre .1) (x .ensures), s .pre .0))
+    (λ c.
+    let s = c .before .before .before .before .before .before .before in
+    let x = c .before .before .before .cell in
+    height-here (now (s .args .sheet)) (s .args .from) (x .result) (x .ensures) (s .args .v) _ _ (c .before .or-else .ensures) (c .cell-height .ensures)))

@@ -1,0 +1,32 @@
+use borrow.Author.Needs.{needs}
+use native.Mathlib.Omega.{arith}
+use denote.Ref.{now}
+use Rattle.sheet.specs.Walk.{firstRow}
+use Rattle.sheet.proofs.Walks.{cells-inside}
+use Rattle.formatting.specs.Packed.{viewOf, pendingsOf}
+use Rattle.formatting.proofs.RowText.{enters-first}
+use Rattle.formatting.proofs.content_format.enter_row.Statement.{statement}
+use Rattle.formatting.proofs.content_format.enter_row.Tie as tie
+
+pub enter-row-spec : {M : Type 1} → statement M
+enter-row-spec =
+    tie.close
+    (tie.spec
+    (λ c κs. search needs)
+    (λ c κs.
+    let s = c .before .before .before .before in
+    let D = s .pre .0 in
+    let r = c .before .before .row in
+    ((D .rising, (D .wide, cells-inside (now (s .args .sheet)) (s .args .here) (r .result) (D .some) (D .ends) (r .ensures))), s .pre .1))
+    (λ c κs.
+    let s = c .before .before .before .before .before .before in
+    let D = s .pre .0 in
+    let r = c .before .before .before .before .row in
+    let f = c .before .format-row in
+    let a = s .args in
+    let e = f .ensures in (
+      (D, r .ensures .limit),
+      enters-first (now (a .sheet)) (viewOf (now (a .columns)) (a .count)) (firstRow (now (a .sheet)) (a .here)) (D .views) (pendingsOf (f .last .1 .1 .1 .1 .0)) (f .result)
+          (rw (r .ensures .cells) at (e .0)) (e .1),
+    ))
+    (λ c. record { limit = c .before .before .before .before .before .row .ensures .limit; stands = c .skip-lines .ensures }))
