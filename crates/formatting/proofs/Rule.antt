@@ -7,7 +7,7 @@ use lib.ListN.{length, set, length-append, length-replicate}
 use Rattle.buffer.specs.Put.{over, putAt, build, edge}
 use Rattle.buffer.proofs.Laws.{put-nil, put-one, over-put-zero, build-room, build-more}
 use Rattle.formatting.specs.Line.{View, visibleAt, lead}
-use Rattle.formatting.specs.Rule.{ruleArea, rulePiece, ruleBytes}
+use Rattle.formatting.specs.Rule.{ruleArea, rulePiece, ruleText, ruleBytes}
 use Rattle.formatting.specs.declared.borders.RuleStyle.{RuleStyle}
 use Rattle.formatting.proofs.Area.{two}
 
@@ -15,6 +15,10 @@ module _ (view : View) (style : RuleStyle) where
   pub rule-is : ruleBytes view style ≡ edge (style .opens) (style .left) ++ (build (rulePiece view style) (view .count) ++ (edge (style .closes) (style .right) ++ (10 ∷ [])))
   unfolding ruleBytes
   rule-is = refl
+
+  pub rule-text : ruleBytes view style ≡ ruleText view style ++ (10 ∷ [])
+  unfolding ruleBytes ruleText
+  rule-text = simp append-assoc
 
   pub rule-length : length (ruleBytes view style)
       ≡ length (edge (style .opens) (style .left)) + length (build (rulePiece view style) (view .count)) + length (edge (style .closes) (style .right)) + 1

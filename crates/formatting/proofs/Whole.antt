@@ -17,7 +17,7 @@ use Rattle.rules.proofs.Lists.{upFrom-last, length-upFrom}
 use Rattle.buffer.specs.Put.{build, edge}
 use Rattle.formatting.specs.Area.{columnPiece}
 use Rattle.formatting.specs.Line.{View, lead, visibleAt, pendingAt, linePiece, lineBytes, anyFound, AfterAll, ReadyAll}
-use Rattle.formatting.specs.Rule.{ruleArea, rulePiece, ruleBytes}
+use Rattle.formatting.specs.Rule.{ruleArea, rulePiece, ruleText}
 use Rattle.formatting.specs.Open.{OpenedAt, OpenedRow}
 use Rattle.formatting.specs.RowText.{styled}
 use Rattle.formatting.specs.Stand.{shownOf, numberOf, Views, StandsCell, StandsRow, inLimit, lastOf, textStyleOf, ruleStyleOf}
@@ -115,8 +115,8 @@ area-fill t ws j f v e =
     rw e (ap (λ n. replicate n f) z)
 
 pub rule-drawn : (t : Table) (ws : List ℕ) (view : View) → Views t ws view → (S : List ℕ) (always : Bool) (k : ℕ)
-    → ruleBytes view (ruleStyleOf S (always || anyJunction S) k) ≡ ruled S always k (visibleWidths t ws) ++ (10 ∷ [])
-unfolding ruleBytes rulePiece ruleStyleOf ruled lineOf visibleWidths
+    → ruleText view (ruleStyleOf S (always || anyJunction S) k) ≡ ruled S always k (visibleWidths t ws)
+unfolding ruleText rulePiece ruleStyleOf ruled lineOf visibleWidths
 rule-drawn t ws view W S always k =
     let b = always || anyJunction S in
     let f = glyph (glyphAt S (k + 1)) in
@@ -126,7 +126,6 @@ rule-drawn t ws view W S always k =
     let q : map (λ v. replicate v f) (map (visibleWidth t ws) (visible t)) ≡ map g (upFrom 0 (view .count)) =
     map-map (visibleWidth t ws) (λ v. replicate v f) (visible t) ∙ map-numbered (λ j. replicate (visibleWidth t ws j) f) 0 (visible t) ∙ ap (λ n. map g (upFrom 0 n)) (sym (W .count)) in
     rw (p, build-joined b (glyph (glyphAt S (k + 2))) g (view .count), q, edge-same (anyLeft S) (glyphAt S k), edge-same b (glyphAt S (k + 2)), edge-same (anyRight S) (glyphAt S (k + 3)))
-    (simp append-assoc)
 
 -- ---- a row's height
 

@@ -17,6 +17,10 @@ ruleArea v f = replicate (v .left + (v .width + v .right)) f
 unfoldable pub rulePiece : View → RuleStyle → ℕ → List ℕ
 rulePiece view style i = edge (lead i (style .joined)) (style .junction) ++ ruleArea (visibleAt view i) (style .fill)
 
+-- the line
+unfoldable pub ruleText : View → RuleStyle → List ℕ
+ruleText view style = edge (style .opens) (style .left) ++ (build (rulePiece view style) (view .count) ++ edge (style .closes) (style .right))
+
 -- the line with its 0A
 unfoldable pub ruleBytes : View → RuleStyle → List ℕ
 ruleBytes view style = edge (style .opens) (style .left) ++ (build (rulePiece view style) (view .count) ++ (edge (style .closes) (style .right) ++ (10 ∷ [])))

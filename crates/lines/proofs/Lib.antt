@@ -1,0 +1,4 @@
+pub mod Opening
+pub mod Parts
+pub mod Measures
+pub mod Walks

@@ -1,0 +1,44 @@
+use borrow.Author.Needs.{needs}
+use native.Mathlib.Omega.{arith}
+use Prim.Native.Nat.{_≤_}
+use mathlib.Core.Path.{_≡_, sym, _∙_}
+use denote.Ref.{now}
+use Rattle.lines.specs.Ahead.{stepsOf}
+use Rattle.lines.proofs.Walks.{total-lines, total-bytes, Counting, counting-begins, counting-room, counting-on, counting-done, not-true, not-false}
+use Rattle.lines.proofs.count.Statement.{statement}
+use Rattle.lines.proofs.count.Tie as tie
+
+abbrev Inv-loop : tie.InvT-loop
+Inv-loop sheet columns p l c₀ lines₀ bytes₀ c lines bytes = Counting sheet p c lines bytes
+
+abbrev μ-loop : tie.MeasureT-loop
+μ-loop sheet columns p l c₀ lines₀ bytes₀ c lines bytes = stepsOf c
+
+pub count-spec : {M : Type 1} → statement M
+count-spec =
+    tie.close
+    (tie.spec
+    Inv-loop
+    μ-loop
+    (λ c κs. search needs)
+    (λ c κs. search needs)
+    (λ c. let s = c .before .before .before in counting-begins (now (s .args .sheet)) (now (s .args .columns)) (s .args .p) (s .pre) _ (c .first .ensures))
+    (λ c κs. search needs)
+    (λ c κs. (c .before .before .before .before .before .before .pre, c .before .before .loop .inv .at .rows))
+    (λ c κs. (c .before .before .before .before .before .before .before .pre, c .before .before .before .before .before .measure .ensures))
+    (λ c.
+        let s = c .before .before .before .before .before .before .before .before in
+        let r = counting-room (now (s .args .sheet)) (s .args .p) (c .before .before .before .before .loop .c) _ _ (c .before .before .before .before .loop .inv) _ _ (c .before .lines .ensures) (c .line-size .ensures) in
+        omega (arith, r .0, total-lines (now (s .args .sheet)) (now (s .args .columns)) (s .args .p) (s .pre)))
+    (λ c.
+        let s = c .before .before .before .before .before .before .before .before in
+        let r = counting-room (now (s .args .sheet)) (s .args .p) (c .before .before .before .before .loop .c) _ _ (c .before .before .before .before .loop .inv) _ _ (c .before .lines .ensures) (c .line-size .ensures) in
+        omega (arith, r .1 .0, total-bytes (now (s .args .sheet)) (now (s .args .columns)) (s .args .p) (s .pre)))
+    (λ c.
+        let s = c .before .before .before .before .before .before .before .before in
+        let r = counting-room (now (s .args .sheet)) (s .args .p) (c .before .before .before .before .loop .c) _ _ (c .before .before .before .before .loop .inv) _ _ (c .before .lines .ensures) (c .line-size .ensures) in
+        omega (arith, r .1 .1, total-bytes (now (s .args .sheet)) (now (s .args .columns)) (s .args .p) (s .pre)))
+    (λ c κs. c .before .before .before .before .loop .inv .at .rows)
+    (λ c. c .next .ensures .fewer (sym (c .before .before .before .before .is-end .ensures) ∙ not-true (c .before .before .before .before .is-end .result) (c .before .before .before .if1 .taken)))
+    (λ c. counting-on _ _ (c .before .before .before .before .before .loop .c) _ _ (c .before .before .before .before .before .loop .inv) _ _ (c .before .before .lines .ensures) (c .before .line-size .ensures) _ (c .next .ensures))
+    (λ c. counting-done _ _ (c .before .before .loop .c) _ _ (c .before .before .loop .inv) (sym (c .before .is-end .ensures) ∙ not-false (c .before .is-end .result) (c .if1 .left))))

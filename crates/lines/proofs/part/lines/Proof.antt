@@ -1,0 +1,26 @@
+use borrow.Author.Needs.{needs}
+use denote.Ref.{now}
+use Rattle.lines.proofs.Parts.{top-count, header-count, body-count, bottom-count, end-count}
+use mathlib.Core.Path.{refl}
+use Rattle.lines.proofs.part.lines.Statement.{statement}
+use Rattle.lines.proofs.part.lines.Tie as tie
+
+pub lines-spec : {M : Type 1} → statement M
+lines-spec =
+    tie.close
+    (tie.spec
+    (λ c. search needs)
+    (λ c κs. search needs)
+    (λ c. search needs)
+    (λ c κs. (c .before .before .before .before .before .before .before .before .pre .0, c .before .before .before .before .before .before .before .before .pre .0 .header-at))
+    (λ c. search needs)
+    (λ c κs. search needs)
+    (λ c κs. search needs)
+    (λ c. search needs)
+    (λ c κs. search needs)
+    (λ c. search needs)
+    (λ c. top-count _ _ _ (c .before .before .before .before .before .before .before .before .before .pre .0) (c .before .before .before .before .before .before .before .before .before .args .c) _ (c .before .enum-told .given .1) (c .where-drawn .ensures .0))
+    (λ c. header-count _ _ _ (c .before .before .before .before .before .before .before .before .before .pre .0) (c .before .before .before .before .before .before .before .before .before .args .c) _ (c .before .enum-told2 .given .1) (c .band-lines .ensures))
+    (λ c. body-count _ _ _ (c .before .before .before .before .before .before .before .before .before .before .before .pre .0) (c .before .before .before .before .before .before .before .before .before .before .before .args .c) _ _ (c .before .before .before .enum-told3 .given .1) (c .before .both .ensures) (c .band-lines2 .ensures))
+    (λ c. bottom-count _ _ _ (c .before .before .before .before .before .before .before .before .before .pre .0) (c .before .before .before .before .before .before .before .before .before .args .c) _ (c .before .enum-told4 .given .1) (c .where-drawn2 .ensures .0))
+    (λ c. end-count _ _ _ (c .before .before .before .before .before .before .before .before .pre .0) (c .before .before .before .before .before .before .before .before .args .c) _ (c .enum-told5 .given .1) refl))

@@ -1,0 +1,31 @@
+-- The first of some rows and the rule after it, by the styles that they are drawn with. Assumes nothing.
+use Prim.Native.Nat.{ℕ, _+_, _<_}
+use mathlib.Core.Path.{_≡_}
+use mathlib.Core.List.{List, [], _∷_, _++_}
+use mathlib.Core.Bool.{Bool, cond, _&&_}
+use lib.ListN.{length, getD}
+use lib.Dec.{ltb}
+use Rattle.rules.specs.Sheet.{Row, noRow}
+use Rattle.formatting.specs.Line.{View}
+use Rattle.formatting.specs.RowText.{rowLines, rowHeight, Sized}
+use Rattle.formatting.specs.Rule.{ruleText}
+use Rattle.lines.specs.declared.open.RowStyle.{RowStyle}
+
+-- its lines
+unfoldable pub bandLines : List ℕ → View → RowStyle → List Row → List (List ℕ)
+bandLines s view y [] = []
+bandLines s view y (r ∷ rs) = rowLines s (y .lines) r ++ cond (y .ruled) (ruleText view (y .rule) ∷ []) []
+
+-- how many they are
+unfoldable pub bandCount : List ℕ → Bool → List Row → ℕ
+bandCount s ruled [] = 0
+bandCount s ruled (r ∷ rs) = rowHeight s r + cond ruled 1 0
+
+-- in the body a rule stands only between two rows
+abbrev pub bodyStyle : RowStyle → ℕ → RowStyle
+bodyStyle y left = record { lines = y .lines; rule = y .rule; ruled = y .ruled && ltb 1 left }
+
+-- each of its lines takes n bytes, its 0A included
+pub record SizedBand (s : List ℕ) (view : View) (y : RowStyle) (rs : List Row) (n : ℕ) : Type 0 where
+  pub text : 0 < length rs → Sized s (y .lines) (getD rs 0 noRow) n
+  pub rule : n ≡ length (ruleText view (y .rule)) + 1

@@ -1,0 +1,37 @@
+-- A page's lines counted, sought and written. Assumes nothing.
+use Prim.Native.Nat.{ℕ, _≤_, _<_}
+use mathlib.Core.Path.{_≡_}
+use mathlib.Core.List.{List}
+use mathlib.Core.Bool.{false}
+use lib.ListN.{length, drop}
+use Rattle.rules.specs.Page.{closed, fitting}
+use Rattle.buffer.specs.Put.{over}
+use Rattle.lines.specs.Ahead.{isEnd, At, partLines, linesOf, ahead}
+use Rattle.lines.specs.declared.open.Page.{Page}
+use Rattle.lines.specs.declared.cursor.Cursor.{Cursor}
+use Rattle.lines.specs.declared.Totals.{Totals}
+use Rattle.lines.specs.declared.Sought.{Sought}
+use Rattle.lines.specs.declared.Written.{Written}
+
+-- the page's lines and bytes
+pub record TotalsAre (s : List ℕ) (p : Page) (r : Totals) : Type 0 where
+  pub lines : r .lines ≡ length (linesOf s p)
+  pub bytes : r .bytes ≡ length (closed (linesOf s p))
+
+-- the cursor stands before line `passed`, which is line k, or at the end before it
+pub record SoughtIs (s : List ℕ) (p : Page) (k : ℕ) (r : Sought) : Type 0 where
+  pub lines : ahead s p (r .cursor) ≡ drop (r .passed) (linesOf s p)
+  pub at : At s p (r .cursor)
+  pub within : r .passed ≤ k
+  pub passed : r .passed ≤ length (linesOf s p)
+  pub reached : isEnd (r .cursor .stage) ≡ false → r .passed ≡ k
+  pub some : isEnd (r .cursor .stage) ≡ false → r .cursor .line < length (partLines s p (r .cursor))
+
+-- of the lines before the cursor as many as fit are written over b, which is then a; the others come next
+pub record WroteIs (s : List ℕ) (p : Page) (c : Cursor) (b a : List ℕ) (r : Written) : Type 0 where
+  pub lines : r .lines ≡ length (fitting (length b) (ahead s p c))
+  pub bytes : r .bytes ≡ length (closed (fitting (length b) (ahead s p c)))
+  pub page : a ≡ over (closed (fitting (length b) (ahead s p c))) b
+  pub next : ahead s p (r .next) ≡ drop (r .lines) (ahead s p c)
+  pub at : At s p (r .next)
+  pub left : isEnd (r .next .stage) ≡ false → r .lines < length (ahead s p c)

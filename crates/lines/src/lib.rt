@@ -1,0 +1,108 @@
+// The lines of a page: opened from a sheet, then counted, sought and written, all part after part in one order.
+pub mod cursor;
+pub mod lengths;
+pub mod open;
+pub mod part;
+
+ghost use mathlib.Core.Path.{_≡_};
+ghost use Prim.Native.Nat.{ℕ, _≤_};
+ghost use lib.ListN.{length};
+ghost use Rattle.rules.specs.Page.{closed};
+ghost use Rattle.lines.specs.Opened.{Opened};
+ghost use Rattle.lines.specs.Ahead.{At, linesOf, ahead};
+ghost use Rattle.lines.specs.Walk.{TotalsAre, SoughtIs, WroteIs};
+use crate::cursor::Cursor;
+use crate::open::Page;
+use rules::MOST_COLUMNS;
+
+// A page's lines and bytes.
+pub struct Totals {
+    pub lines: usize,
+    pub bytes: usize,
+}
+
+// A page's lines and bytes: each part's lines have one length.
+pub fn count(sheet: &[u8], columns: &[[usize; 6]; MOST_COLUMNS], p: Page) -> Totals
+    requires { ⌜ Opened (now sheet) (now columns) p ⌝ }
+    ensures { λ r. ⌜ TotalsAre (now (sheet .entry)) p r ⌝ }
+{
+    let l = lengths::measure(sheet, columns, p);
+    let mut c = cursor::first(p);
+    let mut lines: usize = 0;
+    let mut bytes: usize = 0;
+    while !cursor::is_end(c) {
+        let n = part::lines(sheet, columns, p, c);
+        let size = lengths::line_size(sheet, columns, p, l, c);
+        lines += n;
+        bytes += n * size;
+        c = cursor::next(sheet, p, c);
+    }
+    Totals { lines, bytes }
+}
+
+// A line's cursor, and how many lines stand before it.
+pub struct Sought {
+    pub cursor: Cursor,
+    pub passed: usize,
+}
+
+// The cursor at line k, or at the end, where the lines before it are all there are.
+pub fn seek(sheet: &[u8], columns: &[[usize; 6]; MOST_COLUMNS], p: Page, k: usize) -> Sought
+    requires { ⌜ Opened (now sheet) (now columns) p ⌝ }
+    ensures { λ r. ⌜ SoughtIs (now (sheet .entry)) p k r ⌝ }
+{
+    let mut c = cursor::first(p);
+    let mut left = k;
+    while !cursor::is_end(c) {
+        let n = part::lines(sheet, columns, p, c);
+        if left < n {
+            let cursor = cursor::further(c, left);
+            return Sought { cursor, passed: k };
+        }
+        left -= n;
+        c = cursor::next(sheet, p, c);
+    }
+    Sought {
+        cursor: c,
+        passed: k - left,
+    }
+}
+
+// What was written, and the cursor after it.
+pub struct Written {
+    pub lines: usize,
+    pub bytes: usize,
+    pub next: Cursor,
+}
+
+// Lines from the cursor's on, one after another, as many as there is room for.
+pub fn write(
+    page: &mut [u8],
+    sheet: &[u8],
+    columns: &[[usize; 6]; MOST_COLUMNS],
+    p: Page,
+    from: Cursor,
+) -> Written
+    requires { ⌜ Opened (now sheet) (now columns) p × (At (now sheet) p from × (length (ahead (now sheet) p from) ≤ 1000000)) ⌝ }
+    ensures { λ r. ⌜ WroteIs (now (sheet .entry)) p from (now (page .entry)) (now (page .exit)) r ⌝ }
+{
+    let l = lengths::measure(sheet, columns, p);
+    let mut c = from;
+    let mut lines: usize = 0;
+    let mut bytes: usize = 0;
+    while !cursor::is_end(c) {
+        let drawn = part::draw(&mut page[bytes..], sheet, columns, p, l, c);
+        lines += drawn.lines;
+        bytes += drawn.bytes;
+        if !drawn.whole {
+            let next = cursor::further(c, drawn.lines);
+            return Written { lines, bytes, next };
+        }
+        c = cursor::next(sheet, p, c);
+    }
+    Written {
+        lines,
+        bytes,
+        next: c,
+    }
+}

@@ -1,0 +1,212 @@
+// What every line of a page is drawn from, read from an accepted sheet once. The visible columns are numbers in an array beside it, which is lent.
+ghost use mathlib.Core.Path.{_≡_};
+ghost use Prim.Native.Nat.{_+_, _<_};
+ghost use lib.ListN.{length};
+ghost use Rattle.rules.specs.Sheet.{mostColumns};
+ghost use Rattle.rules.specs.Style as characters;
+ghost use Rattle.rules.specs.Style.{anyLeft, anyRight, anyJunction};
+ghost use Rattle.rules.specs.Widths.{contents};
+ghost use Rattle.sheet.specs.Held.{Passes, tableOf};
+ghost use Rattle.sheet.specs.Walk.{rowsIn};
+ghost use Rattle.arrangement.specs.Widths.{styleFrom, widthsOf};
+ghost use Rattle.formatting.specs.Stand.{Views, textStyleOf, ruleStyleOf};
+ghost use Rattle.formatting.specs.Open.{Rising, WideAll};
+ghost use Rattle.formatting.specs.Packed.{viewOf};
+ghost use Rattle.formatting.specs.Rule.{NarrowAll};
+ghost use Rattle.lines.specs.Opened.{stylesOf, Opened};
+ghost use Rattle.lines.specs.Opening.{showing};
+use arrangement::Widths;
+use arrangement::layout;
+use formatting::borders::RuleStyle;
+use formatting::content_format::TextStyle;
+use formatting::content_format::VisibleColumn;
+use formatting::packed;
+use rules::Column;
+use rules::MOST_COLUMNS;
+use sheet::records::Indicator;
+use sheet::records::Rows;
+use sheet::settings;
+use sheet::walk;
+use style::table_style::TableStyle;
+
+// How the lines of a row look: its text lines, the rule after it, and whether that rule is visible.
+pub struct RowStyle {
+    pub lines: TextStyle,
+    pub rule: RuleStyle,
+    pub ruled: bool,
+}
+
+// How the lines of a page look, and which borders are visible.
+pub struct LineStyles {
+    pub top: RuleStyle,
+    pub header: RowStyle,
+    pub body: RowStyle,
+    pub bottom: RuleStyle,
+    pub has_top: bool,
+    pub has_bottom: bool,
+}
+
+// A page over some rows of the sheet: how many columns are visible, the indicator, the lines' styles, the header and the rows.
+pub struct Page {
+    pub count: usize,
+    pub indicator: Indicator,
+    pub styles: LineStyles,
+    pub header: Rows,
+    pub rows: Rows,
+}
+
+// Unset characters print as a space.
+fn glyph(c: u8) -> u8
+    ensures { λ r. ⌜ r ≡ characters.glyph c ⌝ }
+{
+    numbers::or_else(c, 32)
+}
+
+// A border or a rule, whose four characters begin at k.
+fn rule_style(b: [u8; 22], k: usize, opens: bool, joined: bool, closes: bool) -> RuleStyle
+    requires { ⌜ (k + 3 < 22) × ((opens ≡ anyLeft b) × (closes ≡ anyRight b)) ⌝ }
+    ensures { λ r. ⌜ r ≡ ruleStyleOf b joined k ⌝ }
+{
+    RuleStyle {
+        left: glyph(b[k]),
+        fill: glyph(b[k + 1]),
+        junction: glyph(b[k + 2]),
+        right: glyph(b[k + 3]),
+        opens,
+        joined,
+        closes,
+    }
+}
+
+// Text lines, whose three characters begin at k.
+fn text_style(b: [u8; 22], k: usize, opens: bool, joined: bool, closes: bool) -> TextStyle
+    requires { ⌜ (k + 2 < 22) × ((opens ≡ anyLeft b) × ((joined ≡ anyJunction b) × (closes ≡ anyRight b))) ⌝ }
+    ensures { λ r. ⌜ r ≡ textStyleOf b k ⌝ }
+{
+    TextStyle {
+        left: glyph(b[k]),
+        junction: glyph(b[k + 1]),
+        right: glyph(b[k + 2]),
+        opens,
+        joined,
+        closes,
+    }
+}
+
+// The six kinds of line, once it is known which edges are drawn. Borders put a junction between columns even where no junction is set.
+fn styles_by(b: [u8; 22], style: TableStyle, opens: bool, joined: bool, closes: bool) -> LineStyles
+    requires { ⌜ (style ≡ styleFrom b) × ((opens ≡ anyLeft b) × ((joined ≡ anyJunction b) × (closes ≡ anyRight b))) ⌝ }
+    ensures { λ r. ⌜ r ≡ stylesOf b ⌝ }
+{
+    let top = rule_style(b, 0, opens, true, closes);
+    let header_lines = text_style(b, 4, opens, joined, closes);
+    let header_rule = rule_style(b, 7, opens, joined, closes);
+    let content_lines = text_style(b, 11, opens, joined, closes);
+    let row_rule = rule_style(b, 14, opens, joined, closes);
+    let bottom = rule_style(b, 18, opens, true, closes);
+    let header = RowStyle {
+        lines: header_lines,
+        rule: header_rule,
+        ruled: style.has_header_separator(),
+    };
+    let body = RowStyle {
+        lines: content_lines,
+        rule: row_rule,
+        ruled: style.has_row_separator(),
+    };
+    LineStyles {
+        top,
+        header,
+        body,
+        bottom,
+        has_top: style.has_top_border(),
+        has_bottom: style.has_bottom_border(),
+    }
+}
+
+// How the lines of a page look, by the style's characters.
+fn styles(b: [u8; 22]) -> LineStyles
+    ensures { λ r. ⌜ r ≡ stylesOf b ⌝ }
+{
+    let style = layout::style_from(b);
+    let opens = style.has_left_border();
+    let joined = style.has_vertical_lines();
+    let closes = style.has_right_border();
+    styles_by(b, style, opens, joined, closes)
+}
+
+// Column j behind the visible ones before it, unless it is hidden; gives their count. Its codes stand in for those that a cell leaves unset.
+fn show_column(
+    columns: &mut [[usize; 6]; MOST_COLUMNS],
+    count: usize,
+    j: usize,
+    c: Column,
+    width: u16,
+    delimiter: u8,
+) -> usize
+    requires { ⌜ count < mostColumns ⌝ }
+    ensures { λ r. ⌜ viewOf (now (columns .exit)) r ≡ showing (viewOf (now (columns .entry)) count) j c width delimiter ⌝ }
+{
+    if constraint::is_hidden(c) {
+        return count;
+    }
+    let v = VisibleColumn {
+        number: j,
+        width: width as usize,
+        left: c.left as usize,
+        right: c.right as usize,
+        delimiter: numbers::or_else(c.delimiter, delimiter),
+        alignment: numbers::or_else(c.alignment, 1),
+    };
+    let x = packed::pack_column(v);
+    columns[count] = x;
+    count + 1
+}
+
+// The visible columns, from left to right; gives their count.
+fn show_columns(sheet: &[u8], widths: Widths, columns: &mut [[usize; 6]; MOST_COLUMNS]) -> usize
+    requires { ⌜ Passes (now sheet) × ((widths ≡ widthsOf (tableOf (now sheet))) × (length (now columns) ≡ mostColumns)) ⌝ }
+    ensures { λ r. ⌜ Views (tableOf (now (sheet .entry))) (contents (tableOf (now (sheet .entry)))) (viewOf (now (columns .exit)) r) × (Rising (viewOf (now (columns .exit)) r) × (WideAll (viewOf (now (columns .exit)) r) × NarrowAll (viewOf (now (columns .exit)) r))) ⌝ }
+{
+    let head = settings::settings(sheet);
+    let delimiter = numbers::or_else(head.delimiter, 32);
+    let found = settings::columns(sheet);
+    let n = found.count;
+    let mut count: usize = 0;
+    let mut j: usize = 0;
+    while j < n {
+        let c = found.each[j];
+        count = show_column(columns, count, j, c, widths.content[j], delimiter);
+        j += 1;
+    }
+    count
+}
+
+// The content widths of an accepted sheet.
+pub fn content_widths(sheet: &[u8]) -> Widths
+    requires { ⌜ Passes (now sheet) ⌝ }
+    ensures { λ r. ⌜ r ≡ widthsOf (tableOf (now (sheet .entry))) ⌝ }
+{
+    let t = layout::layout(sheet);
+    arrangement::arrange_content(sheet, t)
+}
+
+// The page over all rows of the sheet.
+pub fn open(sheet: &[u8], columns: &mut [[usize; 6]; MOST_COLUMNS]) -> Page
+    requires { ⌜ Passes (now sheet) × (length (now columns) ≡ mostColumns) ⌝ }
+    ensures { λ r. ⌜ Opened (now (sheet .entry)) (now (columns .exit)) r × (rowsIn (now (sheet .entry)) (r .rows) ≡ tableOf (now (sheet .entry)) .rows) ⌝ }
+{
+    let widths = content_widths(sheet);
+    let count = show_columns(sheet, widths, columns);
+    let indicator = settings::indicator(sheet);
+    let styles = styles(settings::style(sheet));
+    let header = walk::header(sheet);
+    let rows = walk::rows(sheet, header);
+    Page {
+        count,
+        indicator,
+        styles,
+        header,
+        rows,
+    }
+}
