@@ -295,7 +295,7 @@ module _ (s : List ℕ) (cols : List (List ℕ)) (p : Page) (O : Opened s cols p
     text-sized k here A h = record {
       each = λ j i.
           let e = getD-map (textLine (tableOf s .style) k) (areas (tableOf s) (widthsIn s) (firstRow s here)) j [] [] (omega (arith, length-areas (tableOf s) (widthsIn s) (firstRow s here)))
-              ∙ ap (textLine (tableOf s .style) k) (line-at (tableOf s) (widthsIn s) (firstRow s here) j i) in
+          ∙ ap (textLine (tableOf s .style) k) (line-at (tableOf s) (widthsIn s) (firstRow s here) j i) in
           rw (text-styled s k (firstRow s here), e, text-length (tableOf s) (widthsIn s) (firstRow s here) k j, L .line);
       few = omega (arith, row-height-few s here A h);
     }

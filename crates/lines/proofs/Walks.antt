@@ -5,8 +5,8 @@ use mathlib.Core.List.{List, [], _∷_, _++_, append-assoc}
 use mathlib.Core.Bool.{Bool, true, false, cond, not, _&&_}
 use native.Mathlib.Omega.{arith}
 use native.Mathlib.Nat.{suc-mul, suc-add}
-use lib.ListN.{length, take, drop, getD, length-append, length-drop, take-append-drop, drop-of-length-le}
-use lib.Seq.{drop-drop, drop-nil, take-all, take-at, take-nil}
+use lib.ListN.{length, take, drop, getD, length-append, length-drop, take-append-drop, drop-of-length-le, List·getD-append}
+use lib.Seq.{getD-drop, drop-drop, drop-nil, take-all, take-at, take-nil}
 use lib.Dec.{ltb}
 use borrow.Author.Tests.{leb-false}
 use borrow.Rule.Slice.PartMut.{putMid}
@@ -17,6 +17,7 @@ use Rattle.rules.specs.Page.{closed, fitting}
 use Rattle.rules.specs.Limits.{RowLimits}
 use Rattle.rules.proofs.Counts.{height-bound, framed-count, framed-byte-bound}
 use Rattle.rules.proofs.Fitting.{fitting-few}
+use Rattle.rules.proofs.Lists.{all-getD}
 use Rattle.rules.proofs.Sizes.{closed-append, closed-none}
 use Rattle.sheet.specs.Held.{tableOf}
 use Rattle.sheet.specs.Walk.{rowsIn, cellsIn, firstRow, RowIs}
@@ -40,8 +41,9 @@ use Rattle.lines.specs.Lengths.{SizeIs}
 use Rattle.lines.specs.Band.{bandLines, bandCount, bodyStyle, SizedBand}
 use Rattle.lines.specs.declared.open.Page.{Page}
 use Rattle.lines.specs.declared.open.RowStyle.{RowStyle}
+use Rattle.lines.specs.declared.Sought.{Sought}
 use Rattle.lines.specs.declared.cursor.Cursor.{Cursor}
-use Rattle.lines.specs.Walk.{TotalsAre, SoughtIs, WroteIs}
+use Rattle.lines.specs.Walk.{sizeOf, TotalsAre, SoughtIs, FoundIs, WroteIs}
 use Rattle.lines.specs.declared.cursor.Stage.{Stage}
 use Rattle.lines.specs.declared.cursor.Stage.the-variants.{Top, Header, Body, Bottom, End}
 use Rattle.lines.proofs.Opening.{limits-of}
@@ -388,6 +390,60 @@ module _ (s : List ℕ) (p : Page) (k : ℕ) (c : Cursor) (left : ℕ) (R : Reac
     reached = λ f. absurd (never (sym e ∙ f));
     some = λ f. absurd (never (sym e ∙ f));
   }
+
+module _ (s : List ℕ) (p : Page) (k : ℕ) (r : Sought) (S : SoughtIs s p k r) where
+  pub found-past : isEnd (r .cursor .stage) ≡ true → (room : ℕ) → FoundIs s p k room (record { number = 21; place = r .passed; cursor = r .cursor })
+  found-past e room =
+      let all : r .passed ≡ length (linesOf s p) = omega (arith, S .passed, ap length (sym (S .lines) ∙ end-ahead s p (r .cursor) e), length-drop (r .passed) (linesOf s p)) in
+      let past : length (linesOf s p) ≤ k = omega (arith, S .within) in
+      record {
+        past = λ _. (refl, all);
+        short = λ h _. absurd (omega arith);
+        found = λ h _. absurd (omega arith);
+        lines = λ f. absurd (omega arith);
+        at = S .at;
+      }
+
+  module _ (e : isEnd (r .cursor .stage) ≡ false) (size : ℕ) (Z : SizeIs s p (r .cursor) size) where
+    there : ahead s p (r .cursor) ≡ drop k (linesOf s p)
+    there = S .lines ∙ ap (λ n. drop n (linesOf s p)) (S .reached e)
+
+    here-line : getD (ahead s p (r .cursor)) 0 [] ≡ getD (partLines s p (r .cursor)) (r .cursor .line) []
+    unfolding ahead
+    here-line =
+        let c = r .cursor in
+        let z : r .cursor .line + 0 ≡ r .cursor .line = omega arith in
+        List·getD-append (drop (r .cursor .line) (partLines s p (r .cursor))) (restLines s p (r .cursor)) [] 0 (omega (arith, length-drop (r .cursor .line) (partLines s p (r .cursor)), S .some e))
+        ∙ getD-drop (r .cursor .line) (partLines s p (r .cursor)) 0 [] ∙ ap (λ n. getD (partLines s p (r .cursor)) n []) z
+
+    size-is : size ≡ sizeOf s p k
+    size-is =
+        let z : k + 0 ≡ k = omega arith in
+        let line : getD (linesOf s p) k [] ≡ getD (partLines s p (r .cursor)) (r .cursor .line) [] =
+        sym (getD-drop k (linesOf s p) 0 [] ∙ ap (λ n. getD (linesOf s p) n []) z) ∙ ap (λ ls. getD ls 0 []) (sym there) ∙ here-line in
+        sym (ap (λ l. length l + 1) line ∙ all-getD (λ l. length l + 1 ≡ size) (partLines s p (r .cursor)) (r .cursor .line) [] (S .some e) (Z .each))
+
+    before : k < length (linesOf s p)
+    unfolding ahead
+    before = omega (arith, S .some e, ap length there, length-append (drop (r .cursor .line) (partLines s p (r .cursor))) (restLines s p (r .cursor)), length-drop (r .cursor .line) (partLines s p (r .cursor)), length-drop k (linesOf s p))
+
+    pub found-short : (room : ℕ) → room < size → FoundIs s p k room (record { number = 20; place = size; cursor = r .cursor })
+    found-short room h = record {
+      past = λ f. absurd (omega (arith, before));
+      short = λ _ _. (refl, size-is);
+      found = λ _ f. absurd (omega (arith, size-is));
+      lines = λ f. absurd (omega arith);
+      at = S .at;
+    }
+
+    pub found-there : (room : ℕ) → size ≤ room → FoundIs s p k room (record { number = 0; place = size; cursor = r .cursor })
+    found-there room h = record {
+      past = λ f. absurd (omega (arith, before));
+      short = λ _ f. absurd (omega (arith, size-is));
+      found = λ _ _. (refl, size-is);
+      lines = λ _. there;
+      at = S .at;
+    }
 
 -- ---- writing
 

@@ -1,9 +1,9 @@
 -- A page's lines counted, sought and written. Assumes nothing.
-use Prim.Native.Nat.{ℕ, _≤_, _<_}
+use Prim.Native.Nat.{ℕ, _+_, _≤_, _<_}
 use mathlib.Core.Path.{_≡_}
-use mathlib.Core.List.{List}
+use mathlib.Core.List.{List, []}
 use mathlib.Core.Bool.{false}
-use lib.ListN.{length, drop}
+use lib.ListN.{length, drop, getD}
 use Rattle.rules.specs.Page.{closed, fitting}
 use Rattle.buffer.specs.Put.{over}
 use Rattle.lines.specs.Ahead.{isEnd, At, partLines, linesOf, ahead}
@@ -11,6 +11,7 @@ use Rattle.lines.specs.declared.open.Page.{Page}
 use Rattle.lines.specs.declared.cursor.Cursor.{Cursor}
 use Rattle.lines.specs.declared.Totals.{Totals}
 use Rattle.lines.specs.declared.Sought.{Sought}
+use Rattle.lines.specs.declared.Found.{Found}
 use Rattle.lines.specs.declared.Written.{Written}
 
 -- the page's lines and bytes
@@ -26,6 +27,18 @@ pub record SoughtIs (s : List ℕ) (p : Page) (k : ℕ) (r : Sought) : Type 0 wh
   pub passed : r .passed ≤ length (linesOf s p)
   pub reached : isEnd (r .cursor .stage) ≡ false → r .passed ≡ k
   pub some : isEnd (r .cursor .stage) ≡ false → r .cursor .line < length (partLines s p (r .cursor))
+
+-- the bytes of line k, its 0A included
+abbrev pub sizeOf : List ℕ → Page → ℕ → ℕ
+sizeOf s p k = length (getD (linesOf s p) k []) + 1
+
+-- 21 and the line count where line k isn't there; else 20 and the bytes needed where they are more than the room; else 0, these bytes, and its cursor
+pub record FoundIs (s : List ℕ) (p : Page) (k room : ℕ) (r : Found) : Type 0 where
+  pub past : length (linesOf s p) ≤ k → (r .number ≡ 21) × (r .place ≡ length (linesOf s p))
+  pub short : k < length (linesOf s p) → room < sizeOf s p k → (r .number ≡ 20) × (r .place ≡ sizeOf s p k)
+  pub found : k < length (linesOf s p) → sizeOf s p k ≤ room → (r .number ≡ 0) × (r .place ≡ sizeOf s p k)
+  pub lines : r .number ≡ 0 → ahead s p (r .cursor) ≡ drop k (linesOf s p)
+  pub at : At s p (r .cursor)
 
 -- of the lines before the cursor as many as fit are written over b, which is then a; the others come next
 pub record WroteIs (s : List ℕ) (p : Page) (c : Cursor) (b a : List ℕ) (r : Written) : Type 0 where

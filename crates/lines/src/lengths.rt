@@ -68,7 +68,13 @@ pub fn measure(sheet: &[u8], columns: &[[usize; 6]; MOST_COLUMNS], p: Page) -> L
 }
 
 // How long each line of a part is, its 0A included.
-pub fn line_size(sheet: &[u8], columns: &[[usize; 6]; MOST_COLUMNS], p: Page, l: Lengths, c: Cursor) -> usize
+pub fn line_size(
+    sheet: &[u8],
+    columns: &[[usize; 6]; MOST_COLUMNS],
+    p: Page,
+    l: Lengths,
+    c: Cursor,
+) -> usize
     requires { ⌜ Opened (now sheet) (now columns) p × LengthsAre (now sheet) l ⌝ }
     ensures { λ r. ⌜ SizeIs (now (sheet .entry)) p c r ⌝ }
 {
@@ -81,4 +87,3 @@ pub fn line_size(sheet: &[u8], columns: &[[usize; 6]; MOST_COLUMNS], p: Page, l:
         Stage::End => 1,
     }
 }
-

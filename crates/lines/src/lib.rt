@@ -10,7 +10,7 @@ ghost use lib.ListN.{length};
 ghost use Rattle.rules.specs.Page.{closed};
 ghost use Rattle.lines.specs.Opened.{Opened};
 ghost use Rattle.lines.specs.Ahead.{At, linesOf, ahead};
-ghost use Rattle.lines.specs.Walk.{TotalsAre, SoughtIs, WroteIs};
+ghost use Rattle.lines.specs.Walk.{TotalsAre, SoughtIs, FoundIs, WroteIs};
 use crate::cursor::Cursor;
 use crate::open::Page;
 use rules::MOST_COLUMNS;
@@ -65,6 +65,48 @@ pub fn seek(sheet: &[u8], columns: &[[usize; 6]; MOST_COLUMNS], p: Page, k: usiz
     Sought {
         cursor: c,
         passed: k - left,
+    }
+}
+
+// Line k looked for, to be written into some room: number 0, the bytes that it needs and its cursor; or 21 and the line count; or 20 and the bytes needed.
+pub struct Found {
+    pub number: u64,
+    pub place: usize,
+    pub cursor: Cursor,
+}
+
+pub fn find(
+    sheet: &[u8],
+    columns: &[[usize; 6]; MOST_COLUMNS],
+    p: Page,
+    k: usize,
+    room: usize,
+) -> Found
+    requires { ⌜ Opened (now sheet) (now columns) p ⌝ }
+    ensures { λ r. ⌜ FoundIs (now (sheet .entry)) p k room r ⌝ }
+{
+    let sought = seek(sheet, columns, p, k);
+    let cursor = sought.cursor;
+    if cursor::is_end(cursor) {
+        return Found {
+            number: 21,
+            place: sought.passed,
+            cursor,
+        };
+    }
+    let l = lengths::measure(sheet, columns, p);
+    let needed = lengths::line_size(sheet, columns, p, l, cursor);
+    if room < needed {
+        return Found {
+            number: 20,
+            place: needed,
+            cursor,
+        };
+    }
+    Found {
+        number: 0,
+        place: needed,
+        cursor,
     }
 }
 

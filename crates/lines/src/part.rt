@@ -15,10 +15,10 @@ ghost use Rattle.lines.specs.Band.{bandLines, bandCount, bodyStyle, Size
 ghost use Rattle.formatting.specs.Height.{limited};
 ghost use Rattle.formatting.specs.RowText.{Drawable, rowHeight};
 ghost use Rattle.sheet.specs.Walk.{firstRow};
-use crate::lengths;
-use crate::lengths::Lengths;
 use crate::cursor::Cursor;
 use crate::cursor::Stage;
+use crate::lengths;
+use crate::lengths::Lengths;
 use crate::open::Page;
 use crate::open::RowStyle;
 use formatting::borders;
@@ -82,7 +82,13 @@ pub fn lines(sheet: &[u8], columns: &[[usize; 6]; MOST_COLUMNS], p: Page, c: Cur
     match stage {
         Stage::Top => lengths::where_drawn(styles.has_top, 1),
         Stage::Header => band_lines(sheet, columns, p, header.ruled, above),
-        Stage::Body => band_lines(sheet, columns, p, numbers::both(body.ruled, 1 < here.left), here),
+        Stage::Body => band_lines(
+            sheet,
+            columns,
+            p,
+            numbers::both(body.ruled, 1 < here.left),
+            here,
+        ),
         Stage::Bottom => lengths::where_drawn(styles.has_bottom, 1),
         Stage::End => 0,
     }
@@ -144,7 +150,17 @@ fn draw_band(
     }
     let indicator = p.indicator;
     let lines = style.lines;
-    let text = content_format::draw_row(page, sheet, columns, p.count, indicator, lines, here, first, size);
+    let text = content_format::draw_row(
+        page,
+        sheet,
+        columns,
+        p.count,
+        indicator,
+        lines,
+        here,
+        first,
+        size,
+    );
     if !text.whole {
         return text;
     }
@@ -194,8 +210,24 @@ pub fn draw(
     match stage {
         Stage::Top => draw_rule(page, columns, p.count, top, styles.has_top, l.border + 1),
         Stage::Header => draw_band(page, sheet, columns, p, header, above, c.line, l.line + 1),
-        Stage::Body => draw_band(page, sheet, columns, p, body_style(body, here.left), here, c.line, l.line + 1),
-        Stage::Bottom => draw_rule(page, columns, p.count, bottom, styles.has_bottom, l.border + 1),
+        Stage::Body => draw_band(
+            page,
+            sheet,
+            columns,
+            p,
+            body_style(body, here.left),
+            here,
+            c.line,
+            l.line + 1,
+        ),
+        Stage::Bottom => draw_rule(
+            page,
+            columns,
+            p.count,
+            bottom,
+            styles.has_bottom,
+            l.border + 1,
+        ),
         Stage::End => nothing(true),
     }
 }

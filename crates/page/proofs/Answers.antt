@@ -1,11 +1,12 @@
 -- What each call answers, from what its parts found. Assumes nothing.
-use Prim.Native.Nat.{ℕ, _+_, _-_, _≤_, _<_}
+use Prim.Native.Nat.{ℕ, suc, _+_, _-_, _≤_, _<_}
 use mathlib.Core.Path.{_≡_, refl, sym, ap, _∙_}
-use mathlib.Core.List.{List, [], _∷_, _++_}
+use mathlib.Core.List.{List, [], _∷_, _++_, append-nil}
 use mathlib.Core.Bool.{Bool, true, false}
 use native.Mathlib.Omega.{arith}
-use lib.ListN.{length, drop, getD, length-drop}
-use lib.Seq.{getD-drop}
+use lib.ListN.{length, take, drop, getD, length-append, length-drop, drop-of-length-le}
+use lib.Seq.{drop-cons, length-take-le}
+use borrow.Author.Tests.{ltb-true, ltb-false}
 use lib.Dec.{T, leb, ltb, leb→le, le→leb, ltb→lt, lt→ltb}
 use Rattle.rules.specs.declared.Checked.{Checked}
 use Rattle.rules.specs.declared.Counted.{Counted}
@@ -13,20 +14,26 @@ use Rattle.rules.specs.Sheet.{Table}
 use Rattle.rules.specs.Field.{Read, got, refused}
 use Rattle.rules.specs.Format.{sheet}
 use Rattle.rules.specs.Page.{closed, lineAt, lineCount, byteCount, page as pageOf, pageLines, fitting}
-use Rattle.rules.specs.Calls.{check, checkOf, count, countOf, put, turned, Written, printPage, printOf, printLine, printLineOf}
+use Rattle.rules.specs.Calls as calls
+use Rattle.rules.specs.Calls.{check, checkOf, count, countOf, put, turned, printPage, printOf, printLine, printLineOf}
 use Rattle.rules.proofs.Counts.{line-count-bound}
+use Rattle.rules.proofs.Fitting.{fitting-few, fitting-none, fitting-more, fitting-stops, fitting-all}
+use Rattle.rules.proofs.Sizes.{closed-one, byte-count-closed}
 use Rattle.sheet.specs.Held.{Passes, tableOf}
+use Rattle.sheet.specs.Walk.{rowsIn}
 use Rattle.sheet.proofs.Held.{held}
 use Rattle.buffer.specs.Put.{over}
-use Rattle.page.specs.Ahead.{ahead, allLines, headLine, isEnd}
-use Rattle.page.specs.Count.{SoughtIs, Wrote}
+use Rattle.lines.specs.Ahead.{ahead, linesOf, firstCursor}
+use Rattle.lines.specs.Opened.{Opened}
+use Rattle.lines.specs.Walk.{sizeOf, TotalsAre, FoundIs, WroteIs}
+use Rattle.lines.specs.declared.open.Page.{Page}
+use Rattle.lines.specs.declared.cursor.Cursor.{Cursor}
+use Rattle.lines.specs.declared.Totals.{Totals}
+use Rattle.lines.specs.declared.Found.{Found}
+use Rattle.lines.specs.declared.Written.{Written}
+use Rattle.lines.proofs.Opening.{limits-of}
+use Rattle.lines.proofs.Parts.{first-ahead}
 use Rattle.page.specs.Several as several
-use Rattle.page.specs.declared.cursor.Page.{Page}
-use Rattle.page.specs.declared.lines.Sought.{Sought}
-use Rattle.page.specs.declared.lines.Totals.{Totals}
-use Rattle.page.specs.declared.lines.WrittenLines.{WrittenLines}
-use Rattle.page.proofs.Pages.{all-count}
-use Rattle.page.proofs.LineLengths.{end-lines, some-lines, limits-of}
 
 -- ---- tests
 
@@ -57,6 +64,18 @@ chosen false a b e = cc
 pub passed-over : {A : Type 0} (x : Bool) (a b : A) → x ≡ false → _≡_ {A = A} (elim x as (λ y. A) [ true ↦ a | false ↦ b ]) b
 passed-over true a b e = cc
 passed-over false a b e = refl
+
+-- no line fits into nothing
+fitting-nothing : (ls : List (List ℕ)) → fitting 0 ls ≡ []
+fitting-nothing [] = fitting-none 0
+fitting-nothing (l ∷ ls) = fitting-stops 0 l ls (omega arith)
+
+-- a start of the buffer has come back written over as a whole
+pub prefix-back : (l b a : List ℕ) (n : ℕ) → length l ≡ n → n ≤ length b → a ≡ over l (take n b) → a ++ drop n b ≡ over l b
+unfolding over
+prefix-back l b a n e h f =
+    let z : drop (length l) (take n b) ≡ [] = drop-of-length-le (take n b) {i = length l} (omega (arith, length-take-le n b h)) in
+    rw (f, z, append-nil, e)
 
 -- ---- a refused sheet
 
@@ -93,7 +112,7 @@ module _ (s : List ℕ) (h : Passes s) where
   unfolding count countOf
   count-accepted r e f = let g = held s h .reads in rw (g, e, f)
 
-  abbrev wrote-all : List ℕ → List ℕ → Written
+  abbrev wrote-all : List ℕ → List ℕ → calls.Written
   wrote-all l b = record { answer = record { number = 0; place = 0; written = length l }; buffer = l ++ drop (length l) b }
 
   put-short : (l b : List ℕ) (n : ℕ) → n ≡ length l → length b < n → put l b ≡ turned 20 n b
@@ -134,63 +153,124 @@ module _ (s : List ℕ) (h : Passes s) where
   unfolding several.printLines several.printLinesOf
   lines-put k b e = let H = held s h in ap (λ x. several.printLinesOf x k b) (H .reads) ∙ chosen (ltb k (lineCount (tableOf s))) (several.putLines (tableOf s) k b) (several.turned 21 (lineCount (tableOf s)) b) (lt-true k (lineCount (tableOf s)) e)
 
-  module _ (p : Page) (k : ℕ) (r : Sought) (S : SoughtIs s p k r) where
-    at-end : isEnd (r .cursor .stage) ≡ true → r .passed ≡ lineCount (tableOf s)
-    at-end e = omega (arith, S .passed, ap length (sym (S .lines) ∙ end-lines s (r .cursor) e), length-drop (r .passed) (allLines s), all-count s)
+  -- the page is opened over all rows
+  module _ (p : Page) (rows : rowsIn s (p .rows) ≡ tableOf s .rows) where
+    lines-all : linesOf s p ≡ pageLines (tableOf s)
+    unfolding linesOf pageLines
+    lines-all = rw rows
 
-    pub line-past : (b : List ℕ) → isEnd (r .cursor .stage) ≡ true → printLine s k b ≡ turned 21 (r .passed) b
-    line-past b e = line-past-count k b (omega (arith, at-end e, S .within)) ∙ ap (λ n. turned 21 n b) (sym (at-end e))
+    pub count-all : (r : Totals) → TotalsAre s p r → (r .lines ≡ lineCount (tableOf s)) × (r .bytes ≡ byteCount (tableOf s))
+    unfolding lineCount
+    count-all r T = (T .lines ∙ ap length lines-all, T .bytes ∙ ap (λ ls. length (closed ls)) lines-all ∙ sym (byte-count-closed (tableOf s)))
 
-    pub lines-past : (b : List ℕ) → isEnd (r .cursor .stage) ≡ true → several.printLines s k b ≡ several.turned 21 (r .passed) b
-    lines-past b e = lines-past-count k b (omega (arith, at-end e, S .within)) ∙ ap (λ n. several.turned 21 n b) (sym (at-end e))
+    pub lines-bound : (c : Cursor) (k : ℕ) → ahead s p c ≡ drop k (linesOf s p) → length (ahead s p c) ≤ 1000000
+    unfolding lineCount
+    lines-bound c k e = omega (arith, ap length e, length-drop k (linesOf s p), ap length lines-all, line-count-bound (tableOf s) (limits-of s h))
 
-    module _ (e : isEnd (r .cursor .stage) ≡ false) where
-      there : ahead s (r .cursor) ≡ drop k (allLines s)
-      there = S .lines ∙ ap (λ n. drop n (allLines s)) (S .reached e)
+    pub lines-bound-first : (cols : List (List ℕ)) → Opened s cols p → length (ahead s p (firstCursor p)) ≤ 1000000
+    lines-bound-first cols O = lines-bound (firstCursor p) 0 (first-ahead s cols p O)
 
-      pub some-left : 0 < length (ahead s (r .cursor))
-      some-left = some-lines s p (r .cursor) (S .at) e
+    pub lines-few : (c : Cursor) (k : ℕ) (r : Written) {b a : List ℕ} → ahead s p c ≡ drop k (linesOf s p) → WroteIs s p c b a r → r .lines ≤ 1000000
+    lines-few c k r {b} {a} e W = omega (arith, W .lines, fitting-few (length b) (ahead s p c), lines-bound c k e)
 
-      pub before-count : k < lineCount (tableOf s)
-      before-count = omega (arith, some-left, ap length there, length-drop k (allLines s), all-count s)
+    closed-page : (b : List ℕ) → over (closed (pageLines (tableOf s))) b ≡ over (pageOf (tableOf s)) b
+    unfolding pageOf
+    closed-page b = refl
 
-      line-there : headLine s (r .cursor) ≡ lineAt (tableOf s) k
-      unfolding headLine lineAt allLines
-      line-there = let z : k + 0 ≡ k = omega arith in ap (λ (ls : List (List ℕ)). getD ls 0 [] ++ (10 ∷ [])) there ∙ ap (λ (l : List ℕ). l ++ (10 ∷ [])) (getD-drop k (pageLines (tableOf s)) 0 [] ∙ ap (λ n. getD (pageLines (tableOf s)) n []) z)
+    -- the whole page
+    pub page-written : (b a : List ℕ) (r : Written) → ahead s p (firstCursor p) ≡ linesOf s p → WroteIs s p (firstCursor p) b a r → byteCount (tableOf s) ≤ length b
+        → printPage s b ≡ record { answer = record { number = 0; place = 0; written = r .bytes }; buffer = a }
+    page-written b a r e W room =
+        let bytes = byte-count-closed (tableOf s) in
+        let all : fitting (length b) (ahead s p (firstCursor p)) ≡ pageLines (tableOf s) =
+        ap (fitting (length b)) (e ∙ lines-all) ∙ fitting-all (length b) (pageLines (tableOf s)) (omega arith) in
+        let n : r .bytes ≡ byteCount (tableOf s) = W .bytes ∙ ap (λ ls. length (closed ls)) all ∙ sym bytes in
+        let text : over (pageOf (tableOf s)) b ≡ a = sym (W .page ∙ ap (λ ls. over (closed ls) b) all ∙ closed-page b) in
+        page-whole b (r .bytes) n (omega arith) ∙ ap (λ x. record { answer = record { number = 0; place = 0; written = r .bytes }; buffer = x }) text
 
-      pub few-left : length (ahead s (r .cursor)) ≤ 1000000
-      few-left = omega (arith, ap length there, length-drop k (allLines s), all-count s, line-count-bound (tableOf s) (limits-of s h))
+    size-all : (k : ℕ) → sizeOf s p k ≡ length (lineAt (tableOf s) k)
+    unfolding lineAt
+    size-all k = ap (λ ls. length (getD ls k []) + 1) lines-all ∙ sym (length-append (getD (pageLines (tableOf s)) k []) (10 ∷ []))
 
-      pub k-small : k ≤ 1000000
-      k-small = omega (arith, before-count, line-count-bound (tableOf s) (limits-of s h))
+    count-lines : length (linesOf s p) ≡ lineCount (tableOf s)
+    unfolding lineCount
+    count-lines = ap length lines-all
 
-      pub line-short : (b : List ℕ) (n : ℕ) → n ≡ length (headLine s (r .cursor)) → length b < n → printLine s k b ≡ turned 20 n b
-      line-short b n en f = line-put k b before-count ∙ put-short (lineAt (tableOf s) k) b n (en ∙ ap length line-there) f
+    module _ (k : ℕ) (b : List ℕ) (r : Found) (F : FoundIs s p k (length b) r) where
+      -- which of the three it is
+      by : {A : Type 0} → (length (linesOf s p) ≤ k → A) → (k < length (linesOf s p) → length b < sizeOf s p k → A) → (k < length (linesOf s p) → sizeOf s p k ≤ length b → A) → A
+      by {A} past short found = go (ltb k (length (linesOf s p))) refl (ltb (length b) (sizeOf s p k)) refl
+        where
+          go : (x : Bool) → ltb k (length (linesOf s p)) ≡ x → (y : Bool) → ltb (length b) (sizeOf s p k) ≡ y → A
+          go true e true f = short (ltb-true k (length (linesOf s p)) e) (ltb-true (length b) (sizeOf s p k) f)
+          go true e false f = found (ltb-true k (length (linesOf s p)) e) (ltb-false (length b) (sizeOf s p k) f)
+          go false e y f = past (ltb-false k (length (linesOf s p)) e)
 
-      pub line-whole : (b : List ℕ) (n : ℕ) → n ≡ length (headLine s (r .cursor)) → n ≤ length b
-          → printLine s k b ≡ record { answer = record { number = 0; place = 0; written = n }; buffer = over (headLine s (r .cursor)) b }
-      line-whole b n en f =
-          line-put k b before-count ∙ put-whole (lineAt (tableOf s) k) b n (en ∙ ap length line-there) f
-          ∙ ap (λ l. record { answer = record { number = 0; place = 0; written = n }; buffer = over l b }) (sym line-there)
+      pub line-turned : (r .number ≡ 0 → ⊥) → printLine s k b ≡ turned (r .number) (r .place) b
+      line-turned n =
+          by
+          (λ e. let q = F .past e in line-past-count k b (omega (arith, count-lines)) ∙ rw (q .0, q .1, count-lines))
+          (λ e f. let q = F .short e f in
+          line-put k b (omega (arith, count-lines)) ∙ put-short (lineAt (tableOf s) k) b (sizeOf s p k) (size-all k) f ∙ rw (q .0, q .1))
+          (λ e f. absurd (n (F .found e f .0)))
 
-      size-there : length (lineAt (tableOf s) k) ≡ length (headLine s (r .cursor))
-      size-there = ap length (sym line-there)
-
-      abbrev told : List ℕ → several.Several
-      told b = several.given k (fitting (length b) (drop k (pageLines (tableOf s)))) b
-
-      pub lines-short : (b : List ℕ) (n : ℕ) → n ≡ length (headLine s (r .cursor)) → length b < n → several.printLines s k b ≡ several.turned 20 n b
+      pub lines-turned : (r .number ≡ 0 → ⊥) → several.printLines s k b ≡ several.turned (r .number) (r .place) b
       unfolding several.putLines
-      lines-short b n en f =
+      lines-turned n =
+          let told = several.given k (fitting (length b) (drop k (pageLines (tableOf s)))) b in
           let m = length (lineAt (tableOf s) k) in
-          lines-put k b before-count ∙ passed-over (leb m (length b)) (told b) (several.turned 20 m b) (le-false m (length b) (omega (arith, size-there)))
-          ∙ ap (λ j. several.turned 20 j b) (size-there ∙ sym en)
+          by
+          (λ e. let q = F .past e in lines-past-count k b (omega (arith, count-lines)) ∙ rw (q .0, q .1, count-lines))
+          (λ e f. let q = F .short e f in
+          lines-put k b (omega (arith, count-lines))
+          ∙ passed-over (leb (length (lineAt (tableOf s) k)) (length b)) (several.given k (fitting (length b) (drop k (pageLines (tableOf s)))) b) (several.turned 20 (length (lineAt (tableOf s) k)) b)
+          (le-false (length (lineAt (tableOf s) k)) (length b) (omega (arith, size-all k))) ∙ rw (q .0, q .1, size-all k))
+          (λ e f. absurd (n (F .found e f .0)))
 
-      pub lines-whole : (b : List ℕ) (n : ℕ) (w : WrittenLines) → n ≡ length (headLine s (r .cursor)) → n ≤ length b → Wrote s p (r .cursor) b w
-          → several.printLines s k b ≡ record { answer = record { number = 0; place = 0; written = w .bytes; next = k + w .lines }; buffer = over (closed (fitting (length b) (ahead s (r .cursor)))) b }
-      unfolding several.putLines over allLines
-      lines-whole b n w en f W =
-          let m = length (lineAt (tableOf s) k) in
-          lines-put k b before-count ∙ chosen (leb m (length b)) (told b) (several.turned 20 m b) (le-true m (length b) (omega (arith, size-there)))
-          ∙ ap (λ ls. several.given k (fitting (length b) ls) b) (sym there)
-          ∙ rw (W .bytes-are, W .lines-are)
+      module _ (n : r .number ≡ 0) where
+        pub found-here : (k < lineCount (tableOf s)) × ((r .place ≡ length (lineAt (tableOf s) k)) × (r .place ≤ length b))
+        found-here =
+            by
+            (λ e. absurd (omega (arith, F .past e .0)))
+            (λ e f. absurd (omega (arith, F .short e f .0)))
+            (λ e f. let q = F .found e f in (omega (arith, count-lines), (q .1 ∙ size-all k, omega (arith, q .1))))
+
+        first-line : ahead s p (r .cursor) ≡ getD (pageLines (tableOf s)) k [] ∷ drop (suc k) (pageLines (tableOf s))
+        unfolding lineCount
+        first-line = F .lines n ∙ ap (drop k) lines-all ∙ drop-cons (pageLines (tableOf s)) k [] (found-here .0)
+
+        -- the line alone, over a part of the buffer that holds just it
+        pub line-written : (y a : List ℕ) (w : Written) → length y ≡ r .place → WroteIs s p (r .cursor) y a w → (w .bytes ≡ length (lineAt (tableOf s) k)) × (a ≡ over (lineAt (tableOf s) k) y)
+        unfolding lineAt
+        line-written y a w e W =
+            let l = getD (pageLines (tableOf s)) k [] in
+            let rest = drop (suc k) (pageLines (tableOf s)) in
+            let size : length (getD (pageLines (tableOf s)) k []) + 1 ≡ length (lineAt (tableOf s) k) = sym (length-append (getD (pageLines (tableOf s)) k []) (10 ∷ [])) in
+            let m : length y ≡ length (getD (pageLines (tableOf s)) k []) + 1 = e ∙ found-here .1 .0 ∙ sym size in
+            let z : length y - (length (getD (pageLines (tableOf s)) k []) + 1) ≡ 0 = omega arith in
+            let only : fitting (length y) (ahead s p (r .cursor)) ≡ getD (pageLines (tableOf s)) k [] ∷ [] =
+            ap (fitting (length y)) first-line ∙ fitting-more (length y) (getD (pageLines (tableOf s)) k []) (drop (suc k) (pageLines (tableOf s))) (omega arith)
+            ∙ ap (λ ls. getD (pageLines (tableOf s)) k [] ∷ ls) (ap (λ i. fitting i (drop (suc k) (pageLines (tableOf s)))) z ∙ fitting-nothing (drop (suc k) (pageLines (tableOf s)))) in
+            let closed-is : closed (fitting (length y) (ahead s p (r .cursor))) ≡ lineAt (tableOf s) k = ap closed only ∙ closed-one (getD (pageLines (tableOf s)) k []) in
+            (W .bytes ∙ ap length closed-is, W .page ∙ ap (λ t. over t y) closed-is)
+
+        pub line-answer : (m : ℕ) (a : List ℕ) → m ≡ length (lineAt (tableOf s) k) → a ≡ over (lineAt (tableOf s) k) b
+            → printLine s k b ≡ record { answer = record { number = 0; place = 0; written = m }; buffer = a }
+        line-answer m a e f =
+            let h = found-here in
+            line-put k b (h .0) ∙ put-whole (lineAt (tableOf s) k) b m e (omega (arith, h .1 .0, h .1 .1)) ∙ ap (λ x. record { answer = record { number = 0; place = 0; written = m }; buffer = x }) (sym f)
+
+        -- lines from it on
+        pub lines-answer : (a : List ℕ) (w : Written) → WroteIs s p (r .cursor) b a w
+            → several.printLines s k b ≡ record { answer = record { number = 0; place = 0; written = w .bytes; next = k + w .lines }; buffer = a }
+        unfolding several.putLines over
+        lines-answer a w W =
+            let h = found-here in
+            let from : ahead s p (r .cursor) ≡ drop k (pageLines (tableOf s)) = F .lines n ∙ ap (drop k) lines-all in
+            lines-put k b (h .0)
+            ∙ chosen (leb (length (lineAt (tableOf s) k)) (length b)) (several.given k (fitting (length b) (drop k (pageLines (tableOf s)))) b) (several.turned 20 (length (lineAt (tableOf s) k)) b)
+            (le-true (length (lineAt (tableOf s) k)) (length b) (omega (arith, h .1 .0, h .1 .1)))
+            ∙ rw (W .bytes, W .lines, W .page, from)
+
+        pub k-small : k ≤ 1000000
+        k-small = omega (arith, found-here .0, line-count-bound (tableOf s) (limits-of s h))

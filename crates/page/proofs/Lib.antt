@@ -1,11 +1,2 @@
-pub mod Ahead
-pub mod Steps
-pub mod Draws
-pub mod LineLengths
-pub mod Pages
-pub mod Opening
-pub mod Measured
 pub mod Answers
-pub mod Filling
-pub mod Parts
-pub mod Counted
+pub mod Measured

@@ -1,15 +1,13 @@
-// The page of a sheet, and the calls.
-pub mod borders;
-pub mod cursor;
-pub mod lines;
-pub mod open;
-
+// The calls: check, count, widths, and the page printed as a whole, by a line or by lines.
 ghost use mathlib.Core.Path.{_≡_};
 ghost use mathlib.Core.List.{[]};
 ghost use Rattle.rules.specs.Calls as calls;
 ghost use Rattle.page.specs.Several.{printLines, turned};
+use lines::cursor;
+use lines::open;
 use rules::Checked;
 use rules::Counted;
+use rules::MOST_COLUMNS;
 use rules::Measured;
 use rules::Printed;
 
@@ -30,8 +28,8 @@ pub fn widths(sheet: &[u8]) -> Measured
             number: checked.number,
             place: checked.place,
             columns: 0,
-            content: [0u16; 12],
-            hidden: [false; 12],
+            content: [0u16; MOST_COLUMNS],
+            hidden: [false; MOST_COLUMNS],
         };
     }
     let found = open::content_widths(sheet);
@@ -59,8 +57,9 @@ pub fn count(sheet: &[u8]) -> Counted
             bytes: 0,
         };
     }
-    let p = open::open(sheet);
-    let totals = lines::count_lines(sheet, p);
+    let mut columns = [[0usize; 6]; MOST_COLUMNS];
+    let p = open::open(sheet, &mut columns);
+    let totals = lines::count(sheet, &columns, p);
     Counted {
         number: 0,
         place: 0,
@@ -89,16 +88,17 @@ pub fn print_page(sheet: &[u8], page: &mut [u8]) -> Printed
     if checked.number != 0 {
         return turned_down(checked.number, checked.place);
     }
-    let p = open::open(sheet);
-    let totals = lines::count_lines(sheet, p);
+    let mut columns = [[0usize; 6]; MOST_COLUMNS];
+    let p = open::open(sheet, &mut columns);
+    let totals = lines::count(sheet, &columns, p);
     if page.len() < totals.bytes {
         return turned_down(20, totals.bytes as u64);
     }
-    let written = borders::draw_borders(page, sheet, p);
+    let wrote = lines::write(page, sheet, &columns, p, cursor::first(p));
     Printed {
         number: 0,
         place: 0,
-        written: written as u64,
+        written: wrote.bytes as u64,
     }
 }
 
@@ -111,21 +111,19 @@ pub fn print_line(sheet: &[u8], line: usize, page: &mut [u8]) -> Printed
     if checked.number != 0 {
         return turned_down(checked.number, checked.place);
     }
-    let p = open::open(sheet);
-    let sought = lines::seek(sheet, p, line);
-    let c = sought.cursor;
-    if lines::is_end(c) {
-        return turned_down(21, sought.passed as u64);
+    let mut columns = [[0usize; 6]; MOST_COLUMNS];
+    let p = open::open(sheet, &mut columns);
+    let found = lines::find(sheet, &columns, p, line, page.len());
+    if found.number != 0 {
+        return turned_down(found.number, found.place as u64);
     }
-    let needed = lines::next_length(sheet, p, c);
-    if page.len() < needed {
-        return turned_down(20, needed as u64);
-    }
-    let d = cursor::draw(page, sheet, p, c);
+    let needed = found.place;
+    let c = found.cursor;
+    let wrote = lines::write(&mut page[..needed], sheet, &columns, p, c);
     Printed {
         number: 0,
         place: 0,
-        written: d.written as u64,
+        written: wrote.bytes as u64,
     }
 }
 
@@ -158,17 +156,14 @@ pub fn print_lines(sheet: &[u8], line: usize, page: &mut [u8]) -> PrintedLines
     if checked.number != 0 {
         return no_lines(checked.number, checked.place);
     }
-    let p = open::open(sheet);
-    let sought = lines::seek(sheet, p, line);
-    let first = sought.cursor;
-    if lines::is_end(first) {
-        return no_lines(21, sought.passed as u64);
+    let mut columns = [[0usize; 6]; MOST_COLUMNS];
+    let p = open::open(sheet, &mut columns);
+    let found = lines::find(sheet, &columns, p, line, page.len());
+    if found.number != 0 {
+        return no_lines(found.number, found.place as u64);
     }
-    let needed = lines::next_length(sheet, p, first);
-    if page.len() < needed {
-        return no_lines(20, needed as u64);
-    }
-    let wrote = lines::write_lines(page, sheet, p, first);
+    let c = found.cursor;
+    let wrote = lines::write(page, sheet, &columns, p, c);
     PrintedLines {
         number: 0,
         place: 0,

@@ -27,17 +27,17 @@ count-spec =
     (λ c κs. (c .before .before .before .before .before .before .pre, c .before .before .loop .inv .at .rows))
     (λ c κs. (c .before .before .before .before .before .before .before .pre, c .before .before .before .before .before .measure .ensures))
     (λ c.
-        let s = c .before .before .before .before .before .before .before .before in
-        let r = counting-room (now (s .args .sheet)) (s .args .p) (c .before .before .before .before .loop .c) _ _ (c .before .before .before .before .loop .inv) _ _ (c .before .lines .ensures) (c .line-size .ensures) in
-        omega (arith, r .0, total-lines (now (s .args .sheet)) (now (s .args .columns)) (s .args .p) (s .pre)))
+    let s = c .before .before .before .before .before .before .before .before in
+    let r = counting-room (now (s .args .sheet)) (s .args .p) (c .before .before .before .before .loop .c) _ _ (c .before .before .before .before .loop .inv) _ _ (c .before .lines .ensures) (c .line-size .ensures) in
+    omega (arith, r .0, total-lines (now (s .args .sheet)) (now (s .args .columns)) (s .args .p) (s .pre)))
     (λ c.
-        let s = c .before .before .before .before .before .before .before .before in
-        let r = counting-room (now (s .args .sheet)) (s .args .p) (c .before .before .before .before .loop .c) _ _ (c .before .before .before .before .loop .inv) _ _ (c .before .lines .ensures) (c .line-size .ensures) in
-        omega (arith, r .1 .0, total-bytes (now (s .args .sheet)) (now (s .args .columns)) (s .args .p) (s .pre)))
+    let s = c .before .before .before .before .before .before .before .before in
+    let r = counting-room (now (s .args .sheet)) (s .args .p) (c .before .before .before .before .loop .c) _ _ (c .before .before .before .before .loop .inv) _ _ (c .before .lines .ensures) (c .line-size .ensures) in
+    omega (arith, r .1 .0, total-bytes (now (s .args .sheet)) (now (s .args .columns)) (s .args .p) (s .pre)))
     (λ c.
-        let s = c .before .before .before .before .before .before .before .before in
-        let r = counting-room (now (s .args .sheet)) (s .args .p) (c .before .before .before .before .loop .c) _ _ (c .before .before .before .before .loop .inv) _ _ (c .before .lines .ensures) (c .line-size .ensures) in
-        omega (arith, r .1 .1, total-bytes (now (s .args .sheet)) (now (s .args .columns)) (s .args .p) (s .pre)))
+    let s = c .before .before .before .before .before .before .before .before in
+    let r = counting-room (now (s .args .sheet)) (s .args .p) (c .before .before .before .before .loop .c) _ _ (c .before .before .before .before .loop .inv) _ _ (c .before .lines .ensures) (c .line-size .ensures) in
+    omega (arith, r .1 .1, total-bytes (now (s .args .sheet)) (now (s .args .columns)) (s .args .p) (s .pre)))
     (λ c κs. c .before .before .before .before .loop .inv .at .rows)
     (λ c. c .next .ensures .fewer (sym (c .before .before .before .before .is-end .ensures) ∙ not-true (c .before .before .before .before .is-end .result) (c .before .before .before .if1 .taken)))
     (λ c. counting-on _ _ (c .before .before .before .before .before .loop .c) _ _ (c .before .before .before .before .before .loop .inv) _ _ (c .before .before .lines .ensures) (c .before .line-size .ensures) _ (c .next .ensures))

@@ -24,9 +24,9 @@ seek-spec =
     (λ c κs. search needs)
     (λ c κs. (c .before .before .before .before .before .pre, c .before .before .loop .inv .at .rows))
     (λ c κs.
-        let s = c .before .before .before .before .before .before .before in
-        let l = c .before .before .before .before .loop in
-        omega (arith, c .if2 .taken, c .before .lines .ensures, l .inv .start, lines-few (now (s .args .sheet)) (now (s .args .columns)) (s .args .p) (s .pre) (l .c) (l .inv .at .rows)))
+    let s = c .before .before .before .before .before .before .before in
+    let l = c .before .before .before .before .loop in
+    omega (arith, c .if2 .taken, c .before .lines .ensures, l .inv .start, lines-few (now (s .args .sheet)) (now (s .args .columns)) (s .args .p) (s .pre) (l .c) (l .inv .at .rows)))
     (λ c. reaching-found _ _ (c .before .before .before .before .before .before .before .before .args .k) (c .before .before .before .before .before .loop .c) (c .before .before .before .before .before .loop .left) (c .before .before .before .before .before .loop .inv) _ (c .before .before .lines .ensures) (c .before .if2 .taken) _ (c .further .ensures))
     (λ c κs. c .before .before .before .before .loop .inv .at .rows)
     (λ c. c .next .ensures .fewer (sym (c .before .before .before .before .is-end .ensures) ∙ not-true (c .before .before .before .before .is-end .result) (c .before .before .before .if1 .taken)))

@@ -31,10 +31,15 @@ write-spec =
     (λ c. omega (arith, filling-lines (now (c .before .before .before .before .before .before .before .before .before .before .before .args .sheet)) (c .before .before .before .before .before .before .before .before .before .before .before .args .p) (c .before .before .before .before .before .before .before .before .before .before .before .args .from) (now (c .before .before .before .before .before .before .before .before .before .before .before .args .page)) (c .before .before .before .before .before .before .before .loop .page) (c .before .before .before .before .before .before .before .loop .c) (c .before .before .before .before .before .before .before .loop .lines) (c .before .before .before .before .before .before .before .loop .bytes) (c .before .before .before .before .before .before .before .loop .inv) (c .before .before .before .draw .last .0) _ (c .before .before .before .draw .result) (c .before .before .before .draw .ensures) refl, c .before .before .before .before .before .before .before .before .before .before .before .pre .1 .1))
     (λ c. omega (arith, filling-bytes (now (c .before .before .before .before .before .before .before .before .before .before .before .before .args .sheet)) (c .before .before .before .before .before .before .before .before .before .before .before .before .args .p) (c .before .before .before .before .before .before .before .before .before .before .before .before .args .from) (now (c .before .before .before .before .before .before .before .before .before .before .before .before .args .page)) (c .before .before .before .before .before .before .before .before .loop .page) (c .before .before .before .before .before .before .before .before .loop .c) (c .before .before .before .before .before .before .before .before .loop .lines) (c .before .before .before .before .before .before .before .before .loop .bytes) (c .before .before .before .before .before .before .before .before .loop .inv) (c .before .before .before .before .draw .last .0) _ (c .before .before .before .before .draw .result) (c .before .before .before .before .draw .ensures) refl, c .before .before .before .before .before .before .before .before .before .before .before .before .good))
     (λ c κs.
-        let s = c .before .before .before .before .before .before .before .before .before .before .before .before .before .before in
-        let l = c .before .before .before .before .before .before .before .before .before .before .loop in
-        omega (arith, part-few _ _ _ _ (c .before .before .before .before .before .before .draw .ensures), length-drop (l .c .line) (partLines (now (s .args .sheet)) (s .args .p) (l .c)), l .inv .stands .within,
-        lines-few (now (s .args .sheet)) (now (s .args .columns)) (s .args .p) (s .pre .0) (l .c) (l .inv .stands .rows)))
+    let s = c .before .before .before .before .before .before .before .before .before .before .before .before .before .before in
+    let l = c .before .before .before .before .before .before .before .before .before .before .loop in
+    omega (
+      arith,
+      part-few _ _ _ _ (c .before .before .before .before .before .before .draw .ensures),
+      length-drop (l .c .line) (partLines (now (s .args .sheet)) (s .args .p) (l .c)),
+      l .inv .stands .within,
+      lines-few (now (s .args .sheet)) (now (s .args .columns)) (s .args .p) (s .pre .0) (l .c) (l .inv .stands .rows),
+    ))
     (λ c. filling-kept (now (c .before .before .before .before .before .before .before .before .before .before .before .before .before .before .before .args .sheet)) (c .before .before .before .before .before .before .before .before .before .before .before .before .before .before .before .args .p) (c .before .before .before .before .before .before .before .before .before .before .before .before .before .before .before .args .from) (now (c .before .before .before .before .before .before .before .before .before .before .before .before .before .before .before .args .page)) (c .before .before .before .before .before .before .before .before .before .before .before .loop .page) (c .before .before .before .before .before .before .before .before .before .before .before .loop .c) (c .before .before .before .before .before .before .before .before .before .before .before .loop .lines) (c .before .before .before .before .before .before .before .before .before .before .before .loop .bytes) (c .before .before .before .before .before .before .before .before .before .before .before .loop .inv) (c .before .before .before .before .before .before .before .draw .last .0) _ (c .before .before .before .before .before .before .before .draw .result) (c .before .before .before .before .before .before .before .draw .ensures) refl)
     (λ c. filling-stops (now (c .before .before .before .before .before .before .before .before .before .before .before .before .before .before .before .args .sheet)) (c .before .before .before .before .before .before .before .before .before .before .before .before .before .before .before .args .p) (c .before .before .before .before .before .before .before .before .before .before .before .before .before .before .before .args .from) (now (c .before .before .before .before .before .before .before .before .before .before .before .before .before .before .before .args .page)) (c .before .before .before .before .before .before .before .before .before .before .before .loop .page) (c .before .before .before .before .before .before .before .before .before .before .before .loop .c) (c .before .before .before .before .before .before .before .before .before .before .before .loop .lines) (c .before .before .before .before .before .before .before .before .before .before .before .loop .bytes) (c .before .before .before .before .before .before .before .before .before .before .before .loop .inv) (c .before .before .before .before .before .before .before .draw .last .0) _ (c .before .before .before .before .before .before .before .draw .result) (c .before .before .before .before .before .before .before .draw .ensures) refl (not-true (c .before .before .before .before .before .before .before .draw .result .whole) (c .before .if2 .taken)) _ (c .further .ensures))
     (λ c κs. c .before .before .before .before .before .before .before .before .before .before .loop .inv .stands .rows)

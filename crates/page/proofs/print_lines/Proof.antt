@@ -1,10 +1,10 @@
+use borrow.Author.Needs.{needs}
 use native.Mathlib.Omega.{arith}
-use mathlib.Core.Path.{sym, ap, _∙_}
+use mathlib.Core.Path.{refl, sym, ap, _∙_}
 use denote.Ref.{now}
 use Rattle.page.specs.Several.{Several}
 use Rattle.sheet.proofs.Held.{passes}
-use Rattle.page.proofs.Answers.{lines-refused, lines-past, lines-short, lines-whole, few-left, k-small}
-use borrow.Author.Needs.{needs}
+use Rattle.page.proofs.Answers.{lines-refused, lines-turned, lines-bound, lines-answer, lines-few, k-small}
 use Rattle.page.proofs.print_lines.Statement.{statement}
 use Rattle.page.proofs.print_lines.Tie as tie
 
@@ -14,16 +14,31 @@ print-lines-spec =
     (tie.spec
     (λ c κs. search needs)
     (λ c κs. search needs)
-    (λ c. let i = c .before in let e = lines-refused _ _ (i .before .before .check .ensures) (i .if1 .taken) _ (now (i .before .before .before .before .before .args .page)) in (c .no-lines .ensures ∙ sym (ap (λ (w : Several). w .answer) e), sym (ap (λ (w : Several). w .buffer) e)))
-    (λ c κs. passes _ _ (c .before .before .check .ensures) (c .if1 .left))
+    (λ c.
+    let e = lines-refused _ _ (c .before .before .before .check .ensures) (c .before .if1 .taken) _ (now (c .before .before .before .before .before .before .args .page)) in
+    (c .no-lines .ensures ∙ sym (ap (λ (w : Several). w .answer) e), sym (ap (λ (w : Several). w .buffer) e)))
+    (λ c κs. (passes _ _ (c .before .before .before .check .ensures) (c .before .if1 .left), refl))
+    (λ c κs. c .before .«open» .ensures .0)
     (λ c κs. search needs)
-    (λ c κs. search needs)
-    (λ c κs. search needs)
-    (λ c. let i = c .before .before .before .before .before .before in let h = passes _ _ (i .before .before .check .ensures) (i .if1 .left) in let e = lines-past _ h _ _ _ (c .before .before .before .before .seek .ensures) (now (c .before .before .before .before .before .before .before .before .before .before .before .args .page)) (sym (c .before .before .is-end .ensures) ∙ c .before .if2 .taken) in (c .no-lines2 .ensures ∙ sym (ap (λ (w : Several). w .answer) e), sym (ap (λ (w : Several). w .buffer) e)))
-    (λ c κs. search needs)
-    (λ c κs. search needs)
-    (λ c. let i = c .before .before .before .before .before .before .before .before in let h = passes _ _ (i .before .before .check .ensures) (i .if1 .left) in let f = sym (c .before .before .before .before .is-end .ensures) ∙ c .before .before .before .if2 .left in let e = lines-short _ h _ _ _ (c .before .before .before .before .before .before .seek .ensures) f (now (c .before .before .before .before .before .before .before .before .before .before .before .before .before .args .page)) _ (c .before .before .next-length .ensures) (c .before .if3 .taken) in (c .no-lines3 .ensures ∙ sym (ap (λ (w : Several). w .answer) e), sym (ap (λ (w : Several). w .buffer) e)))
-    (λ c κs. let i = c .before .before .before .before .before .before .before .before in let h = passes _ _ (i .before .before .check .ensures) (i .if1 .left) in let S = c .before .before .before .before .before .before .seek .ensures in let f = sym (c .before .before .before .before .is-end .ensures) ∙ c .before .before .before .if2 .left in ((c .before .before .before .before .before .before .before .«open» .ensures, S .at), few-left _ h _ _ _ S f))
-    (λ c. let i = c .before .before .before .before .before .before .before .before .before .before .before .before in let h = passes _ _ (i .before .before .check .ensures) (i .if1 .left) in let S = c .before .before .before .before .before .before .before .before .before .before .seek .ensures in let f = sym (c .before .before .before .before .before .before .before .before .is-end .ensures) ∙ c .before .before .before .before .before .before .before .if2 .left in omega (arith, k-small _ h _ _ _ S f, c .before .before .before .write-lines .ensures .0 .few))
+    (λ c.
+    let h = passes _ _ (c .before .before .before .before .before .before .before .before .before .check .ensures) (c .before .before .before .before .before .before .before .if1 .left) in
+    let e = lines-turned _ h _ (c .before .before .before .before .before .«open» .ensures .1) _ (now (c .before .before .before .before .before .before .before .before .before .before .before .before .args .page)) _ (c .before .before .before .find .ensures) (c .before .if2 .taken) in
+    (c .no-lines2 .ensures ∙ sym (ap (λ (w : Several). w .answer) e), sym (ap (λ (w : Several). w .buffer) e)))
+    (λ c κs.
+    let h = passes _ _ (c .before .before .before .before .before .before .before .before .before .before .before .check .ensures) (c .before .before .before .before .before .before .before .before .before .if1 .left) in
+    let o = c .before .before .before .before .before .before .before .«open» .ensures in
+    let f = c .before .before .before .before .before .find .ensures in
+    (o .0, (f .at, lines-bound _ h _ (o .1) _ (c .before .before .before .before .before .before .before .before .before .before .before .before .before .before .args .line) (f .lines (c .before .before .before .if2 .left)))))
+    (λ c.
+    let h = passes _ _ (c .before .before .before .before .before .before .before .before .before .before .before .before .before .before .before .check .ensures) (c .before .before .before .before .before .before .before .before .before .before .before .before .before .if1 .left) in
+    let o = c .before .before .before .before .before .before .before .before .before .before .before .«open» .ensures in
+    let f = c .before .before .before .before .before .before .before .before .before .find .ensures in
+    let n = c .before .before .before .before .before .before .before .if2 .left in
+    omega (arith, k-small _ h _ (o .1) _ (now (c .before .before .before .before .before .before .before .before .before .before .before .before .before .before .before .before .before .before .args .page)) _ f n, lines-few _ h _ (o .1) _ (c .before .before .before .before .before .before .before .before .before .before .before .before .before .before .before .before .before .before .args .line) (c .before .before .before .write .result) (f .lines n) (c .before .before .before .write .ensures)))
     (λ c. search needs)
-    (λ c. let i = c .before .before .before .before .before .before .before .before .before .before .before .before in let h = passes _ _ (i .before .before .check .ensures) (i .if1 .left) in let b = now (c .before .before .before .before .before .before .before .before .before .before .before .before .before .before .before .before .before .args .page) in let d = c .before .before .before .write-lines in let S = c .before .before .before .before .before .before .before .before .before .before .seek .ensures in let f = sym (c .before .before .before .before .before .before .before .before .is-end .ensures) ∙ c .before .before .before .before .before .before .before .if2 .left in let e = lines-whole _ h _ _ _ S f b _ _ (c .before .before .before .before .before .before .next-length .ensures) (c .before .before .before .before .before .if3 .left) (d .ensures .0) in (sym (ap (λ (w : Several). w .answer) e), d .ensures .1 ∙ sym (ap (λ (w : Several). w .buffer) e))))
+    (λ c.
+    let h = passes _ _ (c .before .before .before .before .before .before .before .before .before .before .before .before .before .before .before .check .ensures) (c .before .before .before .before .before .before .before .before .before .before .before .before .before .if1 .left) in
+    let o = c .before .before .before .before .before .before .before .before .before .before .before .«open» .ensures in
+    let f = c .before .before .before .before .before .before .before .before .before .find .ensures in
+    let e = lines-answer _ h _ (o .1) _ (now (c .before .before .before .before .before .before .before .before .before .before .before .before .before .before .before .before .before .before .args .page)) _ f (c .before .before .before .before .before .before .before .if2 .left) _ (c .before .before .before .write .result) (c .before .before .before .write .ensures) in
+    (sym (ap (λ (w : Several). w .answer) e), sym (ap (λ (w : Several). w .buffer) e))))

@@ -26,8 +26,8 @@ show-columns-spec =
     (λ c κs. search needs)
     (λ c κs. search needs)
     (λ c.
-        let s = c .before .before .before .before in
-        (omega arith, (count-fits _ (limits-of _ (s .pre .0)) _ (c .columns .ensures), showing-begin _ (now (s .args .columns)) (s .pre .1 .1))))
+    let s = c .before .before .before .before in
+    (omega arith, (count-fits _ (limits-of _ (s .pre .0)) _ (c .columns .ensures), showing-begin _ (now (s .args .columns)) (s .pre .1 .1))))
     (λ c. let i = c .before .loop .inv in omega (arith, i .0, i .1 .0))
     (λ c. let i = c .before .loop .inv in omega (arith, i .0, i .1 .0))
     (λ c. let i = c .before .before .before .loop .inv in omega (arith, i .0, i .1 .0))
@@ -36,18 +36,22 @@ show-columns-spec =
     (λ c. let i = c .before .before .before .before .before .loop .inv in omega (arith, i .0, i .1 .0))
     (λ c. omega arith)
     (λ c.
-        let l = c .before .before .before .before .before .loop in
-        let s = c .before .before .before .before .before .before .before .before .before .before in
-        let t = tableOf (now (s .args .sheet)) in
-        let T = limits-of _ (s .pre .0) in
-        let e = c .before .before .before .before .before .before .columns .ensures in
-        let h = c .before .before .before .before .loop-test .taken in
-        (omega (arith, h), (l .inv .1 .0,
+    let l = c .before .before .before .before .before .loop in
+    let s = c .before .before .before .before .before .before .before .before .before .before in
+    let t = tableOf (now (s .args .sheet)) in
+    let T = limits-of _ (s .pre .0) in
+    let e = c .before .before .before .before .before .before .columns .ensures in
+    let h = c .before .before .before .before .loop-test .taken in (
+      omega (arith, h),
+      (
+        l .inv .1 .0,
         showing-on t (l .j) _ (l .inv .1 .1) _ _ _ _ (omega (arith, h, l .inv .1 .0)) (column-at t T _ e (l .j) (omega (arith, h)))
-        (width-is t _ (l .j) (s .pre .1 .0) (omega (arith, h, columns-count t _ e))) (delimiter-is t (c .before .before .before .before .before .before .before .before .settings .result) _ (c .before .before .before .before .before .before .before .before .settings .ensures) (c .before .before .before .before .before .before .before .or-else .ensures)) (c .show-column .ensures))))
+            (width-is t _ (l .j) (s .pre .1 .0) (omega (arith, h, columns-count t _ e))) (delimiter-is t (c .before .before .before .before .before .before .before .before .settings .result) _ (c .before .before .before .before .before .before .before .before .settings .ensures) (c .before .before .before .before .before .before .before .or-else .ensures)) (c .show-column .ensures),
+      ),
+    ))
     (λ c.
-        let l = c .before .loop in
-        let s = c .before .before .before .before .before .before in
-        let T = limits-of _ (s .pre .0) in
-        let W = showing-done _ _ _ T (omega (arith, columns-count _ _ (c .before .before .columns .ensures), l .inv .0, c .loop-test .left)) (l .inv .1 .1) in
-        (W, (view-rising _ _ T W, (view-wide _ _ T W, view-narrow _ _ T W)))))
+    let l = c .before .loop in
+    let s = c .before .before .before .before .before .before in
+    let T = limits-of _ (s .pre .0) in
+    let W = showing-done _ _ _ T (omega (arith, columns-count _ _ (c .before .before .columns .ensures), l .inv .0, c .loop-test .left)) (l .inv .1 .1) in
+    (W, (view-rising _ _ T W, (view-wide _ _ T W, view-narrow _ _ T W)))))

@@ -13,11 +13,11 @@ band-lines-spec =
     (tie.spec
     (λ c. band-none _ _ _ (c .if1 .taken))
     (λ c κs.
-        let s = c .before .before .before in
-        let O = s .pre .0 in
-        record { some = omega (arith, c .if1 .left); ends = s .pre .1 .ends; views = O .views; rising = O .rising; wide = O .wide })
+    let s = c .before .before .before in
+    let O = s .pre .0 in
+    record { some = omega (arith, c .if1 .left); ends = s .pre .1 .ends; views = O .views; rising = O .rising; wide = O .wide })
     (λ c κs. search needs)
     (λ c.
-        let s = c .before .before .before .before .before in
-        omega (arith, row-height-few _ _ (s .pre .1) (omega (arith, c .before .before .if1 .left)), c .before .row-lines .ensures, c .where-drawn .ensures .1))
+    let s = c .before .before .before .before .before in
+    omega (arith, row-height-few _ _ (s .pre .1) (omega (arith, c .before .before .if1 .left)), c .before .row-lines .ensures, c .where-drawn .ensures .1))
     (λ c. band-some _ _ _ _ _ (c .before .before .if1 .left) (c .before .row-lines .ensures) (c .where-drawn .ensures .0)))

@@ -12,9 +12,9 @@ row-lines-spec =
     (tie.spec
     (λ c κs. search needs)
     (λ c κs.
-        let s = c .before .before .before in
-        let D = s .pre in
-        let r = c .before .row in
-        (D .rising, (D .wide, cells-inside (now (s .args .sheet)) (s .args .here) (r .result) (D .some) (D .ends) (r .ensures))))
+    let s = c .before .before .before in
+    let D = s .pre in
+    let r = c .before .row in
+    (D .rising, (D .wide, cells-inside (now (s .args .sheet)) (s .args .here) (r .result) (D .some) (D .ends) (r .ensures))))
     (λ c κs. search needs)
     (λ c. row-lines-are _ _ _ _ _ _ (c .before .before .before .before .before .pre) (c .before .before .before .row .ensures) (c .before .row-height .ensures) (c .within-limit .ensures)))
