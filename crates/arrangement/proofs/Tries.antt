@@ -12,7 +12,7 @@ use Rattle.rules.specs.Text.{orElse}
 use Rattle.rules.specs.Sheet as sheet
 use Rattle.rules.specs.Sheet.{Table, noCell, noRow, columnAt}
 use Rattle.rules.specs.Widths.{lifted, longestPart}
-use Rattle.rules.proofs.Places.{textAt, lineStop, cellHere, cellStop, rowHere, rowStop, rowsPlace}
+use Rattle.rules.specs.Places.{textAt, lineStop, cellHere, cellStop, rowHere, rowStop, rowsPlace}
 use Rattle.rules.proofs.Stands.{parts-count}
 use Rattle.rules.specs.declared.Column.{Column}
 use Rattle.sheet.specs.Held.{Passes, settingsOf}

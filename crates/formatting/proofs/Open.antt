@@ -14,7 +14,7 @@ use Rattle.rules.specs.Sheet.{Cell, noCell}
 use Rattle.rules.specs.Wrap.{wrapLines}
 use Rattle.rules.proofs.Text.{width-length}
 use Rattle.rules.proofs.Split.{wrap-short}
-use Rattle.rules.proofs.Places.{past, parts, textAt, lineStop}
+use Rattle.rules.specs.Places.{past, parts, textAt, lineStop}
 use Rattle.cells.specs.Cell as cells
 use Rattle.cells.specs.Cell.{texts, endOf, rest, Inside}
 use Rattle.cells.specs.declared.CellCursor.{CellCursor}

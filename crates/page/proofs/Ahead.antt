@@ -12,7 +12,7 @@ use Rattle.rules.specs.Style.{topBorder, headerLines, headerRule, contentLines,
 use Rattle.rules.specs.Page.{height, areas, rowText, shown, headed, ruledRows, ruledMore, framed, pageLines}
 use Rattle.rules.proofs.Areas.{length-areas}
 use Rattle.rules.proofs.Lists.{all-drop}
-use Rattle.rules.proofs.Places.{parts, rowHere, rowStop}
+use Rattle.rules.specs.Places.{parts, rowHere, rowStop}
 use Rattle.rules.proofs.Stands.{parts-count}
 use Rattle.sheet.specs.Held.{tableOf}
 use Rattle.sheet.specs.Walk.{rowsIn, firstRow, cellsIn, RowIs, RowsNext}

@@ -15,8 +15,7 @@ use Rattle.rules.specs.Page.{visibleWidth, visibleWidths}
 use Rattle.rules.proofs.Lines.{lineLength, borderLength, text-length, rule-length, border-length}
 use Rattle.rules.proofs.Counts.{line-length-bound, border-length-bound}
 use Rattle.rules.proofs.Lists.{upFrom-last, map-append}
-use Rattle.rules.proofs.Accepted.{accepted-limits}
-use Rattle.rules.proofs.Numbers.{checked-reading}
+use Rattle.rules.proofs.Accepted.{accepted-limits, checked-reading}
 use Rattle.sheet.specs.Held.{Passes, tableOf}
 use Rattle.sheet.specs.Walk.{rowsIn, firstRow}
 use Rattle.formatting.specs.Line.{shownAt}

@@ -22,7 +22,7 @@ use Rattle.rules.proofs.Bounds.{Most, contents-801}
 use Rattle.rules.proofs.Contents.{length-contents}
 use Rattle.rules.proofs.Counts.{visibleTo, visible-to-none, visible-to-shown, visible-to-hidden, visible-to-all, visible-rising, visible-number}
 use Rattle.rules.proofs.Lists.{all-getD}
-use Rattle.rules.proofs.Places.{rowHere, rowStop, rowsPlace}
+use Rattle.rules.specs.Places.{rowHere, rowStop, rowsPlace}
 use Rattle.rules.proofs.Stands.{parts-count}
 use Rattle.style.specs.Bytes.{bytesOf}
 use Rattle.style.specs.declared.table_style.TableStyle.{TableStyle}

@@ -8,7 +8,8 @@ use lib.ListN.{length, replicate}
 use Rattle.rules.specs.Quote.{ascii}
 use Rattle.rules.specs.Text.{greatest, sum, upFrom, keep, flat, textWidth, firstOf, restOf}
 use Rattle.rules.specs.Sheet.{Width, Column, Cell, Row, Table, noWidth, noColumn}
-use Rattle.rules.specs.Field.{got, onward, _>>=_, give, byte, word, only, zeroWord, several, listed, ended}
+use Rattle.rules.specs.Field.{got, onward, byte, word, only, zeroWord, several, ended}
+use Rattle.rules.specs.Description.{reads}
 use Rattle.rules.specs.Format.{width, column, line, cell, row, table, sheet}
 use Rattle.rules.specs.Wrap.{onto, pieces, glue, room, tight, full, act, last, place, weight, split, wrapLine, wrapLines, exceeds, fitting, cutLine, cut}
 use Rattle.rules.specs.Style.{bordersOf}
@@ -110,7 +111,7 @@ pub record Slips : Type 0 where
   pub top-junction : ruled (0 ∷ 45 ∷ replicate 20 0) true 0 (2 ∷ 3 ∷ []) ≡ ascii "-- ---"
 
 pub examples : Examples
-unfolding greatest sum upFrom keep flat textWidth firstOf restOf onward _>>=_ give byte word only zeroWord several listed ended width column line cell row table sheet onto pieces glue room tight full act last place weight split wrapLine wrapLines exceeds fitting cutLine cut bordersOf cellsOf cellLongest longest numbers visible borders percentOf widthOf valueOf lowerWidth upperWidth absoluteWidth lower upper absolute covering evaluate noted first untargeted zeros taken start fix fixAt visit pass passes aboveAverage withinAverage fittingAverage trialParts cellParts longestPart shorterBy3 splitAtAverage step1 step2 step3 share shared widened step4 contents area visibleWidths wrapped cellLines height areaAt areas joinedMore joined lineOf ruled textLine shown headed ruledMore ruledRows rowText framed pageLines closed page lineAt lineCount byteCount countOf count put printOf printPage printLineOf printLine
+unfolding greatest sum upFrom keep flat textWidth firstOf restOf onward byte word only zeroWord several reads ended width column line cell row table sheet onto pieces glue room tight full act last place weight split wrapLine wrapLines exceeds fitting cutLine cut bordersOf cellsOf cellLongest longest numbers visible borders percentOf widthOf valueOf lowerWidth upperWidth absoluteWidth lower upper absolute covering evaluate noted first untargeted zeros taken start fix fixAt visit pass passes aboveAverage withinAverage fittingAverage trialParts cellParts longestPart shorterBy3 splitAtAverage step1 step2 step3 share shared widened step4 contents area visibleWidths wrapped cellLines height areaAt areas joinedMore joined lineOf ruled textLine shown headed ruledMore ruledRows rowText framed pageLines closed page lineAt lineCount byteCount countOf count put printOf printPage printLineOf printLine
 examples = record {
   quick = refl;
   long-word = refl;
@@ -135,7 +136,7 @@ examples = record {
 }
 
 pub slips : Slips
-unfolding greatest sum upFrom keep flat textWidth firstOf restOf onward _>>=_ give byte word only zeroWord several listed ended width column line cell row table sheet onto pieces glue room tight full act last place weight split wrapLine wrapLines exceeds fitting cutLine cut bordersOf cellsOf cellLongest longest numbers visible borders percentOf widthOf valueOf lowerWidth upperWidth absoluteWidth lower upper absolute covering evaluate noted first untargeted zeros taken start fix fixAt visit pass passes aboveAverage withinAverage fittingAverage trialParts cellParts longestPart shorterBy3 splitAtAverage step1 step2 step3 share shared widened step4 contents area visibleWidths wrapped cellLines height areaAt areas joinedMore joined lineOf ruled textLine shown headed ruledMore ruledRows rowText framed pageLines closed page lineAt lineCount byteCount countOf count put printOf printPage printLineOf printLine
+unfolding greatest sum upFrom keep flat textWidth firstOf restOf onward byte word only zeroWord several reads ended width column line cell row table sheet onto pieces glue room tight full act last place weight split wrapLine wrapLines exceeds fitting cutLine cut bordersOf cellsOf cellLongest longest numbers visible borders percentOf widthOf valueOf lowerWidth upperWidth absoluteWidth lower upper absolute covering evaluate noted first untargeted zeros taken start fix fixAt visit pass passes aboveAverage withinAverage fittingAverage trialParts cellParts longestPart shorterBy3 splitAtAverage step1 step2 step3 share shared widened step4 contents area visibleWidths wrapped cellLines height areaAt areas joinedMore joined lineOf ruled textLine shown headed ruledMore ruledRows rowText framed pageLines closed page lineAt lineCount byteCount countOf count put printOf printPage printLineOf printLine
 slips = record {
   charge-of-0 = refl;
   padding-not-counted = refl;
@@ -144,7 +145,7 @@ slips = record {
 }
 
 pub house-words : House
-unfolding greatest sum upFrom keep flat textWidth firstOf restOf onward _>>=_ give byte word only zeroWord several listed ended width column line cell row table sheet onto pieces glue room tight full act last place weight split wrapLine wrapLines exceeds fitting cutLine cut bordersOf cellsOf cellLongest longest numbers visible borders percentOf widthOf valueOf lowerWidth upperWidth absoluteWidth lower upper absolute covering evaluate noted first untargeted zeros taken start fix fixAt visit pass passes aboveAverage withinAverage fittingAverage trialParts cellParts longestPart shorterBy3 splitAtAverage step1 step2 step3 share shared widened step4 contents area visibleWidths wrapped cellLines height areaAt areas joinedMore joined lineOf ruled textLine shown headed ruledMore ruledRows rowText framed pageLines closed page lineAt lineCount byteCount countOf count put printOf printPage printLineOf printLine
+unfolding greatest sum upFrom keep flat textWidth firstOf restOf onward byte word only zeroWord several reads ended width column line cell row table sheet onto pieces glue room tight full act last place weight split wrapLine wrapLines exceeds fitting cutLine cut bordersOf cellsOf cellLongest longest numbers visible borders percentOf widthOf valueOf lowerWidth upperWidth absoluteWidth lower upper absolute covering evaluate noted first untargeted zeros taken start fix fixAt visit pass passes aboveAverage withinAverage fittingAverage trialParts cellParts longestPart shorterBy3 splitAtAverage step1 step2 step3 share shared widened step4 contents area visibleWidths wrapped cellLines height areaAt areas joinedMore joined lineOf ruled textLine shown headed ruledMore ruledRows rowText framed pageLines closed page lineAt lineCount byteCount countOf count put printOf printPage printLineOf printLine
 house-words = record {
   reads = refl;
   widths = refl;

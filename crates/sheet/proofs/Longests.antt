@@ -18,7 +18,7 @@ use Rattle.rules.specs.Limits.{RowLimits}
 use Rattle.rules.proofs.Accepted.{accepted-limits}
 use Rattle.rules.proofs.Text.{width-length}
 use Rattle.rules.proofs.Lists.{length-upFrom}
-use Rattle.rules.proofs.Places.{byteAt, parts, textAt, lineStop, cellHere, cellStop, rowHere, rowStop, rowsPlace}
+use Rattle.rules.specs.Places.{byteAt, parts, textAt, lineStop, cellHere, cellStop, rowHere, rowStop, rowsPlace}
 use Rattle.rules.proofs.Stands.{parts-count, text-length}
 use Rattle.sheet.specs.Held.{Passes, tableOf}
 use Rattle.sheet.specs.Walk.{rowsIn, cellsIn, linesIn, rowsEnd, cellsEnd, linesEnd, firstRow, firstCell, RowIs, CellIs, RowsNext, LinesNext}
