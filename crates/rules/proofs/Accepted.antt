@@ -3,22 +3,21 @@ use Prim.Native.Nat.{ℕ, _≤_}
 use mathlib.Core.Path.{_≡_, refl, ap, sym, subst, _∙_}
 use mathlib.Core.Logic.{_⊎_, inl, inr}
 use mathlib.Core.List.{List}
-use mathlib.Core.Bool.{Bool, true, false, cond, _&&_, _||_}
+use mathlib.Core.Bool.{Bool, true, false, cond, _||_, and-eq-true-iff}
 use native.Mathlib.Omega.{arith}
 use lib.ListN.{length}
 use lib.Dec.{ltb, leb, eqb}
 use borrow.Author.Tests.{leb-true, eqb-true, eq-eqb, ltb-false}
-use Rattle.rules.specs.Text.{All}
 use Rattle.rules.specs.Sheet.{Width, Column, Cell, Row, Table, mostColumns}
 use Rattle.rules.specs.Field.{Read, got, refused, onward, between, printable, printableOrZero, ended}
-use Rattle.rules.specs.Description.{keeps, reads}
+use Rattle.rules.specs.Description.{reads}
 use Rattle.rules.specs.Format.{width, column, line, cell, row, table, sheet}
 use Rattle.rules.specs.Places.{tableHere, endPlace}
 use Rattle.rules.specs.Steps.{Step, At, Refused, stepOf, readFrom, after}
 use Rattle.rules.specs.Limits.{Printable, Optional, WidthLimits, ColumnLimits, LineLimits, CellLimits, RowLimits, TableLimits}
 use Rattle.rules.specs.Calls.{check, checkOf}
 use Rattle.rules.proofs.Lists.{all-imp}
-use Rattle.rules.proofs.Reading.{Number, Faithful, Reads, Sound, sound, steps}
+use Rattle.rules.proofs.Reading.{Number, keeps, Faithful, Reads, Sound, sound, steps}
 
 -- ---- each part of a value is the one that was read
 
@@ -28,82 +27,37 @@ Whole a = Unit {0}
 any : {A : Type 0} → (a : A) → Whole a
 any a = tt
 
+-- the part's own fields, and what follows them
+part : {A B : Type 0} → A → B → A × B
+part a b = (a, b)
+
 width-whole : (used : Bool) → Faithful (width used) Whole
 unfolding Faithful width
-width-whole true = (any, λ u. (any, λ v. (refl, (refl, tt))))
-width-whole false = (any, λ u. (any, λ v. (refl, (refl, tt))))
+width-whole true = part any λ u. part any λ v. (refl, (refl, tt))
+width-whole false = part any λ u. part any λ v. (refl, (refl, tt))
 
 column-whole : Faithful column Whole
 unfolding Faithful column
-column-whole = (
-  any,
-  λ l. (
-    any,
-    λ r. (
-      any,
-      λ d. (
-        any,
-        λ a. (
-          any,
-          λ k. (
-            width-whole (leb 3 k),
-            λ v. (
-              width-whole (eqb k 6),
-              λ w.
-                  (refl, (refl, (refl, (refl, (refl, (refl, (refl, tt))))))),
-            ),
-          ),
-        ),
-      ),
-    ),
-  ),
-)
+column-whole =
+    part any λ l. part any λ r. part any λ d. part any λ a. part any λ k. part (width-whole (leb 3 k)) λ v. part (width-whole (eqb k 6)) λ w.
+    (refl, (refl, (refl, (refl, (refl, (refl, (refl, tt)))))))
 
 cell-whole : Faithful cell Whole
 unfolding Faithful cell line
-cell-whole = (any, λ d. (any, λ a. ((any, (any, any)), λ ls. (refl, (refl, (refl, tt))))))
+cell-whole = part any λ d. part any λ a. part (any, (any, any)) λ ls. (refl, (refl, (refl, tt)))
 
 row-whole : (columns : ℕ) → Faithful (row columns) Whole
 unfolding Faithful row
-row-whole columns = (any, λ h. ((any, (cell-whole, any)), λ cs. (refl, (refl, tt))))
+row-whole columns = part any λ h. part (any, (cell-whole, any)) λ cs. (refl, (refl, tt))
 
-pub table-whole : Faithful table Whole
+table-whole : Faithful table Whole
 unfolding Faithful table
-table-whole = (
-  any,
-  λ e. (
-    any,
-    λ a. (
-      any,
-      λ w. (
-        any,
-        λ d. (
-          any,
-          λ i. (
-            any,
-            λ st. (
-              (any, (column-whole, any)),
-              λ cs. (
-                (any, (row-whole (length cs), any)),
-                λ h. (
-                  (any, (row-whole (length cs), any)),
-                  λ rs.
-                      (refl, (refl, (refl, (refl, (refl, (refl, (refl, (refl, (refl, tt))))))))),
-                ),
-              ),
-            ),
-          ),
-        ),
-      ),
-    ),
-  ),
-)
+table-whole =
+    part any λ e. part any λ a. part any λ w. part any λ d. part any λ i. part any λ st. part (any, (column-whole, any)) λ cs.
+    part (any, (row-whole (length cs), any)) λ h. part (any, (row-whole (length cs), any)) λ rs.
+    (refl, (refl, (refl, (refl, (refl, (refl, (refl, (refl, (refl, tt)))))))))
 
 -- ---- what passed the tests keeps the limits
-
-and-both : (a b : Bool) → (a && b) ≡ true → (a ≡ true) × (b ≡ true)
-and-both true b e = (refl, e)
-and-both false b e = let z : false ≡ true = e in (z, absurd (let y : _≡_ {A = ℕ} 0 1 = cc in omega arith))
 
 or-either : (a b : Bool) → (a || b) ≡ true → (a ≡ true) ⊎ (b ≡ true)
 or-either true b e = inl refl
@@ -111,7 +65,7 @@ or-either false b e = inr e
 
 pub between-both : (low high v : ℕ) → between low high v ≡ true → (low ≤ v) × (v ≤ high)
 between-both low high v e =
-    let h = and-both (leb low v) (leb v high) e in
+    let h = and-eq-true-iff (leb low v) (leb v high) .0 e in
     (leb-true low v (h .0), leb-true v high (h .1))
 
 at-most : (low high v : ℕ) → between low high v ≡ true → v ≤ high
@@ -226,11 +180,13 @@ abbrev SheetSound : List ℕ → Read Table → Type 0
 SheetSound s (got t q) = Accepted s t q
 SheetSound s (refused n q) = Number n
 
-ended-sound : (s : List ℕ) → length s ≤ 32768 → (y : Read Table) → Sound table Whole s 0 y → SheetSound s (onward y (λ t p. onward (ended s p) (λ u q. got t q)))
+ended-sound : (s : List ℕ) → length s ≤ 32768 → (y : Read Table) → Sound table Whole s 0 y
+    → SheetSound s (onward y (λ t p. onward (ended s p) (λ u q. got t q)))
 unfolding onward ended
 ended-sound s short (got t p) r = go (ltb p (length s)) refl
   where
-    go : (b : Bool) → ltb p (length s) ≡ b → SheetSound s (onward {A = Unit {0}} (elim b as (λ x. Read (Unit {0})) [ true ↦ refused 9 p | false ↦ got tt p ]) (λ u q. got t q))
+    go : (b : Bool) → ltb p (length s) ≡ b
+        → SheetSound s (onward {A = Unit {0}} (elim b as (λ x. Read (Unit {0})) [ true ↦ refused 9 p | false ↦ got tt p ]) (λ u q. got t q))
     go true e = (omega arith, omega arith)
     go false e = let i = r .inside (omega arith) in record { short = short; read = r; whole = omega (arith, ltb-false p (length s) e) }
 ended-sound s short (refused n q) r = r
@@ -287,7 +243,8 @@ sheet-steps s = go (ltb 32768 (length s))
     inner (got t p) = ends t (ended s p)
     inner (refused n p) = refl
 
-    go : (b : Bool) → stepOf {A = Table} (elim b as (λ x. Read Table) [ true ↦ refused 2 32768 | false ↦ onward (reads table s 0) (λ t p. onward (ended s p) (λ u q. got t q)) ])
+    go : (b : Bool)
+        → stepOf {A = Table} (elim b as (λ x. Read Table) [ true ↦ refused 2 32768 | false ↦ onward (reads table s 0) (λ t p. onward (ended s p) (λ u q. got t q)) ])
         ≡ elim b as (λ x. Step) [ true ↦ Refused 2 32768 | false ↦ readFrom ended s (after table s (At 0)) ]
     go true = refl
     go false = inner (reads table s 0) ∙ ap (readFrom ended s) (sym (steps table Whole table-whole s 0))

@@ -1,18 +1,20 @@
 -- What a reading comes to, by the description of what is read: one clause for each way to put fields together. Assumes nothing.
 use Prim.Native.Nat.{ℕ, zero, suc, _+_, _≤_, _<_, _%_}
-use mathlib.Core.Path.{_≡_, refl, ap, sym, subst, _∙_}
-use mathlib.Core.List.{List, [], _∷_}
+use mathlib.Core.Path.{_≡_, refl, ap, subst, _∙_}
+use mathlib.Core.List.{List, _∷_}
 use mathlib.Core.Bool.{Bool, true, false}
 use native.Mathlib.Omega.{arith}
-use lib.ListN.{length, getD, take, drop}
+use lib.ListN.{length, take, drop}
 use lib.Seq.{drop-cons}
 use lib.Dec.{ltb, eqb}
 use borrow.Author.Tests.{ltb-true, eqb-true}
 use Rattle.rules.specs.Text.{All}
 use Rattle.rules.specs.Field as field
 use Rattle.rules.specs.Field.{Read, got, refused, Reader, onward, byteAt, wordAt, between, several}
-use Rattle.rules.specs.Description.{Fault, wrongEdition, unknownCode, beyondLimits, badCharacter, tooManyCells, notZero, numberOf, Format, byte, word, only, zeroWord, text, listed, give, next, textLength, character, reads, past, parts, textAt, lineStop, Extent, stands, here, stop, keeps}
-use Rattle.rules.specs.Steps.{Step, At, Refused, stepOf, readFrom, valueOf, byteOf, times, after}
+use Rattle.rules.specs.Description.{Fault, wrongEdition, unknownCode, beyondLimits, badCharacter, tooManyCells, notZero, numberOf}
+use Rattle.rules.specs.Description.{Format, byte, word, only, zeroWord, text, listed, give, next, textLength, character, reads}
+use Rattle.rules.specs.Description.{past, parts, textAt, lineStop, Extent, stands, here, stop}
+use Rattle.rules.specs.Steps.{Step, At, Refused, stepOf, readFrom, hereOf, byteOf, times, after}
 
 -- every refusal from the input is numbered 1 to 9
 abbrev pub Number : ℕ → Type 0
@@ -25,6 +27,17 @@ fault-number beyondLimits = (omega arith, omega arith)
 fault-number badCharacter = (omega arith, omega arith)
 fault-number tooManyCells = (omega arith, omega arith)
 fault-number notZero = (omega arith, omega arith)
+
+-- what the tests ask of a value
+unfoldable pub keeps : {A : Type 0} → Format A → A → Type 0
+keeps byte v = Unit {0}
+keeps word v = Unit {0}
+keeps (only good fault x) v = (good v ≡ true) × keeps x v
+keeps zeroWord v = v ≡ 0
+keeps (text low high good) l = (between low high (length l) ≡ true) × All (λ c. good c ≡ true) l
+keeps (listed count x) as′ = keeps count (length as′) × All (λ a. keeps x a) as′
+keeps (give a) u = Unit {0}
+keeps (next of x g) u = keeps x (of u) × keeps (g (of u)) u
 
 -- a value that was read has the property P, and each of its parts is the one that was read
 unfoldable pub Faithful : {A : Type 0} → Format A → (A → Type 0) → Type 0
@@ -58,7 +71,9 @@ unfolding field.byte stands keeps
 byte-sound P h s p = go (ltb p (length s)) refl
   where
     go : (b : Bool) → ltb p (length s) ≡ b → Sound byte P s p (elim b as (λ x. Read ℕ) [ true ↦ got (byteAt s p) (p + 1) | false ↦ refused 1 (length s) ])
-    go true e = let l = ltb-true p (length s) e in record { value = refl; end = refl; onward = omega arith; inside = λ i. omega arith; kept = tt; proper = h (byteAt s p) }
+    go true e =
+        let l = ltb-true p (length s) e in
+        record { value = refl; end = refl; onward = omega arith; inside = λ i. omega arith; kept = tt; proper = h (byteAt s p) }
     go false e = (omega arith, omega arith)
 
 word-sound : (P : ℕ → Type 0) → ((v : ℕ) → P v) → (s : List ℕ) (p : ℕ) → Sound word P s p (field.word s p)
@@ -66,15 +81,19 @@ unfolding field.word stands keeps
 word-sound P h s p = go (ltb (p + 1) (length s)) refl
   where
     go : (b : Bool) → ltb (p + 1) (length s) ≡ b → Sound word P s p (elim b as (λ x. Read ℕ) [ true ↦ got (wordAt s p) (p + 2) | false ↦ refused 1 (length s) ])
-    go true e = let l = ltb-true (p + 1) (length s) e in record { value = refl; end = refl; onward = omega arith; inside = λ i. omega arith; kept = tt; proper = h (wordAt s p) }
+    go true e =
+        let l = ltb-true (p + 1) (length s) e in
+        record { value = refl; end = refl; onward = omega arith; inside = λ i. omega arith; kept = tt; proper = h (wordAt s p) }
     go false e = (omega arith, omega arith)
 
 zeros-sound : (P : ℕ → Type 0) → (s : List ℕ) (p : ℕ) (y : Read ℕ) → Sound word P s p y
-    → Sound zeroWord P s p (onward y (λ v q. elim (eqb v 0) [ true ↦ got v q | false ↦ elim (eqb (v % 256) 0) [ true ↦ refused 8 (p + 1) | false ↦ refused 8 p ] ]))
+    → Sound zeroWord P s p
+    (onward y (λ v q. elim (eqb v 0) [ true ↦ got v q | false ↦ elim (eqb (v % 256) 0) [ true ↦ refused 8 (p + 1) | false ↦ refused 8 p ] ]))
 unfolding onward stands keeps
 zeros-sound P s p (got v q) r = go (eqb v 0) (eqb (v % 256) 0) refl
   where
-    go : (b c : Bool) → eqb v 0 ≡ b → Sound zeroWord P s p (elim b as (λ x. Read ℕ) [ true ↦ got v q | false ↦ elim c as (λ x. Read ℕ) [ true ↦ refused 8 (p + 1) | false ↦ refused 8 p ] ])
+    go : (b c : Bool) → eqb v 0 ≡ b
+        → Sound zeroWord P s p (elim b as (λ x. Read ℕ) [ true ↦ got v q | false ↦ elim c as (λ x. Read ℕ) [ true ↦ refused 8 (p + 1) | false ↦ refused 8 p ] ])
     go true c e = record { value = r .value; end = r .end; onward = r .onward; inside = r .inside; kept = eqb-true v 0 e; proper = r .proper }
     go false true e = (omega arith, omega arith)
     go false false e = (omega arith, omega arith)
@@ -107,12 +126,15 @@ byte-tested : (good : ℕ → Bool) (m : ℕ) (s : List ℕ) (p : ℕ) → ByteS
 unfolding field.only field.byte onward
 byte-tested good m s p = go (ltb p (length s)) refl
   where
-    test : p < length s → (b : Bool) → good (byteAt s p) ≡ b → ByteSound good m s p (elim b as (λ x. Read ℕ) [ true ↦ got (byteAt s p) (p + 1) | false ↦ refused m p ])
+    test : p < length s → (b : Bool) → good (byteAt s p) ≡ b
+        → ByteSound good m s p (elim b as (λ x. Read ℕ) [ true ↦ got (byteAt s p) (p + 1) | false ↦ refused m p ])
     test l true e = record { value = refl; end = refl; there = l; passed = e }
     test l false e = λ i. i
 
     go : (b : Bool) → ltb p (length s) ≡ b
-        → ByteSound good m s p (onward (elim b as (λ x. Read ℕ) [ true ↦ got (byteAt s p) (p + 1) | false ↦ refused 1 (length s) ]) (λ v q. elim (good v) as (λ x. Read ℕ) [ true ↦ got v q | false ↦ refused m p ]))
+        → ByteSound good m s p
+        (onward (elim b as (λ x. Read ℕ) [ true ↦ got (byteAt s p) (p + 1) | false ↦ refused 1 (length s) ])
+        (λ v q. elim (good v) as (λ x. Read ℕ) [ true ↦ got v q | false ↦ refused m p ]))
     go true e = test (ltb-true p (length s) e) (good (byteAt s p)) refl
     go false e = λ i. (omega arith, omega arith)
 
@@ -155,7 +177,8 @@ characters-sound good s (suc n) p = go (character good s p) (byte-tested good 6 
     go (got v q) t ih = character-then good s n p v q t (several n (character good) s q) (ih q)
     go (refused m q) t ih = t (omega arith, omega arith)
 
-text-sound : (low high : ℕ) (good : ℕ → Bool) (P : List ℕ → Type 0) → ((l : List ℕ) → P l) → (s : List ℕ) (p : ℕ) (y : Read ℕ) → ByteSound (between low high) 5 s p y
+text-sound : (low high : ℕ) (good : ℕ → Bool) (P : List ℕ → Type 0) → ((l : List ℕ) → P l)
+    → (s : List ℕ) (p : ℕ) (y : Read ℕ) → ByteSound (between low high) 5 s p y
     → Sound (text low high good) P s p (onward y (λ n q. several n (character good) s q))
 unfolding onward stands keeps textAt lineStop
 text-sound low high good P h s p (got n q) t = go (several n (character good) s q) (characters-sound good s n q)
@@ -199,7 +222,8 @@ item-then x P s n p a q t (got as′ r) c = record {
 }
 item-then x P s n p a q t (refused m r) c = c
 
-items-sound : {A : Type 0} (x : Format A) (P : A → Type 0) (s : List ℕ) → ((p : ℕ) → Sound x P s p (reads x s p)) → (n p : ℕ) → ItemsSound x s n p (several n (reads x) s p)
+items-sound : {A : Type 0} (x : Format A) (P : A → Type 0) (s : List ℕ) → ((p : ℕ) → Sound x P s p (reads x s p))
+    → (n p : ℕ) → ItemsSound x s n p (several n (reads x) s p)
 unfolding several onward parts past
 items-sound x P s h zero p = record { value = refl; end = refl; onward = omega arith; inside = λ i. i; count = refl; each = tt }
 items-sound {A} x P s h (suc n) p = go (reads x s p) (h p) (items-sound x P s h n)
@@ -259,7 +283,8 @@ sound (only good fault x) P h s p = only-sound good fault x P s p (reads x s p) 
 sound zeroWord P h s p = zeros-sound P s p (field.word s p) (word-sound P h s p)
 sound (text low high good) P h s p = text-sound low high good P h s p (textLength low high s p) (byte-tested (between low high) 5 s p)
 sound (listed count x) P h s p =
-    listed-sound count x (λ n. Unit {0}) P (λ a. Unit {0}) (h .1 .1) s (λ q. sound x (λ a. Unit {0}) (h .1 .0) s q) p (reads count s p) (sound count (λ n. Unit {0}) (h .0) s p)
+    listed-sound count x (λ n. Unit {0}) P (λ a. Unit {0}) (h .1 .1) s (λ q. sound x (λ a. Unit {0}) (h .1 .0) s q) p
+    (reads count s p) (sound count (λ n. Unit {0}) (h .0) s p)
 sound (give a) P h s p = record { value = refl; end = refl; onward = omega arith; inside = λ i. i; kept = tt; proper = h }
 sound (next of x g) P h s p =
     next-sound of x g P s p (λ a q. sound (g a) (λ u. (of u ≡ a) × P u) (h .1 a) s q) (reads x s p) (sound x (λ a. Unit {0}) (h .0) s p)
@@ -284,9 +309,9 @@ after-off (only good fault x) s n p = refl
 after-off zeroWord s n p = refl
 after-off (text low high good) s n p = times-off (byteOf s (Refused n p)) (readFrom (character good) s) (readFrom-off (character good) s) n p
 after-off (listed count x) s n p =
-    rw (after-off count s n p) (times-off (valueOf count s (Refused n p)) (λ z. after x s z) (λ m q. after-off x s m q) n p)
+    rw (after-off count s n p) (times-off (hereOf count s (Refused n p)) (λ z. after x s z) (λ m q. after-off x s m q) n p)
 after-off (give a) s n p = refl
-after-off (next of x g) s n p = rw (after-off x s n p) (after-off (g (valueOf x s (Refused n p))) s n p)
+after-off (next of x g) s n p = rw (after-off x s n p) (after-off (g (hereOf x s (Refused n p))) s n p)
 
 -- n items: the step n times
 several-steps : {A : Type 0} (f : Reader A) (h : Step → Step) (s : List ℕ) → ((n q : ℕ) → h (Refused n q) ≡ Refused n q) → ((q : ℕ) → h (At q) ≡ stepOf (f s q))
@@ -321,13 +346,14 @@ got-value : {A : Type 0} (x : Format A) (P : A → Type 0) (s : List ℕ) (p : �
 got-value x P s p y r a q e = subst (Sound x P s p) e r .value
 
 pub steps : {A : Type 0} (x : Format A) (P : A → Type 0) → Faithful x P → (s : List ℕ) (p : ℕ) → after x s (At p) ≡ stepOf (reads x s p)
-unfolding after readFrom reads Faithful valueOf byteOf
+unfolding after readFrom reads Faithful hereOf byteOf
 steps byte P h s p = refl
 steps word P h s p = refl
 steps (only good fault x) P h s p = refl
 steps zeroWord P h s p = refl
 steps (text low high good) P h s p =
-    counted-steps (character good) (readFrom (character good) s) s (readFrom-off (character good) s) (λ q. refl) (byteAt s p) (textLength low high s p) (λ n q e. tested (between low high) 5 s p n q e .value)
+    counted-steps (character good) (readFrom (character good) s) s (readFrom-off (character good) s) (λ q. refl) (byteAt s p) (textLength low high s p)
+    (λ n q e. tested (between low high) 5 s p n q e .value)
 steps (listed count x) P h s p =
     rw (steps count (λ n. Unit {0}) (h .0) s p)
     (counted-steps (reads x) (λ z. after x s z) s (after-off x s) (λ q. steps x (λ a. Unit {0}) (h .1 .0) s q) (here count s p) (reads count s p)

@@ -11,7 +11,8 @@ use Rattle.rules.specs.Sheet.{Width, Column, Table, columnAt, noColumn, 
 use Rattle.rules.specs.Field.{got}
 use Rattle.rules.specs.Description.{Format, byte, word, only, zeroWord, text, listed, give, next, Extent, stands, here, stop, partAt}
 use Rattle.rules.specs.Format.{width, column, line, cell, row, table, sheet}
-use Rattle.rules.specs.Places.{past, parts, byteAt, wordAt, textAt, lineStop, widthHere, columnHere, columnStop, cellHere, cellStop, rowHere, rowStop, stylePlace, columnsPlace, headerPlace, rowsPlace, endPlace, tableHere}
+use Rattle.rules.specs.Places.{past, parts, byteAt, wordAt, textAt, lineStop, widthHere, columnHere, columnStop, cellHere, cellStop, rowHere, rowStop}
+use Rattle.rules.specs.Places.{stylePlace, columnsPlace, headerPlace, rowsPlace, endPlace, tableHere}
 use Rattle.rules.proofs.Accepted.{accepted-limits, accepted-places}
 
 -- as many parts as were asked for
@@ -55,7 +56,8 @@ width-here s p = refl
 
 -- used or not, a width takes three bytes
 widths-stand : (b c : Bool) (make : Width → Width → Column) (s : List ℕ) (p : ℕ)
-    → stands (next Column.first (width b) (λ v. next Column.second (width c) (λ w. give (make v w)))) s p ≡ record { value = make (widthHere s p) (widthHere s (p + 3)); end = p + 6 }
+    → stands (next Column.first (width b) (λ v. next Column.second (width c) (λ w. give (make v w)))) s p
+    ≡ record { value = make (widthHere s p) (widthHere s (p + 3)); end = p + 6 }
 unfolding widthHere stands width
 widths-stand true true make s p = let a : p + 1 + 2 ≡ p + 3 = omega arith in let b : p + 3 + 1 + 2 ≡ p + 6 = omega arith in rw (a, b)
 widths-stand true false make s p = let a : p + 1 + 2 ≡ p + 3 = omega arith in let b : p + 3 + 1 + 2 ≡ p + 6 = omega arith in rw (a, b)
@@ -79,7 +81,8 @@ column-stands s p =
     let d = byteAt s (p + 1 + 1) in
     let a = byteAt s (p + 1 + 1 + 1) in
     let k = byteAt s (p + 1 + 1 + 1 + 1) in
-    let make : Width → Width → Column = λ v w. record { left = byteAt s p; right = byteAt s (p + 1); delimiter = d; alignment = a; constraint = k; first = v; second = w } in
+    let make : Width → Width → Column =
+    λ v w. record { left = byteAt s p; right = byteAt s (p + 1); delimiter = d; alignment = a; constraint = k; first = v; second = w } in
     let a2 : p + 1 + 1 ≡ p + 2 = omega arith in
     let a3 : p + 2 + 1 ≡ p + 3 = omega arith in
     let a4 : p + 3 + 1 ≡ p + 4 = omega arith in
@@ -220,7 +223,8 @@ module _ (s : List ℕ) (t : Table) (q : ℕ) (accepted : sheet s ≡ got t q) w
   pub style-count : byteAt s (stylePlace s) ≡ 22
   style-count =
       sym (text-length s (stylePlace s) style-inside)
-      ∙ (ap length (sym (style-here s)) ∙ (ap (λ (u : Table). length (u .style)) (sym (accepted-places s t q accepted .0)) ∙ accepted-limits s t q accepted .style))
+      ∙ (ap length (sym (style-here s))
+      ∙ (ap (λ (u : Table). length (u .style)) (sym (accepted-places s t q accepted .0)) ∙ accepted-limits s t q accepted .style))
 
   pub columns-place : columnsPlace s ≡ stylePlace s + 23
   unfolding lineStop

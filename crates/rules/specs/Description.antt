@@ -1,18 +1,17 @@
--- One description of fields in a row, and its readings: `reads` from a sheet, `stands` and `after` (Steps) by positions alone, `keeps` of a value. Assumes nothing.
+-- One description of fields in a row. Its readings: `reads`, a value or a refusal; `stands`, what is where, untested; `after` (Steps). Assumes nothing.
 use Prim.Native.Nat.{ℕ, zero, suc, _+_}
-use mathlib.Core.Path.{_≡_}
 use mathlib.Core.List.{List, [], _∷_}
-use mathlib.Core.Bool.{Bool, true}
-use lib.ListN.{length, take, drop}
-use Rattle.rules.specs.Text.{All}
+use mathlib.Core.Bool.{Bool}
+use lib.ListN.{take, drop}
 use Rattle.rules.specs.Field as field
-use Rattle.rules.specs.Field.{Reader, got, onward, byteAt, wordAt, between, printable, printableOrZero, several}
+use Rattle.rules.specs.Field.{Reader, got, onward, byteAt, wordAt, between, printableOrZero, several}
 
 -- why a field's value is refused
 pub data Fault : Type 0 where
   wrongEdition unknownCode beyondLimits badCharacter tooManyCells notZero : Fault
 
--- 3: edition; 4: unknown code; 5: count, length or value beyond its limits; 6: byte neither printable nor an allowed 0; 7: more cells than columns; 8: unused width byte not zero
+-- 3: edition; 4: unknown code; 5: count, length or value beyond its limits; 6: byte neither printable nor an allowed 0;
+-- 7: more cells than columns; 8: unused width byte not zero
 abbrev pub numberOf : Fault → ℕ
 numberOf wrongEdition = 3
 numberOf unknownCode = 4
@@ -21,20 +20,25 @@ numberOf badCharacter = 6
 numberOf tooManyCells = 7
 numberOf notZero = 8
 
--- fields in a row that hold an A: a number of one byte or two, one that is only good where a test says so, two bytes that are 0,
--- a text of some length of characters that a test allows, a count and as many items,
--- nothing more, and a part of a value, after which come the fields that may go by it
+-- fields in a row that hold an A
 pub data Format : Type 0 → Type 1 where
+  -- a number of one byte; one of two bytes, low byte first
   byte : Format ℕ
   word : Format ℕ
+  -- the same, where the test lets only some values pass
   only : (ℕ → Bool) → Fault → Format ℕ → Format ℕ
+  -- the value of an unused width, which is 0
   zeroWord : Format ℕ
+  -- a text: its length from a lowest to a highest, and as many characters that pass the test
   text : ℕ → ℕ → (ℕ → Bool) → Format (List ℕ)
+  -- a count, and as many items
   listed : {A : Type 0} → Format ℕ → Format A → Format (List A)
+  -- nothing more: the value is made of its parts
   give : {A : Type 0} → A → Format A
+  -- a part of a value, by which the fields behind it may go
   next : {U A : Type 0} → (U → A) → Format A → (A → Format U) → Format U
 
--- a part of a U, and its fields
+-- a part of a U, and its fields: `l ← Column.left ↤ within 0 20` in Format
 pub record Part (U A : Type 0) : Type 1 where
   pub of : U → A
   pub fields : Format A
@@ -43,7 +47,7 @@ infix 40 _↤_
 abbrev pub _↤_ : {U A : Type 0} → (U → A) → Format A → Part U A
 _↤_ of x = record { of = of; fields = x }
 
--- left to right
+-- one part after another, left to right
 abbrev pub followed : {U A : Type 0} → Part U A → (A → Format U) → Format U
 followed x g = next (x .of) (x .fields) g
 
@@ -135,14 +139,3 @@ partAt (suc k) (text low high good) s p = p
 partAt (suc k) (listed count x) s p = p
 partAt (suc k) (give a) s p = p
 partAt (suc k) (next of x g) s p = let a = stands x s p in partAt k (g (a .value)) s (a .end)
-
--- what the tests ask of a value
-unfoldable pub keeps : {A : Type 0} → Format A → A → Type 0
-keeps byte v = Unit {0}
-keeps word v = Unit {0}
-keeps (only good fault x) v = (good v ≡ true) × keeps x v
-keeps zeroWord v = v ≡ 0
-keeps (text low high good) l = (between low high (length l) ≡ true) × All (λ c. good c ≡ true) l
-keeps (listed count x) as′ = keeps count (length as′) × All (λ a. keeps x a) as′
-keeps (give a) u = Unit {0}
-keeps (next of x g) u = keeps x (of u) × keeps (g (of u)) u

@@ -14,4 +14,5 @@ pub mod Calls
 pub mod Words
 pub mod Demand3
 pub mod Quote
+pub mod Opened
 pub mod Examples

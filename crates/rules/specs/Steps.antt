@@ -25,8 +25,8 @@ abbrev placeOf : Step → ℕ
 placeOf (At p) = p
 placeOf (Refused n p) = 0
 
-unfoldable pub valueOf : {A : Type 0} → Format A → List ℕ → Step → A
-valueOf x s y = here x (sheetOf s y) (placeOf y)
+unfoldable pub hereOf : {A : Type 0} → Format A → List ℕ → Step → A
+hereOf x s y = here x (sheetOf s y) (placeOf y)
 
 unfoldable pub byteOf : List ℕ → Step → ℕ
 byteOf s y = byteAt (sheetOf s y) (placeOf y)
@@ -43,6 +43,6 @@ after word s y = readFrom (reads word) s y
 after (only good fault x) s y = readFrom (reads (only good fault x)) s y
 after zeroWord s y = readFrom (reads zeroWord) s y
 after (text low high good) s y = times (byteOf s y) (readFrom (character good) s) (readFrom (textLength low high) s y)
-after (listed count x) s y = times (valueOf count s y) (λ z. after x s z) (after count s y)
+after (listed count x) s y = times (hereOf count s y) (λ z. after x s z) (after count s y)
 after (give a) s y = y
-after (next of x g) s y = after (g (valueOf x s y)) s (after x s y)
+after (next of x g) s y = after (g (hereOf x s y)) s (after x s y)

@@ -1,5 +1,5 @@
 -- The table of a sheet that passes stands in its bytes. Assumes nothing.
-use Prim.Native.Nat.{ℕ, _+_, _-_, _*_, _≤_, _<_}
+use Prim.Native.Nat.{ℕ, _+_, _*_, _≤_, _<_}
 use mathlib.Core.Path.{_≡_, ap, sym, _∙_}
 use mathlib.Core.List.{List, append-nil}
 use native.Mathlib.Omega.{arith}

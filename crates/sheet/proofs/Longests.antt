@@ -18,8 +18,8 @@ use Rattle.rules.specs.Limits.{RowLimits}
 use Rattle.rules.proofs.Accepted.{accepted-limits}
 use Rattle.rules.proofs.Text.{width-length}
 use Rattle.rules.proofs.Lists.{length-upFrom}
-use Rattle.rules.specs.Places.{byteAt, parts, textAt, lineStop, cellHere, cellStop, rowHere, rowStop, rowsPlace}
-use Rattle.rules.proofs.Stands.{parts-count, text-length}
+use Rattle.rules.specs.Places.{byteAt, parts, textAt, lineStop, rowHere, rowStop, rowsPlace}
+use Rattle.rules.proofs.Stands.{text-length}
 use Rattle.sheet.specs.Held.{Passes, tableOf}
 use Rattle.sheet.specs.Walk.{rowsIn, cellsIn, linesIn, rowsEnd, cellsEnd, linesEnd, firstRow, firstCell, RowIs, CellIs, RowsNext, LinesNext}
 use Rattle.sheet.specs.Longest.{longestIn, longestAt, Narrow, CellWalked, RowWalked, RowsWalked}
@@ -31,7 +31,7 @@ use Rattle.sheet.specs.declared.records.Cell.{Cell}
 use Rattle.sheet.specs.declared.longest.LongestLine.{LongestLine}
 use Rattle.sheet.specs.declared.longest.LongestLines.{LongestLines}
 use Rattle.sheet.proofs.Held.{held, room}
-use Rattle.sheet.proofs.Walks.{line-whole, lines-none, cells-none, rows-none, cells-next, rows-next, row-whole}
+use Rattle.sheet.proofs.Walks.{line-whole, cells-number, lines-none, cells-none, rows-none, cells-next, rows-next, row-whole}
 
 -- the first part and the others make the whole
 cons-parts : {A : Type 0} (n : ℕ) (here : ℕ → A) (stop : ℕ → ℕ) (p : ℕ) → 0 < n → parts n here stop p ≡ here p ∷ drop 1 (parts n here stop p)
@@ -100,10 +100,6 @@ at-there j xs h = rw (lt-ltb j (length xs) h, longestAt)
 at-missing : (j : ℕ) (xs : List sheet.Cell) → length xs ≤ j → longestAt j xs ≡ 0
 unfolding longestAt
 at-missing j xs h = rw (le-ltb j (length xs) h, longestAt)
-
-cells-number : (s : List ℕ) (c : Cells) → length (cellsIn s c) ≡ c .left
-unfolding cellsIn
-cells-number s c = parts-count (c .left) (cellHere s) (cellStop s) (c .at)
 
 pub cells-again : (s : List ℕ) (all c : Cells) (x : Cell) (found : LongestLine) (before longest : List ℕ) (j v : ℕ) → 0 < c .left → CellIs s c x → CellWalked s (x .lines) found
     → v ≡ max (getD longest j 0) (found .longest) → CellsSoFar s all c before longest j

@@ -1,17 +1,18 @@
 -- A loop that reads n items: what is left to read from here is what there was to read from its start. Assumes nothing.
 use Prim.Native.Nat.{ℕ, zero, suc, _+_, _-_, _<_, _≤_}
-use mathlib.Core.Bool.{Bool, true, false, _&&_, cond}
+use mathlib.Core.Bool.{Bool, true, false, _&&_, cond, and-eq-true-iff}
 use mathlib.Core.Path.{_≡_, refl, sym, _∙_}
 use mathlib.Core.List.{List}
 use native.Mathlib.Omega.{arith}
 use lib.ListN.{length, getD}
 use lib.Dec.{leb}
-use borrow.Author.Tests.{leb-true, le-leb, lt-leb}
+use borrow.Author.Tests.{le-leb, lt-leb}
 use Rattle.rules.specs.Field.{printable}
 use Rattle.rules.specs.Description as description
 use Rattle.rules.specs.Steps.{readFrom, times}
 use Rattle.rules.specs.declared.Step.{Step}
 use Rattle.rules.specs.declared.Step.the-variants.{At, Refused}
+use Rattle.rules.proofs.Accepted.{between-both}
 use Rattle.rules.proofs.Reading.{times-off, readFrom-off}
 use Rattle.sheet.specs.Steps.{printables}
 use Rattle.sheet.proofs.Fields.{between-ended, between-low, between-high, between-good}
@@ -71,10 +72,6 @@ module _ (s : List ℕ) (e i : ℕ) (w : Step) (c : Characters s e i w) where
 
 -- ---- printable characters passed at once
 
-both-true : (a b : Bool) → (a && b) ≡ true → (a ≡ true) × (b ≡ true)
-both-true true b e = (refl, e)
-both-true false b e = let z : _≡_ {A = ℕ} 0 1 = cc in absurd (omega arith)
-
 -- a byte's tests, exit by exit
 pub low-not : (v : ℕ) → v < 32 → false ≡ printable v
 low-not v h = rw (lt-leb 32 v h)
@@ -105,11 +102,11 @@ characters-on : (s : List ℕ) (start e m : ℕ) (w : Step) → start + m ≤ e 
 unfolding printables
 characters-on s start e zero w h k p c = let z : start + 0 ≡ start = omega arith in rw z c
 characters-on s start e (suc m) w h k p c =
-    let b = both-true (printables s start m) (printable (getD s (start + m) 0)) p in
-    let r = both-true (leb 32 (getD s (start + m) 0)) (leb (getD s (start + m) 0) 126) (b .1) in
+    let b = and-eq-true-iff (printables s start m) (printable (getD s (start + m) 0)) .0 p in
+    let r = between-both 32 126 (getD s (start + m) 0) (b .1) in
     let d = characters-on s start e m w (omega arith) (omega arith) (b .0) c in
     let z : start + suc m ≡ start + m + 1 = omega arith in
-    rw z (character-next s e (start + m) w d (omega arith) (omega arith) (leb-true 32 (getD s (start + m) 0) (r .0)) (leb-true (getD s (start + m) 0) 126 (r .1)))
+    rw z (character-next s e (start + m) w d (omega arith) (omega arith) (r .0) (r .1))
 
 pub past-all : (b p : Bool) (x y : ℕ) → b ≡ p → b ≡ true → x ≡ cond p x y
 past-all b p x y e f = rw (← e, f)

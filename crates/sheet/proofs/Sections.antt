@@ -12,7 +12,7 @@ use Rattle.rules.specs.Field.{Read, got, refused, between, printable, printable
 use Rattle.rules.specs.Description as description
 use Rattle.rules.specs.Description.{Format, reads, stands, wordTo, optional, zeroWord, counted, text}
 use Rattle.rules.specs.Format.{line, cell, row, width, column, table, sheet}
-use Rattle.rules.specs.Steps.{stepOf, readFrom, valueOf, byteOf, times, after}
+use Rattle.rules.specs.Steps.{stepOf, readFrom, hereOf, byteOf, times, after}
 use Rattle.rules.specs.declared.Step.{Step}
 use Rattle.rules.specs.declared.Step.the-variants.{At, Refused}
 use Rattle.rules.specs.Calls.{check, checkOf}
@@ -24,7 +24,7 @@ use Rattle.sheet.specs.Steps.{byteBetween, constraintAfter, cellsAfter, 
 -- a count and as many items, from the step y after the count, and the count v
 pub counted-whole : {A : Type 0} (low high : ℕ) (f : Format A) (s : List ℕ) (x y : Step) (v : ℕ)
     → y ≡ readFrom (byteBetween low high 5) s x → v ≡ byteOf s x → times v (after f s) y ≡ after (counted low high f) s x
-unfolding after reads valueOf byteOf stands
+unfolding after reads hereOf byteOf stands
 counted-whole low high f s x y v e i = rw (e, i)
 
 -- a text's length and as many characters
@@ -58,7 +58,8 @@ module _ (most : ℕ) (s : List ℕ) (x y : Step) (count : y ≡ readFrom (byteB
   pub text-start : (p : ℕ) → y ≡ At p → p ≤ length s
   text-start p e = after-inside 0 most 5 s x p (sym count ∙ e)
 
-  pub text-whole : (p v : ℕ) (z : Step) → y ≡ At p → v ≡ byteOf s x → z ≡ times v (readFrom (description.character printable) s) (At p) → z ≡ after (text 0 most printable) s x
+  pub text-whole : (p v : ℕ) (z : Step) → y ≡ At p → v ≡ byteOf s x
+      → z ≡ times v (readFrom (description.character printable) s) (At p) → z ≡ after (text 0 most printable) s x
   text-whole p v z e i j = j ∙ rw (← e) (characters-whole 0 most printable s x y v count i)
 
 -- a line is such a text
@@ -73,10 +74,11 @@ cell-after s x = refl
 
 -- a width, used or not
 used : (s : List ℕ) (x : Step) → after (width true) s x ≡ after (wordTo (cond (eqb (byteOf s x) 0) 400 65535)) s (readFrom (byteBetween 0 1 4) s x)
-unfolding after reads width valueOf byteOf stands
+unfolding after reads width hereOf byteOf stands
 used s x = refl
 
-pub width-used : (b : Bool) (s : List ℕ) (x : Step) → b ≡ true → after (width b) s x ≡ after (wordTo (cond (eqb (byteOf s x) 0) 400 65535)) s (readFrom (byteBetween 0 1 4) s x)
+pub width-used : (b : Bool) (s : List ℕ) (x : Step) → b ≡ true
+    → after (width b) s x ≡ after (wordTo (cond (eqb (byteOf s x) 0) 400 65535)) s (readFrom (byteBetween 0 1 4) s x)
 width-used b s x e = rw e (used s x)
 
 pub width-unused : (b : Bool) (s : List ℕ) (x : Step) → b ≡ false → after (width b) s x ≡ after zeroWord s (readFrom (byteBetween 0 0 8) s x)
@@ -85,24 +87,26 @@ width-unused b s x e = rw e
 
 -- a column
 pub column-after : (s : List ℕ) (x : Step)
-    → after column s x ≡ constraintAfter s (readFrom (byteBetween 0 3 4) s (after optional s (readFrom (byteBetween 0 20 5) s (readFrom (byteBetween 0 20 5) s x))))
-unfolding after reads column valueOf byteOf stands constraintAfter
+    → after column s x
+    ≡ constraintAfter s (readFrom (byteBetween 0 3 4) s (after optional s (readFrom (byteBetween 0 20 5) s (readFrom (byteBetween 0 20 5) s x))))
+unfolding after reads column hereOf byteOf stands constraintAfter
 column-after s x = refl
 
 -- a row
 pub row-after : (columns : ℕ) (s : List ℕ) (x : Step) → after (row columns) s x ≡ cellsAfter columns s (readFrom (byteBetween 0 255 5) s x)
-unfolding after reads row valueOf byteOf stands cellsAfter
+unfolding after reads row hereOf byteOf stands cellsAfter
 row-after columns s x = refl
 
 -- the table
-count-of : {A : Type 0} (low high : ℕ) (f : Format A) (s : List ℕ) (x : Step) → length (valueOf (counted low high f) s x) ≡ byteOf s x
-unfolding valueOf byteOf stands
+count-of : {A : Type 0} (low high : ℕ) (f : Format A) (s : List ℕ) (x : Step) → length (hereOf (counted low high f) s x) ≡ byteOf s x
+unfolding hereOf byteOf stands
 count-of low high f s x = parts-count (byteOf s x) _ _ _
 
 table-after : (s : List ℕ) (x : Step) → after table s x ≡ bodyAfter s (headAfter s x)
 unfolding after reads table headAfter bodyAfter
 table-after s x =
-    ap (λ (n : ℕ). after (counted 0 100 (row n)) s (after (counted 0 1 (row n)) s (after (counted 0 mostColumns column) s (headAfter s x)))) (count-of 0 mostColumns column s (headAfter s x))
+    ap (λ (n : ℕ). after (counted 0 100 (row n)) s (after (counted 0 1 (row n)) s (after (counted 0 mostColumns column) s (headAfter s x))))
+    (count-of 0 mostColumns column s (headAfter s x))
 
 -- the whole: 2 for a sheet that is too long; else its fields, then 9
 check-answer : (y : Read Table) → checkOf y ≡ answerOf (stepOf y)
@@ -117,7 +121,8 @@ check-long s h = rw (lt-ltb 32768 (length s) h, sheet)
 pub check-short : (s : List ℕ) → length s ≤ 32768 → check s ≡ answerOf (readFrom ended s (bodyAfter s (headAfter s (At 0))))
 unfolding check
 check-short s h =
-    let e : stepOf (sheet s) ≡ readFrom ended s (bodyAfter s (headAfter s (At 0))) = sheet-steps s ∙ rw (le-ltb 32768 (length s) h) (ap (readFrom ended s) (table-after s (At 0))) in
+    let e : stepOf (sheet s) ≡ readFrom ended s (bodyAfter s (headAfter s (At 0))) =
+    sheet-steps s ∙ rw (le-ltb 32768 (length s) h) (ap (readFrom ended s) (table-after s (At 0))) in
     check-answer (sheet s) ∙ ap answerOf e
 
 -- the end of the sheet

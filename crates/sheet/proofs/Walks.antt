@@ -1,5 +1,5 @@
 -- Walking from one part to the next: positions, and what is still to come. Assumes nothing.
-use Prim.Native.Nat.{ℕ, zero, suc, _+_, _-_, _*_, _≤_, _<_}
+use Prim.Native.Nat.{ℕ, zero, suc, _+_, _-_, _≤_, _<_}
 use mathlib.Core.Path.{_≡_, refl, sym, _∙_}
 use mathlib.Core.List.{List, []}
 use native.Mathlib.Omega.{arith}
@@ -64,6 +64,19 @@ other-past (suc n) stop p h = let z : suc n - 1 ≡ n = omega arith in rw z
 
 first-inside : (n : ℕ) (stop : ℕ → ℕ) (p : ℕ) → Onward stop → 0 < n → stop p ≤ past n stop p
 first-inside n stop p o h = let a = past-onward (n - 1) stop (stop p) o in omega (arith, other-past n stop p h)
+
+-- as many as are left
+pub rows-number : (s : List ℕ) (c : Rows) → length (rowsIn s c) ≡ c .left
+unfolding rowsIn
+rows-number s c = stands.parts-count (c .left) (rowHere s) (rowStop s) (c .at)
+
+pub cells-number : (s : List ℕ) (c : Cells) → length (cellsIn s c) ≡ c .left
+unfolding cellsIn
+cells-number s c = stands.parts-count (c .left) (cellHere s) (cellStop s) (c .at)
+
+pub lines-number : (s : List ℕ) (c : Lines) → length (linesIn s c) ≡ c .left
+unfolding linesIn
+lines-number s c = stands.parts-count (c .left) (textAt s) (lineStop s) (c .at)
 
 -- the first row, and those after it
 module _ (s : List ℕ) (c : Rows) (some : 0 < c .left) where

@@ -38,7 +38,8 @@ cellsAfter columns s x = times (byteOf s x) (after cell s) (after (cellCount col
 -- the sheet up to its style
 unfoldable pub headAfter : List ℕ → Step → Step
 headAfter s x =
-    after (text 22 22 printableOrZero) s (after (text 0 8 printable) s (after optional s (after (wordTo 400) s (after (code 2) s (readFrom (byteBetween 1 1 3) s x)))))
+    after (text 22 22 printableOrZero) s (after (text 0 8 printable) s (after optional s
+    (after (wordTo 400) s (after (code 2) s (readFrom (byteBetween 1 1 3) s x)))))
 
 -- columns, header and rows, whose cells are held to the column count
 unfoldable pub bodyAfter : List ℕ → Step → Step
