@@ -31,7 +31,7 @@ rowHere s p = here (row mostColumns) s p
 unfoldable pub rowStop : List ℕ → ℕ → ℕ
 rowStop s p = stop (row mostColumns) s p
 
--- where the style's count stands, the columns', the header's, the rows', and where the sheet ends
+-- where the counts of style, columns, header and rows stand, the table's parts 5 to 8, the edition being part 0; and where the sheet ends
 unfoldable pub stylePlace : List ℕ → ℕ
 stylePlace s = partAt 5 table s 0
 

@@ -1,15 +1,16 @@
 -- Walking from one part to the next: positions, and what is still to come. Assumes nothing.
 use Prim.Native.Nat.{ℕ, zero, suc, _+_, _-_, _≤_, _<_}
 use mathlib.Core.Path.{_≡_, refl, sym, _∙_}
-use mathlib.Core.List.{List, []}
+use mathlib.Core.List.{List, [], _∷_}
 use native.Mathlib.Omega.{arith}
 use lib.ListN.{length, getD, take, drop}
+use lib.Seq.{drop-cons}
 use Rattle.rules.specs.Sheet.{noRow, noCell}
 use Rattle.rules.specs.Places.{past, parts, byteAt, textAt, lineStop, cellHere, cellStop, rowHere, rowStop, headerPlace, rowsPlace}
 use Rattle.rules.proofs.Stands as stands
 use Rattle.rules.proofs.Stands.{Onward, past-onward, cell-here, cell-stop, row-here, row-stop, cell-onward, row-onward, lines-onward, cells-onward, rows-onward}
 use Rattle.sheet.specs.Held.{Passes, tableOf}
-use Rattle.sheet.specs.Walk.{rowsIn, cellsIn, linesIn, rowsEnd, cellsEnd, linesEnd, firstLine, RowIs, CellIs, RowsNext, CellsNext, LinesNext}
+use Rattle.sheet.specs.Walk.{rowsIn, cellsIn, linesIn, rowsEnd, cellsEnd, linesEnd, firstRow, firstLine, RowIs, CellIs, RowsNext, CellsNext, LinesNext}
 use Rattle.sheet.specs.declared.records.Rows.{Rows}
 use Rattle.sheet.specs.declared.records.Cells.{Cells}
 use Rattle.sheet.specs.declared.records.Lines.{Lines}
@@ -77,6 +78,10 @@ cells-number s c = stands.parts-count (c .left) (cellHere s) (cellStop s) (c .at
 pub lines-number : (s : List ℕ) (c : Lines) → length (linesIn s c) ≡ c .left
 unfolding linesIn
 lines-number s c = stands.parts-count (c .left) (textAt s) (lineStop s) (c .at)
+
+-- the first row and those after it make the whole
+pub rows-cons : (s : List ℕ) (c : Rows) → 0 < c .left → rowsIn s c ≡ firstRow s c ∷ drop 1 (rowsIn s c)
+rows-cons s c some = drop-cons (rowsIn s c) 0 noRow (omega (arith, rows-number s c))
 
 -- the first row, and those after it
 module _ (s : List ℕ) (c : Rows) (some : 0 < c .left) where
