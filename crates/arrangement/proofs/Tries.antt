@@ -12,8 +12,7 @@ use Rattle.rules.specs.Text.{orElse}
 use Rattle.rules.specs.Sheet as sheet
 use Rattle.rules.specs.Sheet.{Table, noCell, noRow, columnAt}
 use Rattle.rules.specs.Widths.{lifted, longestPart}
-use Rattle.rules.proofs.Places.{textAt, lineStop, cellHere, cellStop, rowHere, rowStop, rowsPlace}
-use Rattle.rules.proofs.Stands.{parts-count}
+use Rattle.rules.specs.Places.{rowsPlace}
 use Rattle.rules.specs.declared.Column.{Column}
 use Rattle.sheet.specs.Held.{Passes, settingsOf}
 use Rattle.sheet.specs.declared.records.Settings.{Settings}
@@ -24,7 +23,7 @@ use Rattle.sheet.specs.declared.records.Lines.{Lines}
 use Rattle.sheet.specs.declared.records.Row.{Row}
 use Rattle.sheet.specs.declared.records.Cell.{Cell}
 use Rattle.sheet.proofs.Held.{room}
-use Rattle.sheet.proofs.Walks.{cells-none, rows-none, rows-next, row-whole, cell-whole}
+use Rattle.sheet.proofs.Walks.{lines-number, cells-number, rows-number, cells-none, rows-none, rows-next, row-whole, cell-whole}
 use Rattle.constraint.specs.declared.Offer.the-variants.{Keep, Take}
 use Rattle.constraint.proofs.Cases.{if-gt}
 use Rattle.arrangement.specs.declared.after_split.Tried.{Tried}
@@ -81,10 +80,6 @@ enough-spares a n m e = go (leb (m + 3) a) refl
 
 -- ---- lines
 
-lines-number : (s : List ℕ) (c : Lines) → length (linesIn s c) ≡ c .left
-unfolding linesIn
-lines-number s c = parts-count (c .left) (textAt s) (lineStop s) (c .at)
-
 -- m is the longest part of the lines before c
 pub record LinesSoFar (s : List ℕ) (a d : ℕ) (all c : Lines) (m : ℕ) : Type 0 where
   pub whole : max m (ofLines a d (linesIn s c)) ≡ ofLines a d (linesIn s all)
@@ -109,10 +104,6 @@ module _ (s : List ℕ) (a d : ℕ) (all : Lines) where
       whole-enough a _ m (omega (arith, so .whole, z, lines-nil a d))
 
 -- ---- cells
-
-pub cells-number : (s : List ℕ) (c : Cells) → length (cellsIn s c) ≡ c .left
-unfolding cellsIn
-cells-number s c = parts-count (c .left) (cellHere s) (cellStop s) (c .at)
 
 -- i of the cells that are to be passed
 pub record Skipping (s : List ℕ) (all c : Cells) (n i : ℕ) : Type 0 where
@@ -178,10 +169,6 @@ module _ (s : List ℕ) (all : Cells) (j a d : ℕ) (c : Cells) (skipped : Skipp
     row-there last rest = record { longest = row-cell; ends = λ k. sym (cells-none s last (omega (arith, rest .left))) ∙ rest .ends ∙ skipped .ends }
 
 -- ---- rows
-
-rows-number : (s : List ℕ) (c : Rows) → length (rowsIn s c) ≡ c .left
-unfolding rowsIn
-rows-number s c = parts-count (c .left) (rowHere s) (rowStop s) (c .at)
 
 rows-cons : (j a d : ℕ) (r : sheet.Row) (rs : List sheet.Row) → ofRows j a d (r ∷ rs) ≡ max (ofCells j a d (r .cells)) (ofRows j a d rs)
 unfolding ofRows

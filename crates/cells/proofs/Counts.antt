@@ -12,7 +12,7 @@ use Rattle.rules.specs.Wrap.{Act, join, retry, fill, begin, onto, pieces, glue,
 use Rattle.rules.proofs.Text.{width-length}
 use Rattle.rules.proofs.Fuel.{View, joins, retries, fills, begins, view}
 use Rattle.rules.proofs.Split.{wrap-short, wrap-long}
-use Rattle.rules.proofs.Places.{past, parts, byteAt, textAt, lineStop}
+use Rattle.rules.specs.Places.{past, parts, byteAt, textAt, lineStop}
 use Rattle.rules.proofs.Stands.{past-onward, lines-onward, text-length}
 use Rattle.sheet.specs.Walk.{linesIn, linesEnd, firstLine, LinesNext}
 use Rattle.sheet.specs.declared.records.Lines.{Lines}

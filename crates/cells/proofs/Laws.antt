@@ -12,10 +12,10 @@ use Rattle.rules.specs.Text.{textWidth, flat}
 use Rattle.rules.specs.Wrap.{split, wrapLine, wrapLines}
 use Rattle.rules.proofs.Text.{width-length}
 use Rattle.rules.proofs.Split.{wrap-short, wrap-long}
-use Rattle.rules.proofs.Places.{parts, textAt, lineStop}
-use Rattle.rules.proofs.Stands.{parts-count}
+use Rattle.rules.specs.Places.{parts}
 use Rattle.sheet.specs.Walk.{linesIn, linesEnd, firstLine, LinesNext}
 use Rattle.sheet.specs.declared.records.Lines.{Lines}
+use Rattle.sheet.proofs.Walks.{lines-number}
 use Rattle.content_split.specs.Parts.{LineIs, PartIs}
 use Rattle.content_split.specs.declared.Part.{Part}
 use Rattle.content_split.specs.declared.Part.the-variants.{Line, Nothing}
@@ -79,8 +79,7 @@ unfolding linesIn parts
 lines-none s c h = let e : c .left ≡ 0 = omega arith in rw e
 
 pub lines-some : (s : List ℕ) (c : Lines) → 0 < c .left → linesIn s c ≡ firstLine s c ∷ drop 1 (linesIn s c)
-unfolding linesIn
-lines-some s c h = first-others [] (linesIn s c) (omega (arith, parts-count (c .left) (textAt s) (lineStop s) (c .at)))
+lines-some s c h = first-others [] (linesIn s c) (omega (arith, lines-number s c))
 
 some-line : (n : ℕ) → ltb 0 (suc n) ≡ true
 some-line n = lt-ltb 0 (suc n) (omega arith)

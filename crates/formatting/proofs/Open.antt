@@ -14,7 +14,7 @@ use Rattle.rules.specs.Sheet.{Cell, noCell, mostColumns}
 use Rattle.rules.specs.Wrap.{wrapLines}
 use Rattle.rules.proofs.Text.{width-length}
 use Rattle.rules.proofs.Split.{wrap-short}
-use Rattle.rules.proofs.Places.{past, parts}
+use Rattle.rules.specs.Places.{past, parts}
 use Rattle.cells.specs.Cell.{rest, FirstOf}
 use Rattle.cells.proofs.Laws.{rest-none, wrap-more, wrap-none}
 use Rattle.sheet.specs.Walk.{cellsIn, cellsEnd, linesIn, linesEnd, firstCell, CellIs, CellsNext}

@@ -16,15 +16,13 @@ use Rattle.rules.specs.Limits.{TableLimits, ColumnLimits}
 use Rattle.rules.specs.Style.{topBorder, headerLines, headerRule, contentLines, rowRule, bottomBorder, glyphAt, glyph, anyLeft, anyRight, anyJunction, isVisible}
 use Rattle.rules.specs.Calls.{padded}
 use Rattle.rules.specs.Widths.{visible, contents}
-use Rattle.rules.proofs.Accepted.{accepted-limits}
+use Rattle.rules.proofs.Accepted.{accepted-limits, checked-reading}
 use Rattle.rules.proofs.Areas.{content-some}
 use Rattle.rules.proofs.Bounds.{Most, contents-801}
 use Rattle.rules.proofs.Contents.{length-contents}
 use Rattle.rules.proofs.Counts.{visibleTo, visible-to-none, visible-to-shown, visible-to-hidden, visible-to-all, visible-rising, visible-number}
 use Rattle.rules.proofs.Lists.{all-getD}
-use Rattle.rules.proofs.Places.{rowHere, rowStop, rowsPlace}
-use Rattle.rules.proofs.Numbers.{checked-reading}
-use Rattle.rules.proofs.Stands.{parts-count}
+use Rattle.rules.specs.Places.{rowsPlace}
 use Rattle.style.specs.Bytes.{bytesOf}
 use Rattle.style.specs.declared.table_style.TableStyle.{TableStyle}
 use Rattle.sheet.specs.Held.{Passes, tableOf, settingsOf, indicatorOf, columnsOf}
@@ -34,6 +32,7 @@ use Rattle.sheet.specs.declared.records.Settings.{Settings}
 use Rattle.sheet.specs.declared.records.Indicator.{Indicator}
 use Rattle.sheet.specs.declared.records.Columns.{Columns}
 use Rattle.sheet.proofs.Held.{held, room}
+use Rattle.sheet.proofs.Walks.{rows-number}
 use Rattle.arrangement.specs.declared.Widths.{Widths}
 use Rattle.arrangement.specs.Widths.{styleFrom, widthsOf}
 use Rattle.formatting.specs.Line.{View, noColumn as noVisible, visibleAt}
@@ -230,12 +229,10 @@ module _ (s : List ℕ) (passes : Passes s) (c : Rows) where
 
   -- at most one header row
   pub header-one : rowsIn s c ≡ tableOf s .header → c .left ≤ 1
-  unfolding rowsIn
-  header-one e = omega (arith, limits-of s passes .header, ap length e, parts-count (c .left) (rowHere s) (rowStop s) (c .at))
+  header-one e = omega (arith, limits-of s passes .header, ap length e, rows-number s c)
 
   pub rows-few : rowsIn s c ≡ tableOf s .rows → c .left ≤ 100
-  unfolding rowsIn
-  rows-few e = omega (arith, limits-of s passes .rows, ap length e, parts-count (c .left) (rowHere s) (rowStop s) (c .at))
+  rows-few e = omega (arith, limits-of s passes .rows, ap length e, rows-number s c)
 
   pub rows-at : rowsIn s c ≡ tableOf s .rows → rowsEnd s c ≡ length s → RowsAt s c
   rows-at e f = record { ends = omega (arith, f); sound = rw e (limits-of s passes .each-row) }

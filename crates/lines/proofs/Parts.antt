@@ -18,11 +18,10 @@ use Rattle.rules.proofs.Counts.{height-bound}
 use Rattle.rules.proofs.Lines.{lineLength, borderLength, text-length, rule-length, border-length}
 use Rattle.rules.proofs.Lists.{all-drop, all-append, all-map, all-map-imp, getD-map}
 use Rattle.rules.proofs.Rows.{all-headed}
-use Rattle.rules.proofs.Places.{parts, rowHere, rowStop}
-use Rattle.rules.proofs.Stands.{parts-count}
 use Rattle.sheet.specs.Held.{tableOf}
 use Rattle.sheet.specs.Walk.{rowsIn, firstRow, RowsNext}
 use Rattle.sheet.specs.declared.records.Rows.{Rows}
+use Rattle.sheet.proofs.Walks.{rows-number}
 use Rattle.formatting.specs.Line.{View}
 use Rattle.formatting.specs.Packed.{viewOf}
 use Rattle.formatting.specs.RowText.{styled, rowLines, rowHeight, Sized, Drawable}
@@ -45,17 +44,13 @@ use Rattle.lines.proofs.Opening.{limits-of}
 
 -- ---- rows
 
-pub rows-count : (s : List ℕ) (c : Rows) → length (rowsIn s c) ≡ c .left
-unfolding rowsIn
-rows-count s c = parts-count (c .left) (rowHere s) (rowStop s) (c .at)
-
 -- the rows after the first are within the sheet and the limits too
 pub rows-next : (s : List ℕ) (c n : Rows) → RowsAt s c → RowsNext s c n → RowsAt s n
 rows-next s c n A N = record { ends = omega (arith, N .ends, A .ends); sound = rw (N .rows) (all-drop _ 1 (rowsIn s c) (A .sound)) }
 
 -- a first row keeps the limits
 pub row-height-few : (s : List ℕ) (c : Rows) → RowsAt s c → 0 < c .left → rowHeight s (firstRow s c) ≤ 6448
-row-height-few s c A h = go (rowsIn s c) (rows-count s c) (A .sound)
+row-height-few s c A h = go (rowsIn s c) (rows-number s c) (A .sound)
   where
     go : (rs : List Row) → length rs ≡ c .left → All (RowLimits (length (tableOf s .columns))) rs → rowHeight s (getD rs 0 noRow) ≤ 6448
     go [] e a = absurd (omega arith)
@@ -118,7 +113,7 @@ no-rows s = refl
 
 pub after-last : (s : List ℕ) (here : Rows) → RowsAt s here → here .left ≤ 1 → AfterRow s here (record { stage = Bottom; here = here; line = 0 })
 after-last s here A h = record {
-  lines = λ p. last-ahead s p here ∙ sym (rw (none-after (rowsIn s here) (omega (arith, rows-count s here)), no-rows s));
+  lines = λ p. last-ahead s p here ∙ sym (rw (none-after (rowsIn s here) (omega (arith, rows-number s here)), no-rows s));
   at = A;
   start = refl;
   fewer = omega arith;
@@ -218,7 +213,7 @@ module _ (s : List ℕ) (cols : List (List ℕ)) (p : Page) (O : Opened s cols p
   -- the header with its rule
   pub header-drawn : bandLines s (viewOf cols (p .count)) (p .styles .header) (rowsIn s (p .header)) ≡ headerLinesOf s (rowsIn s (p .header))
   unfolding stylesOf bandLines headerLinesOf headed
-  header-drawn = rw (O .styles) (go (rowsIn s (p .header)) (omega (arith, rows-count s (p .header), O .header-one)))
+  header-drawn = rw (O .styles) (go (rowsIn s (p .header)) (omega (arith, rows-number s (p .header), O .header-one)))
     where
       go : (rs : List Row) → length rs ≤ 1 → bandLines s (viewOf cols (p .count)) (stylesOf (tableOf s .style) .header) rs ≡ headerLinesOf s rs
       go [] h = refl
@@ -229,7 +224,7 @@ module _ (s : List ℕ) (cols : List (List ℕ)) (p : Page) (O : Opened s cols p
   pub body-drawn : (here : Rows) (y : RowStyle) → y ≡ bodyStyle (p .styles .body) (here .left) → bandLines s (viewOf cols (p .count)) y (rowsIn s here) ≡ bodyLines s (rowsIn s here)
   unfolding stylesOf bandLines bodyLines firstRuled
   body-drawn here y e =
-      rw (e, O .styles) (ap (λ n. bandLines s (viewOf cols (p .count)) (bodyStyle (stylesOf (tableOf s .style) .body) n) (rowsIn s here)) (sym (rows-count s here)) ∙ go (rowsIn s here))
+      rw (e, O .styles) (ap (λ n. bandLines s (viewOf cols (p .count)) (bodyStyle (stylesOf (tableOf s .style) .body) n) (rowsIn s here)) (sym (rows-number s here)) ∙ go (rowsIn s here))
     where
       out : (b : Bool) (x : List (List ℕ)) → cond (b && false) x [] ≡ []
       out true x = refl
@@ -316,11 +311,11 @@ module _ (s : List ℕ) (cols : List (List ℕ)) (p : Page) (O : Opened s cols p
 
     pub header-sized : SizedBand s (viewOf cols (p .count)) (p .styles .header) (rowsIn s (p .header)) (l .line + 1)
     unfolding stylesOf
-    header-sized = rw (O .styles) (record { text = λ h. text-sized headerLines (p .header) (O .header-at) (omega (arith, rows-count s (p .header))); rule = rule-sized headerRule })
+    header-sized = rw (O .styles) (record { text = λ h. text-sized headerLines (p .header) (O .header-at) (omega (arith, rows-number s (p .header))); rule = rule-sized headerRule })
 
     pub body-sized : (here : Rows) (y : RowStyle) → RowsAt s here → y ≡ bodyStyle (p .styles .body) (here .left) → SizedBand s (viewOf cols (p .count)) y (rowsIn s here) (l .line + 1)
     unfolding stylesOf
-    body-sized here y A e = rw (e, O .styles) (record { text = λ h. text-sized contentLines here A (omega (arith, rows-count s here)); rule = rule-sized rowRule })
+    body-sized here y A e = rw (e, O .styles) (record { text = λ h. text-sized contentLines here A (omega (arith, rows-number s here)); rule = rule-sized rowRule })
 
 -- each line of a part has the part's length
 module _ (s : List ℕ) where

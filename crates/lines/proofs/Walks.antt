@@ -22,6 +22,7 @@ use Rattle.rules.proofs.Sizes.{closed-append, closed-none}
 use Rattle.sheet.specs.Held.{tableOf}
 use Rattle.sheet.specs.Walk.{rowsIn, cellsIn, firstRow, RowIs}
 use Rattle.sheet.specs.declared.records.Rows.{Rows}
+use Rattle.sheet.proofs.Walks.{rows-number}
 use Rattle.sheet.specs.declared.records.Row as records
 use Rattle.buffer.specs.Put.{over}
 use Rattle.formatting.specs.Height.{heightUpTo, limited}
@@ -47,7 +48,7 @@ use Rattle.lines.specs.Walk.{sizeOf, TotalsAre, SoughtIs, FoundIs, Wrote
 use Rattle.lines.specs.declared.cursor.Stage.{Stage}
 use Rattle.lines.specs.declared.cursor.Stage.the-variants.{Top, Header, Body, Bottom, End}
 use Rattle.lines.proofs.Opening.{limits-of}
-use Rattle.lines.proofs.Parts.{rows-count, border-few, top-drawn, bottom-drawn, header-drawn, body-drawn, ahead-start, first-at, first-ahead, end-ahead, top-count, header-count, body-count, bottom-count, end-count}
+use Rattle.lines.proofs.Parts.{border-few, top-drawn, bottom-drawn, header-drawn, body-drawn, ahead-start, first-at, first-ahead, end-ahead, top-count, header-count, body-count, bottom-count, end-count}
 
 drop-append : {A : Type 0} (n : ℕ) (xs ys : List A) → n ≤ length xs → drop n (xs ++ ys) ≡ drop n xs ++ ys
 drop-append zero xs ys h = refl
@@ -91,7 +92,7 @@ row-lines-are s view here r n m D R e f = f ∙ rw (e, R .limit, R .cells) (limi
 
 pub band-none : (s : List ℕ) (b : Bool) (here : Rows) → here .left ≡ 0 → 0 ≡ bandCount s b (rowsIn s here)
 unfolding bandCount
-band-none s b here e = go (rowsIn s here) (rows-count s here)
+band-none s b here e = go (rowsIn s here) (rows-number s here)
   where
     go : (rs : List Row) → length rs ≡ here .left → 0 ≡ bandCount s b rs
     go [] f = refl
@@ -99,7 +100,7 @@ band-none s b here e = go (rowsIn s here) (rows-count s here)
 
 pub band-some : (s : List ℕ) (b : Bool) (here : Rows) (n m : ℕ) → (here .left ≡ 0 → ⊥) → n ≡ rowHeight s (firstRow s here) → m ≡ cond b 1 0 → n + m ≡ bandCount s b (rowsIn s here)
 unfolding bandCount
-band-some s b here n m h e f = go (rowsIn s here) (rows-count s here) e
+band-some s b here n m h e f = go (rowsIn s here) (rows-number s here) e
   where
     go : (rs : List Row) → length rs ≡ here .left → n ≡ rowHeight s (getD rs 0 noRow) → n + m ≡ bandCount s b rs
     go [] g i = absurd (h (omega arith))
@@ -133,7 +134,7 @@ module _ (view : View) (y : RuleStyle) (b : List ℕ) where
 pub band-empty : (s : List ℕ) (view : View) (y : RowStyle) (here : Rows) (first : ℕ) (b : List ℕ) → here .left ≡ 0
     → PartIs (drop first (bandLines s view y (rowsIn s here))) b b (record { lines = 0; bytes = 0; whole = true })
 unfolding bandLines
-band-empty s view y here first b e = go (rowsIn s here) (rows-count s here)
+band-empty s view y here first b e = go (rowsIn s here) (rows-number s here)
   where
     none : (n : ℕ) → drop {A = List ℕ} n [] ≡ []
     none zero = refl
@@ -144,7 +145,7 @@ band-empty s view y here first b e = go (rowsIn s here) (rows-count s here)
     go (r ∷ rs) f = absurd (omega arith)
 
 pub band-sized : (s : List ℕ) (view : View) (y : RowStyle) (here : Rows) (n : ℕ) → SizedBand s view y (rowsIn s here) n → 0 < here .left → Sized s (y .lines) (firstRow s here) n
-band-sized s view y here n B h = B .text (omega (arith, rows-count s here))
+band-sized s view y here n B h = B .text (omega (arith, rows-number s here))
 
 module _ (s : List ℕ) (view : View) (y : RowStyle) (here : Rows) (first : ℕ) (some : 0 < here .left) (within : first ≤ length (bandLines s view y (rowsIn s here)) - 1) where
   rule : List (List ℕ)
@@ -152,7 +153,7 @@ module _ (s : List ℕ) (view : View) (y : RowStyle) (here : Rows) (first : ℕ)
 
   band-is : bandLines s view y (rowsIn s here) ≡ rowLines s (y .lines) (firstRow s here) ++ cond (y .ruled) (ruleText view (y .rule) ∷ []) []
   unfolding bandLines
-  band-is = go (rowsIn s here) (rows-count s here)
+  band-is = go (rowsIn s here) (rows-number s here)
     where
       go : (rs : List Row) → length rs ≡ here .left → bandLines s view y rs ≡ rowLines s (y .lines) (getD rs 0 noRow) ++ cond (y .ruled) (ruleText view (y .rule) ∷ []) []
       go [] e = absurd (omega arith)
@@ -228,7 +229,7 @@ rule-few view y false = omega arith
 
 module _ (s : List ℕ) (cols : List (List ℕ)) (p : Page) (O : Opened s cols p) where
   rows-left : length (rowsIn s (p .rows)) ≤ 100
-  rows-left = omega (arith, rows-count s (p .rows), O .rows-few)
+  rows-left = omega (arith, rows-number s (p .rows), O .rows-few)
 
   -- a page has at most a million lines, each within the longest
   pub total-lines : length (linesOf s p) ≤ 1000000

@@ -6,16 +6,12 @@ pub mod Keeps
 pub mod Contents
 pub mod Bounds
 pub mod Sizes
-pub mod Positions
 pub mod Fits
 pub mod Fitting
 pub mod Lines
-pub mod Parts
+pub mod Reading
 pub mod Accepted
-pub mod Places
 pub mod Stands
-pub mod Numbers
-pub mod Items
 pub mod Settled
 pub mod Wrote
 pub mod Cancel

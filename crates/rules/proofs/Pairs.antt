@@ -8,15 +8,15 @@ use native.Mathlib.Omega.{arith}
 use lib.ListN.{length, replicate}
 use lib.Dec.{eqb}
 use borrow.Author.Tests.{eqb-false, not-true}
+use Rattle.rules.specs.Opened.{rules}
 use Rattle.rules.specs.Quote.{ascii}
-use Rattle.rules.specs.Text.{greatest, sum, upFrom, keep, flat, textWidth, firstOf, restOf}
+use Rattle.rules.specs.Text.{flat}
 use Rattle.rules.specs.Sheet.{Column, Cell, Row, Table, noWidth, allRows}
-use Rattle.rules.specs.Field.{got, onward, _>>=_, give, byte, word, only, zeroWord, several, listed, ended}
-use Rattle.rules.specs.Format.{width, column, line, cell, row, table, sheet}
-use Rattle.rules.specs.Style.{topBorder, headerLines, headerRule, contentLines, rowRule, glyphAt, glyph, isVisible, bordersOf}
-use Rattle.rules.specs.Wrap.{onto, pieces, glue, room, tight, full, act, last, place, weight, split, wrapLine, wrapLines, exceeds, fitting, cutLine, cut}
-use Rattle.rules.specs.Widths.{cellsOf, longest, numbers, cellLongest, visible, borders, percentOf, widthOf, valueOf, lowerWidth, upperWidth, absoluteWidth, lower, upper, absolute, covering, evaluate, noted, first, untargeted, contents}
-use Rattle.rules.specs.Page.{area, visibleWidths, wrapped, cellLines, height, areaAt, areas, joinedMore, joined, lineOf, ruled, textLine, shown, headed, ruledMore, ruledRows, rowText, framed, pageLines, closed, page}
+use Rattle.rules.specs.Field.{got}
+use Rattle.rules.specs.Format.{sheet}
+use Rattle.rules.specs.Style.{topBorder, headerLines, headerRule, contentLines, rowRule, glyphAt, glyph, isVisible}
+use Rattle.rules.specs.Widths.{visible, first, contents}
+use Rattle.rules.specs.Page.{height, page}
 use Rattle.rules.specs.Words.{Readable, linesOf, characters, letters}
 use Rattle.rules.specs.Demand3.{Comparable, Agree}
 use Rattle.rules.specs.Examples.{grid}
@@ -133,7 +133,7 @@ one-row t n e h zero l = omega arith
 one-row t n e h (suc i) l = absurd (omega arith)
 
 pub met : Met
-unfolding greatest sum upFrom keep flat textWidth firstOf restOf onward _>>=_ give byte word only zeroWord several listed ended width column line cell row table sheet onto pieces glue room tight full act last place weight split wrapLine wrapLines exceeds fitting cutLine cut bordersOf cellsOf cellLongest longest numbers visible borders percentOf widthOf valueOf lowerWidth upperWidth absoluteWidth lower upper absolute covering evaluate noted first untargeted contents area visibleWidths wrapped cellLines height areaAt areas joinedMore joined lineOf ruled textLine shown headed ruledMore ruledRows rowText framed pageLines closed page
+unfolding rules
 met = record {
   equal = record {
     first-accepted = record { end = length (sheetOf spaced); reads = refl };
@@ -210,7 +210,7 @@ pub record Needed : Type 0 where
   pub cut-cells-break : letters (cutTo 1 (ascii "ab cd")) (cutTo 1 (ascii "ab ce")) 0 0 (ascii "ab cd") ≢ letters (cutTo 1 (ascii "ab cd")) (cutTo 1 (ascii "ab ce")) 0 0 (ascii "ab ce")
 
 pub needed : Needed
-unfolding greatest sum upFrom keep flat textWidth firstOf restOf onward _>>=_ give byte word only zeroWord several listed ended width column line cell row table sheet onto pieces glue room tight full act last place weight split wrapLine wrapLines exceeds fitting cutLine cut bordersOf cellsOf cellLongest longest numbers visible borders percentOf widthOf valueOf lowerWidth upperWidth absoluteWidth lower upper absolute covering evaluate noted first untargeted contents area visibleWidths wrapped cellLines height areaAt areas joinedMore joined lineOf ruled textLine shown headed ruledMore ruledRows rowText framed pageLines closed page
+unfolding rules
 needed = record {
   top-junction = record { first-read = refl; second-read = refl; one-style = refl; style = refl; first-column = omega arith; second-column = omega arith; first-lines = refl; second-lines = refl; one-page = refl };
   top-junction-breaks = λ x. let e : _≡_ {A = List ℕ} (3 ∷ 5 ∷ []) (5 ∷ 3 ∷ []) = x .widths in let z : _≡_ {A = ℕ} 3 5 = cc in omega arith;

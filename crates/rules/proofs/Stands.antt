@@ -1,15 +1,19 @@
 -- Columns, rows, cells and lines of an accepted sheet's table stand one after another, each whole inside the sheet. Assumes nothing.
 use Prim.Native.Nat.{ℕ, zero, suc, _+_, _*_, _≤_, _<_}
 use mathlib.Core.Path.{_≡_, refl, ap, sym, _∙_}
-use mathlib.Core.List.{List, []}
+use mathlib.Core.List.{List}
+use mathlib.Core.Bool.{Bool, true, false}
 use native.Mathlib.Nat.{not-suc-le-zero, le-of-suc-le-suc}
 use native.Mathlib.Omega.{arith}
 use lib.ListN.{length, getD, length-take, length-drop}
-use Rattle.rules.specs.Sheet.{Table, noRow, columnAt, cellAt, noColumn, noCell}
+use lib.Dec.{leb, eqb}
+use Rattle.rules.specs.Sheet.{Width, Column, Table, columnAt, noColumn, mostColumns}
 use Rattle.rules.specs.Field.{got}
-use Rattle.rules.specs.Format.{sheet}
-use Rattle.rules.proofs.Accepted.{accepted-limits}
-use Rattle.rules.proofs.Places.{past, parts, byteAt, textAt, lineStop, cellHere, cellStop, rowHere, rowStop, columnHere, columnStop, stylePlace, columnsPlace, headerPlace, rowsPlace, endPlace, tableHere, accepted-places}
+use Rattle.rules.specs.Description.{Format, byte, word, only, zeroWord, text, listed, give, next, Extent, stands, here, stop, partAt}
+use Rattle.rules.specs.Format.{width, column, line, cell, row, table, sheet}
+use Rattle.rules.specs.Places.{past, parts, byteAt, wordAt, textAt, lineStop, widthHere, columnHere, columnStop, cellHere, cellStop, rowHere, rowStop}
+use Rattle.rules.specs.Places.{stylePlace, columnsPlace, headerPlace, rowsPlace, endPlace, tableHere}
+use Rattle.rules.proofs.Accepted.{accepted-limits, accepted-places}
 
 -- as many parts as were asked for
 pub parts-count : {A : Type 0} (n : ℕ) (here : ℕ → A) (stop : ℕ → ℕ) (p : ℕ) → length (parts n here stop p) ≡ n
@@ -18,17 +22,11 @@ parts-count zero here stop p = refl
 parts-count (suc n) here stop p = ap suc (parts-count n here stop (stop p))
 
 -- part k stands after k parts
-pub parts-at : {A : Type 0} (d : A) (k n : ℕ) (here : ℕ → A) (stop : ℕ → ℕ) (p : ℕ) → k < n → getD (parts n here stop p) k d ≡ here (past k stop p)
+parts-at : {A : Type 0} (d : A) (k n : ℕ) (here : ℕ → A) (stop : ℕ → ℕ) (p : ℕ) → k < n → getD (parts n here stop p) k d ≡ here (past k stop p)
 unfolding parts past
 parts-at d k zero here stop p l = absurd (not-suc-le-zero l)
 parts-at d zero (suc n) here stop p l = refl
 parts-at d (suc k) (suc n) here stop p l = parts-at d k n here stop (stop p) (le-of-suc-le-suc l)
-
--- one part more
-pub past-next : (k : ℕ) (stop : ℕ → ℕ) (p : ℕ) → past (suc k) stop p ≡ stop (past k stop p)
-unfolding past
-past-next zero stop p = refl
-past-next (suc k) stop p = past-next k stop (stop p)
 
 -- no part ends before it begins
 abbrev pub Onward : (ℕ → ℕ) → Type 0
@@ -39,73 +37,173 @@ unfolding past
 past-onward zero stop p h = omega arith
 past-onward (suc n) stop p h = let a = h p in let b = past-onward n stop (stop p) h in omega arith
 
-pub past-within : (k n : ℕ) (stop : ℕ → ℕ) (p : ℕ) → Onward stop → k ≤ n → past k stop p ≤ past n stop p
-unfolding past
-past-within zero n stop p h l = past-onward n stop p h
-past-within (suc k) zero stop p h l = absurd (not-suc-le-zero l)
-past-within (suc k) (suc n) stop p h l = past-within k n stop (stop p) h (le-of-suc-le-suc l)
+stop-onward : {A : Type 0} (x : Format A) (s : List ℕ) (p : ℕ) → p ≤ stop x s p
+unfolding stands lineStop
+stop-onward byte s p = omega arith
+stop-onward word s p = omega arith
+stop-onward (only good fault x) s p = stop-onward x s p
+stop-onward zeroWord s p = omega arith
+stop-onward (text low high good) s p = omega arith
+stop-onward (listed count x) s p =
+    omega (arith, stop-onward count s p, past-onward (here count s p) (λ q. stop x s q) (stop count s p) (λ q. stop-onward x s q))
+stop-onward (give a) s p = omega arith
+stop-onward (next of x g) s p = omega (arith, stop-onward x s p, stop-onward (g (here x s p)) s (stop x s p))
 
-pub line-onward : (s : List ℕ) (p : ℕ) → p + 1 ≤ lineStop s p
-unfolding lineStop
-line-onward s p = omega arith
+-- what stands where, field by field
+pub width-here : (s : List ℕ) (p : ℕ) → widthHere s p ≡ record { unit = byteAt s p; value = wordAt s (p + 1) }
+unfolding widthHere stands width
+width-here s p = refl
+
+-- used or not, a width takes three bytes
+widths-stand : (b c : Bool) (make : Width → Width → Column) (s : List ℕ) (p : ℕ)
+    → stands (next Column.first (width b) (λ v. next Column.second (width c) (λ w. give (make v w)))) s p
+    ≡ record { value = make (widthHere s p) (widthHere s (p + 3)); end = p + 6 }
+unfolding widthHere stands width
+widths-stand true true make s p = let a : p + 1 + 2 ≡ p + 3 = omega arith in let b : p + 3 + 1 + 2 ≡ p + 6 = omega arith in rw (a, b)
+widths-stand true false make s p = let a : p + 1 + 2 ≡ p + 3 = omega arith in let b : p + 3 + 1 + 2 ≡ p + 6 = omega arith in rw (a, b)
+widths-stand false true make s p = let a : p + 1 + 2 ≡ p + 3 = omega arith in let b : p + 3 + 1 + 2 ≡ p + 6 = omega arith in rw (a, b)
+widths-stand false false make s p = let a : p + 1 + 2 ≡ p + 3 = omega arith in let b : p + 3 + 1 + 2 ≡ p + 6 = omega arith in rw (a, b)
+
+column-stands : (s : List ℕ) (p : ℕ) → stands column s p ≡ record {
+  value = record {
+    left = byteAt s p;
+    right = byteAt s (p + 1);
+    delimiter = byteAt s (p + 2);
+    alignment = byteAt s (p + 3);
+    constraint = byteAt s (p + 4);
+    first = widthHere s (p + 5);
+    second = widthHere s (p + 8);
+  };
+  end = p + 11;
+}
+unfolding stands column
+column-stands s p =
+    let d = byteAt s (p + 1 + 1) in
+    let a = byteAt s (p + 1 + 1 + 1) in
+    let k = byteAt s (p + 1 + 1 + 1 + 1) in
+    let make : Width → Width → Column =
+    λ v w. record { left = byteAt s p; right = byteAt s (p + 1); delimiter = d; alignment = a; constraint = k; first = v; second = w } in
+    let a2 : p + 1 + 1 ≡ p + 2 = omega arith in
+    let a3 : p + 2 + 1 ≡ p + 3 = omega arith in
+    let a4 : p + 3 + 1 ≡ p + 4 = omega arith in
+    let a5 : p + 4 + 1 ≡ p + 5 = omega arith in
+    let a8 : p + 5 + 3 ≡ p + 8 = omega arith in
+    let a11 : p + 5 + 6 ≡ p + 11 = omega arith in
+    widths-stand (leb 3 k) (eqb k 6) make s (p + 1 + 1 + 1 + 1 + 1) ∙ rw (a2, a3, a4, a5, a8, a11)
+
+pub column-here : (s : List ℕ) (p : ℕ) → columnHere s p ≡ record {
+  left = byteAt s p;
+  right = byteAt s (p + 1);
+  delimiter = byteAt s (p + 2);
+  alignment = byteAt s (p + 3);
+  constraint = byteAt s (p + 4);
+  first = widthHere s (p + 5);
+  second = widthHere s (p + 8);
+}
+unfolding columnHere
+column-here s p = ap (λ (e : Extent Column). e .value) (column-stands s p)
+
+pub column-stop : (s : List ℕ) (p : ℕ) → columnStop s p ≡ p + 11
+unfolding columnStop
+column-stop s p = ap (λ (e : Extent Column). e .end) (column-stands s p)
+
+pub cell-here : (s : List ℕ) (p : ℕ)
+    → cellHere s p ≡ record { delimiter = byteAt s p; alignment = byteAt s (p + 1); lines = parts (byteAt s (p + 2)) (textAt s) (lineStop s) (p + 3) }
+unfolding cellHere stands cell line
+cell-here s p =
+    let a : p + 1 + 1 ≡ p + 2 = omega arith in
+    let b : p + 2 + 1 ≡ p + 3 = omega arith in
+    rw (a, b)
+
+pub cell-stop : (s : List ℕ) (p : ℕ) → cellStop s p ≡ past (byteAt s (p + 2)) (lineStop s) (p + 3)
+unfolding cellStop stands cell line
+cell-stop s p =
+    let a : p + 1 + 1 ≡ p + 2 = omega arith in
+    let b : p + 2 + 1 ≡ p + 3 = omega arith in
+    rw (a, b)
+
+pub row-here : (s : List ℕ) (p : ℕ) → rowHere s p ≡ record { limit = byteAt s p; cells = parts (byteAt s (p + 1)) (cellHere s) (cellStop s) (p + 2) }
+unfolding rowHere cellHere cellStop stands row
+row-here s p = let a : p + 1 + 1 ≡ p + 2 = omega arith in rw a
+
+pub row-stop : (s : List ℕ) (p : ℕ) → rowStop s p ≡ past (byteAt s (p + 1)) (cellStop s) (p + 2)
+unfolding rowStop cellStop stands row
+row-stop s p = let a : p + 1 + 1 ≡ p + 2 = omega arith in rw a
 
 pub lines-onward : (s : List ℕ) → Onward (lineStop s)
-lines-onward s p = let h = line-onward s p in omega arith
-
-pub cell-onward : (s : List ℕ) (p : ℕ) → p + 3 ≤ cellStop s p
-unfolding cellStop
-cell-onward s p = past-onward (byteAt s (p + 2)) (lineStop s) (p + 3) (lines-onward s)
+unfolding lineStop
+lines-onward s p = omega arith
 
 pub cells-onward : (s : List ℕ) → Onward (cellStop s)
-cells-onward s p = let h = cell-onward s p in omega arith
-
-pub row-onward : (s : List ℕ) (p : ℕ) → p + 2 ≤ rowStop s p
-unfolding rowStop
-row-onward s p = past-onward (byteAt s (p + 1)) (cellStop s) (p + 2) (cells-onward s)
+unfolding cellStop
+cells-onward s p = stop-onward cell s p
 
 pub rows-onward : (s : List ℕ) → Onward (rowStop s)
-rows-onward s p = let h = row-onward s p in omega arith
+unfolding rowStop
+rows-onward s p = stop-onward (row mostColumns) s p
 
--- part k of n ends no later than all n
-part-inside : (k n : ℕ) (stop : ℕ → ℕ) (p : ℕ) → Onward stop → k < n → stop (past k stop p) ≤ past n stop p
-part-inside k n stop p h l = rw (past-next k stop p) at (past-within (suc k) n stop p h l)
+-- counts stand before what they count
+pub cell-onward : (s : List ℕ) (p : ℕ) → p + 3 ≤ cellStop s p
+cell-onward s p = rw (cell-stop s p) (past-onward (byteAt s (p + 2)) (lineStop s) (p + 3) (lines-onward s))
 
--- a line that ends inside the sheet is as long as its length says
+pub row-onward : (s : List ℕ) (p : ℕ) → p + 2 ≤ rowStop s p
+row-onward s p = rw (row-stop s p) (past-onward (byteAt s (p + 1)) (cellStop s) (p + 2) (cells-onward s))
+
+-- a text that ends inside the sheet is as long as its length says
 pub text-length : (s : List ℕ) (p : ℕ) → lineStop s p ≤ length s → length (textAt s p) ≡ byteAt s p
 unfolding textAt lineStop
 text-length s p h = simp (length-take, length-drop) (omega arith)
 
--- the counts
-pub cells-count : (s : List ℕ) (p : ℕ) → length (rowHere s p .cells) ≡ byteAt s (p + 1)
-unfolding rowHere
-cells-count s p = parts-count (byteAt s (p + 1)) (cellHere s) (cellStop s) (p + 2)
-
-pub lines-count : (s : List ℕ) (p : ℕ) → length (cellHere s p .lines) ≡ byteAt s (p + 2)
-unfolding cellHere
-lines-count s p = parts-count (byteAt s (p + 2)) (textAt s) (lineStop s) (p + 3)
-
--- cell j of a row stands after j cells, and ends no later than the row
-pub cell-stands : (s : List ℕ) (p j : ℕ) → j < byteAt s (p + 1) → cellAt (rowHere s p) j ≡ cellHere s (past j (cellStop s) (p + 2))
-unfolding rowHere
-cell-stands s p j l = parts-at noCell j (byteAt s (p + 1)) (cellHere s) (cellStop s) (p + 2) l
-
-pub cell-inside : (s : List ℕ) (p j : ℕ) → j < byteAt s (p + 1) → cellStop s (past j (cellStop s) (p + 2)) ≤ rowStop s p
-unfolding rowStop
-cell-inside s p j l = part-inside j (byteAt s (p + 1)) (cellStop s) (p + 2) (cells-onward s) l
-
--- line k of a cell stands after k lines, and ends no later than the cell
-pub line-stands : (s : List ℕ) (p k : ℕ) → k < byteAt s (p + 2) → getD (cellHere s p .lines) k [] ≡ textAt s (past k (lineStop s) (p + 3))
-unfolding cellHere
-line-stands s p k l = parts-at [] k (byteAt s (p + 2)) (textAt s) (lineStop s) (p + 3) l
-
-pub line-inside : (s : List ℕ) (p k : ℕ) → k < byteAt s (p + 2) → lineStop s (past k (lineStop s) (p + 3)) ≤ cellStop s p
-unfolding cellStop
-line-inside s p k l = part-inside k (byteAt s (p + 2)) (lineStop s) (p + 3) (lines-onward s) l
-
-columns-past : (n p : ℕ) → past n columnStop p ≡ p + 11 * n
+columns-past : (s : List ℕ) (n p : ℕ) → past n (columnStop s) p ≡ p + 11 * n
 unfolding past
-columns-past zero p = omega arith
-columns-past (suc n) p = let h = columns-past n (p + 11) in omega arith
+columns-past s zero p = omega arith
+columns-past s (suc n) p = let h = columns-past s n (p + 11) in rw (column-stop s p) (omega arith)
+
+-- the sections, one behind another: a count and as many parts
+module _ (s : List ℕ) where
+  pub style-place : stylePlace s ≡ 6 + byteAt s 5
+  unfolding stylePlace lineStop partAt stands table
+  style-place = refl
+
+  columns-begin : columnsPlace s ≡ lineStop s (stylePlace s)
+  unfolding columnsPlace stylePlace partAt stands table
+  columns-begin = refl
+
+  header-begins : headerPlace s ≡ past (byteAt s (columnsPlace s)) (columnStop s) (columnsPlace s + 1)
+  unfolding headerPlace columnsPlace columnStop partAt stands table
+  header-begins = refl
+
+  pub header-place : headerPlace s ≡ columnsPlace s + 1 + 11 * byteAt s (columnsPlace s)
+  header-place = header-begins ∙ columns-past s (byteAt s (columnsPlace s)) (columnsPlace s + 1)
+
+  pub rows-begin : rowsPlace s ≡ past (byteAt s (headerPlace s)) (rowStop s) (headerPlace s + 1)
+  unfolding rowsPlace headerPlace rowStop partAt stands table row
+  rows-begin = refl
+
+  pub rows-end : endPlace s ≡ past (byteAt s (rowsPlace s)) (rowStop s) (rowsPlace s + 1)
+  unfolding endPlace rowsPlace rowStop partAt stands table row
+  rows-end = refl
+
+  -- what they hold
+  pub indicator-here : tableHere s .indicator ≡ textAt s 5
+  unfolding tableHere stands table
+  indicator-here = refl
+
+  pub style-here : tableHere s .style ≡ textAt s (stylePlace s)
+  unfolding tableHere stylePlace partAt stands table
+  style-here = refl
+
+  pub columns-here : tableHere s .columns ≡ parts (byteAt s (columnsPlace s)) (columnHere s) (columnStop s) (columnsPlace s + 1)
+  unfolding tableHere columnsPlace columnHere columnStop partAt stands table
+  columns-here = refl
+
+  pub header-here : tableHere s .header ≡ parts (byteAt s (headerPlace s)) (rowHere s) (rowStop s) (headerPlace s + 1)
+  unfolding tableHere headerPlace rowHere rowStop partAt stands table row
+  header-here = refl
+
+  pub rows-here : tableHere s .rows ≡ parts (byteAt s (rowsPlace s)) (rowHere s) (rowStop s) (rowsPlace s + 1)
+  unfolding tableHere rowsPlace rowHere rowStop partAt stands table row
+  rows-here = refl
 
 -- the sections of an accepted sheet
 module _ (s : List ℕ) (t : Table) (q : ℕ) (accepted : sheet s ≡ got t q) where
@@ -113,76 +211,34 @@ module _ (s : List ℕ) (t : Table) (q : ℕ) (accepted : sheet s ≡ got t q) w
   end-place = sym (accepted-places s t q accepted .1)
 
   pub rows-inside : rowsPlace s + 1 ≤ length s
-  unfolding endPlace
-  rows-inside = let h = past-onward (byteAt s (rowsPlace s)) (rowStop s) (rowsPlace s + 1) (rows-onward s) in omega (arith, end-place)
+  rows-inside = omega (arith, end-place, rows-end s, past-onward (byteAt s (rowsPlace s)) (rowStop s) (rowsPlace s + 1) (rows-onward s))
 
   pub header-inside : headerPlace s + 1 ≤ rowsPlace s
-  unfolding rowsPlace
-  header-inside = past-onward (byteAt s (headerPlace s)) (rowStop s) (headerPlace s + 1) (rows-onward s)
-
-  pub header-place : headerPlace s ≡ columnsPlace s + 1 + 11 * byteAt s (columnsPlace s)
-  unfolding headerPlace
-  header-place = columns-past (byteAt s (columnsPlace s)) (columnsPlace s + 1)
-
-  pub style-place : stylePlace s ≡ 6 + byteAt s 5
-  unfolding stylePlace lineStop
-  style-place = refl
+  header-inside = omega (arith, rows-begin s, past-onward (byteAt s (headerPlace s)) (rowStop s) (headerPlace s + 1) (rows-onward s))
 
   style-inside : lineStop s (stylePlace s) ≤ length s
-  unfolding columnsPlace
-  style-inside = omega (arith, rows-inside, header-inside, header-place)
+  style-inside = omega (arith, rows-inside, header-inside, header-place s, columns-begin s)
 
   -- the style's count is 22
   pub style-count : byteAt s (stylePlace s) ≡ 22
-  unfolding tableHere
   style-count =
       sym (text-length s (stylePlace s) style-inside)
-      ∙ (ap (λ (u : Table). length (u .style)) (sym (accepted-places s t q accepted .0)) ∙ accepted-limits s t q accepted .style)
+      ∙ (ap length (sym (style-here s))
+      ∙ (ap (λ (u : Table). length (u .style)) (sym (accepted-places s t q accepted .0)) ∙ accepted-limits s t q accepted .style))
 
-  pub columns-place : columnsPlace s ≡ 29 + byteAt s 5
-  unfolding columnsPlace lineStop
-  columns-place = omega (arith, style-place, style-count)
+  pub columns-place : columnsPlace s ≡ stylePlace s + 23
+  unfolding lineStop
+  columns-place = omega (arith, columns-begin s, style-count)
 
-  -- the counts
   pub column-count : length (t .columns) ≡ byteAt s (columnsPlace s)
-  unfolding tableHere
-  column-count = ap (λ (u : Table). length (u .columns)) (accepted-places s t q accepted .0) ∙ parts-count (byteAt s (columnsPlace s)) (columnHere s) columnStop (columnsPlace s + 1)
-
-  pub header-count : length (t .header) ≡ byteAt s (headerPlace s)
-  unfolding tableHere
-  header-count = ap (λ (u : Table). length (u .header)) (accepted-places s t q accepted .0) ∙ parts-count (byteAt s (headerPlace s)) (rowHere s) (rowStop s) (headerPlace s + 1)
-
-  pub row-count : length (t .rows) ≡ byteAt s (rowsPlace s)
-  unfolding tableHere
-  row-count = ap (λ (u : Table). length (u .rows)) (accepted-places s t q accepted .0) ∙ parts-count (byteAt s (rowsPlace s)) (rowHere s) (rowStop s) (rowsPlace s + 1)
+  column-count =
+      ap (λ (u : Table). length (u .columns)) (accepted-places s t q accepted .0)
+      ∙ (ap length (columns-here s) ∙ parts-count (byteAt s (columnsPlace s)) (columnHere s) (columnStop s) (columnsPlace s + 1))
 
   -- column j stands after j columns
-  pub column-stands : (j : ℕ) → j < length (t .columns) → columnAt t j ≡ columnHere s (columnsPlace s + 1 + 11 * j)
-  unfolding tableHere
-  column-stands j l =
+  pub column-at : (j : ℕ) → j < byteAt s (columnsPlace s) → columnAt t j ≡ columnHere s (columnsPlace s + 1 + 11 * j)
+  column-at j l =
       ap (λ (u : Table). columnAt u j) (accepted-places s t q accepted .0)
-      ∙ (parts-at noColumn j (byteAt s (columnsPlace s)) (columnHere s) columnStop (columnsPlace s + 1) (omega (arith, column-count))
-      ∙ ap (columnHere s) (columns-past j (columnsPlace s + 1)))
-
-  -- the header row stands after the header's count, row i after the rows' count and i rows; each is whole inside the sheet
-  pub header-stands : 0 < length (t .header) → getD (t .header) 0 noRow ≡ rowHere s (headerPlace s + 1)
-  unfolding tableHere past
-  header-stands l =
-      ap (λ (u : Table). getD (u .header) 0 noRow) (accepted-places s t q accepted .0)
-      ∙ parts-at noRow 0 (byteAt s (headerPlace s)) (rowHere s) (rowStop s) (headerPlace s + 1) (omega (arith, header-count))
-
-  pub header-whole : 0 < length (t .header) → rowStop s (headerPlace s + 1) ≤ rowsPlace s
-  unfolding rowsPlace past
-  header-whole l = part-inside 0 (byteAt s (headerPlace s)) (rowStop s) (headerPlace s + 1) (rows-onward s) (omega (arith, header-count))
-
-  pub row-stands : (i : ℕ) → i < length (t .rows) → getD (t .rows) i noRow ≡ rowHere s (past i (rowStop s) (rowsPlace s + 1))
-  unfolding tableHere
-  row-stands i l =
-      ap (λ (u : Table). getD (u .rows) i noRow) (accepted-places s t q accepted .0)
-      ∙ parts-at noRow i (byteAt s (rowsPlace s)) (rowHere s) (rowStop s) (rowsPlace s + 1) (omega (arith, row-count))
-
-  pub row-whole : (i : ℕ) → i < length (t .rows) → rowStop s (past i (rowStop s) (rowsPlace s + 1)) ≤ length s
-  unfolding endPlace
-  row-whole i l =
-      let h = part-inside i (byteAt s (rowsPlace s)) (rowStop s) (rowsPlace s + 1) (rows-onward s) (omega (arith, row-count)) in
-      omega (arith, end-place)
+      ∙ (ap (λ (cs : List Column). getD cs j noColumn) (columns-here s)
+      ∙ (parts-at noColumn j (byteAt s (columnsPlace s)) (columnHere s) (columnStop s) (columnsPlace s + 1) l
+      ∙ ap (columnHere s) (columns-past s j (columnsPlace s + 1))))

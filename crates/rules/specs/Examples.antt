@@ -5,17 +5,16 @@ use mathlib.Core.List.{List, [], _∷_, _++_, map}
 use mathlib.Core.Bool.{Bool, true, false}
 use mathlib.Core.Option.{Option, none, some}
 use lib.ListN.{length, replicate}
+use Rattle.rules.specs.Opened.{rules}
 use Rattle.rules.specs.Quote.{ascii}
-use Rattle.rules.specs.Text.{greatest, sum, upFrom, keep, flat, textWidth, firstOf, restOf}
-use Rattle.rules.specs.Sheet.{Width, Column, Cell, Row, Table, noWidth, noColumn}
-use Rattle.rules.specs.Field.{got, onward, _>>=_, give, byte, word, only, zeroWord, several, listed, ended}
-use Rattle.rules.specs.Format.{width, column, line, cell, row, table, sheet}
-use Rattle.rules.specs.Wrap.{onto, pieces, glue, room, tight, full, act, last, place, weight, split, wrapLine, wrapLines, exceeds, fitting, cutLine, cut}
-use Rattle.rules.specs.Style.{bordersOf}
-use Rattle.rules.specs.Widths.{cellsOf, longest, numbers, cellLongest, visible, borders, percentOf, widthOf, valueOf, lowerWidth, upperWidth, absoluteWidth, lower, upper, absolute, covering, evaluate, noted, first, untargeted, zeros, taken, start, fix, fixAt, visit, pass, passes, aboveAverage, withinAverage, fittingAverage, trialParts, cellParts, longestPart, shorterBy3, splitAtAverage, step1, step2, step3, share, shared, widened, step4, contents}
-use Rattle.rules.specs.Page.{area, visibleWidths, wrapped, cellLines, height, areaAt, areas, joinedMore, joined, lineOf, ruled, textLine, shown, headed, ruledMore, ruledRows, rowText, framed, pageLines, closed, page, lineAt, lineCount, byteCount}
+use Rattle.rules.specs.Sheet.{Column, Table, noWidth, noColumn}
+use Rattle.rules.specs.Field.{got}
+use Rattle.rules.specs.Format.{sheet}
+use Rattle.rules.specs.Wrap.{place, wrapLine, cutLine}
+use Rattle.rules.specs.Widths.{borders, widthOf, first, splitAtAverage, share, contents}
+use Rattle.rules.specs.Page.{ruled}
 use Rattle.rules.specs.Words.{widthsOf, linesOf, areaOf, characters, letters}
-use Rattle.rules.specs.Calls.{countOf, count, put, printOf, printPage, printLineOf, printLine, turned}
+use Rattle.rules.specs.Calls.{count, printPage, printLine, turned}
 
 -- the house grid, the bare style, and the document's sheet of 81 bytes
 abbrev pub grid : List ℕ
@@ -110,7 +109,7 @@ pub record Slips : Type 0 where
   pub top-junction : ruled (0 ∷ 45 ∷ replicate 20 0) true 0 (2 ∷ 3 ∷ []) ≡ ascii "-- ---"
 
 pub examples : Examples
-unfolding greatest sum upFrom keep flat textWidth firstOf restOf onward _>>=_ give byte word only zeroWord several listed ended width column line cell row table sheet onto pieces glue room tight full act last place weight split wrapLine wrapLines exceeds fitting cutLine cut bordersOf cellsOf cellLongest longest numbers visible borders percentOf widthOf valueOf lowerWidth upperWidth absoluteWidth lower upper absolute covering evaluate noted first untargeted zeros taken start fix fixAt visit pass passes aboveAverage withinAverage fittingAverage trialParts cellParts longestPart shorterBy3 splitAtAverage step1 step2 step3 share shared widened step4 contents area visibleWidths wrapped cellLines height areaAt areas joinedMore joined lineOf ruled textLine shown headed ruledMore ruledRows rowText framed pageLines closed page lineAt lineCount byteCount countOf count put printOf printPage printLineOf printLine
+unfolding rules
 examples = record {
   quick = refl;
   long-word = refl;
@@ -135,7 +134,7 @@ examples = record {
 }
 
 pub slips : Slips
-unfolding greatest sum upFrom keep flat textWidth firstOf restOf onward _>>=_ give byte word only zeroWord several listed ended width column line cell row table sheet onto pieces glue room tight full act last place weight split wrapLine wrapLines exceeds fitting cutLine cut bordersOf cellsOf cellLongest longest numbers visible borders percentOf widthOf valueOf lowerWidth upperWidth absoluteWidth lower upper absolute covering evaluate noted first untargeted zeros taken start fix fixAt visit pass passes aboveAverage withinAverage fittingAverage trialParts cellParts longestPart shorterBy3 splitAtAverage step1 step2 step3 share shared widened step4 contents area visibleWidths wrapped cellLines height areaAt areas joinedMore joined lineOf ruled textLine shown headed ruledMore ruledRows rowText framed pageLines closed page lineAt lineCount byteCount countOf count put printOf printPage printLineOf printLine
+unfolding rules
 slips = record {
   charge-of-0 = refl;
   padding-not-counted = refl;
@@ -144,7 +143,7 @@ slips = record {
 }
 
 pub house-words : House
-unfolding greatest sum upFrom keep flat textWidth firstOf restOf onward _>>=_ give byte word only zeroWord several listed ended width column line cell row table sheet onto pieces glue room tight full act last place weight split wrapLine wrapLines exceeds fitting cutLine cut bordersOf cellsOf cellLongest longest numbers visible borders percentOf widthOf valueOf lowerWidth upperWidth absoluteWidth lower upper absolute covering evaluate noted first untargeted zeros taken start fix fixAt visit pass passes aboveAverage withinAverage fittingAverage trialParts cellParts longestPart shorterBy3 splitAtAverage step1 step2 step3 share shared widened step4 contents area visibleWidths wrapped cellLines height areaAt areas joinedMore joined lineOf ruled textLine shown headed ruledMore ruledRows rowText framed pageLines closed page lineAt lineCount byteCount countOf count put printOf printPage printLineOf printLine
+unfolding rules
 house-words = record {
   reads = refl;
   widths = refl;

@@ -1,7 +1,10 @@
 pub mod Text
 pub mod Sheet
 pub mod Field
+pub mod Description
 pub mod Format
+pub mod Places
+pub mod Steps
 pub mod Limits
 pub mod Style
 pub mod Wrap
@@ -11,4 +14,5 @@ pub mod Calls
 pub mod Words
 pub mod Demand3
 pub mod Quote
+pub mod Opened
 pub mod Examples

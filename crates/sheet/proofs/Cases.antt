@@ -5,8 +5,8 @@ use mathlib.Core.Bool.{cond}
 use lib.Dec.{eqb}
 use borrow.Author.Tests.{eq-eqb, ne-eqb}
 use Rattle.sheet.specs.Steps.{answerOf}
-use Rattle.sheet.specs.declared.field.Step.{Step}
-use Rattle.sheet.specs.declared.field.Step.the-variants.{At, Refused}
+use Rattle.rules.specs.declared.Step.{Step}
+use Rattle.rules.specs.declared.Step.the-variants.{At, Refused}
 
 pub most-fixed : (u : ℕ) → u ≡ 0 → _≡_ {A = ℕ} 400 (cond (eqb u 0) 400 65535)
 most-fixed u e = rw (eq-eqb u 0 e)

@@ -1,11 +1,11 @@
 -- An array that is filled from its start: the first i of a list, and past them what was there. Assumes nothing.
-use Prim.Native.Nat.{ℕ, zero, suc, _+_, _-_, _≤_, _<_}
+use Prim.Native.Nat.{ℕ, zero, suc, _+_, _-_, _<_}
 use mathlib.Core.Path.{_≡_, refl, ap, _∙_}
 use mathlib.Core.List.{List, [], _∷_, _++_}
 use native.Mathlib.Numerals.{add-one}
 use native.Mathlib.Nat.{not-suc-le-zero, le-of-suc-le-suc}
 use native.Mathlib.Omega.{arith}
-use lib.ListN.{length, getD, take, drop, set, replicate, length-append, length-take, length-drop}
+use lib.ListN.{length, getD, take, drop, set, replicate}
 use lib.Seq.{take-all}
 
 pub record Copied {A : Type 0} (l z : List A) (i : ℕ) (a : List A) : Type 0 where
@@ -22,9 +22,6 @@ one-more d (x ∷ l) (y ∷ z) (suc i) h k = ap (λ m. x ∷ m) (one-more d l z 
 
 pub copied-again : {A : Type 0} (d : A) (l z : List A) (i : ℕ) (a : List A) (v : A) → i < length l → i < length z → v ≡ getD l i d → Copied l z i a → Copied l z (i + 1) (set a i v)
 copied-again d l z i a v h k e c = record { so = rw (e, c .so, add-one i) (one-more d l z i h k) }
-
-pub copied-length : {A : Type 0} (l z : List A) (i : ℕ) (a : List A) → i ≤ length l → i ≤ length z → Copied l z i a → length a ≡ length z
-copied-length l z i a h k c = ap length (c .so) ∙ simp (length-append, length-take, length-drop) (omega arith)
 
 pub copied-done : {A : Type 0} (l z : List A) (i : ℕ) (a : List A) → i ≡ length l → Copied l z i a → a ≡ l ++ drop (length l) z
 copied-done l z i a e c = c .so ∙ rw (e, take-all (length l) l (omega arith))

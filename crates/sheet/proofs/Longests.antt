@@ -18,8 +18,8 @@ use Rattle.rules.specs.Limits.{RowLimits}
 use Rattle.rules.proofs.Accepted.{accepted-limits}
 use Rattle.rules.proofs.Text.{width-length}
 use Rattle.rules.proofs.Lists.{length-upFrom}
-use Rattle.rules.proofs.Places.{byteAt, parts, textAt, lineStop, cellHere, cellStop, rowHere, rowStop, rowsPlace}
-use Rattle.rules.proofs.Stands.{parts-count, text-length}
+use Rattle.rules.specs.Places.{byteAt, parts, textAt, lineStop, rowHere, rowStop, rowsPlace}
+use Rattle.rules.proofs.Stands.{text-length}
 use Rattle.sheet.specs.Held.{Passes, tableOf}
 use Rattle.sheet.specs.Walk.{rowsIn, cellsIn, linesIn, rowsEnd, cellsEnd, linesEnd, firstRow, firstCell, RowIs, CellIs, RowsNext, LinesNext}
 use Rattle.sheet.specs.Longest.{longestIn, longestAt, Narrow, CellWalked, RowWalked, RowsWalked}
@@ -31,7 +31,7 @@ use Rattle.sheet.specs.declared.records.Cell.{Cell}
 use Rattle.sheet.specs.declared.longest.LongestLine.{LongestLine}
 use Rattle.sheet.specs.declared.longest.LongestLines.{LongestLines}
 use Rattle.sheet.proofs.Held.{held, room}
-use Rattle.sheet.proofs.Walks.{line-whole, lines-none, cells-none, rows-none, cells-next, rows-next, row-whole}
+use Rattle.sheet.proofs.Walks.{line-whole, cells-number, rows-cons, lines-none, cells-none, rows-none, cells-next, rows-next, row-whole}
 
 -- the first part and the others make the whole
 cons-parts : {A : Type 0} (n : ℕ) (here : ℕ → A) (stop : ℕ → ℕ) (p : ℕ) → 0 < n → parts n here stop p ≡ here p ∷ drop 1 (parts n here stop p)
@@ -100,10 +100,6 @@ at-there j xs h = rw (lt-ltb j (length xs) h, longestAt)
 at-missing : (j : ℕ) (xs : List sheet.Cell) → length xs ≤ j → longestAt j xs ≡ 0
 unfolding longestAt
 at-missing j xs h = rw (le-ltb j (length xs) h, longestAt)
-
-cells-number : (s : List ℕ) (c : Cells) → length (cellsIn s c) ≡ c .left
-unfolding cellsIn
-cells-number s c = parts-count (c .left) (cellHere s) (cellStop s) (c .at)
 
 pub cells-again : (s : List ℕ) (all c : Cells) (x : Cell) (found : LongestLine) (before longest : List ℕ) (j v : ℕ) → 0 < c .left → CellIs s c x → CellWalked s (x .lines) found
     → v ≡ max (getD longest j 0) (found .longest) → CellsSoFar s all c before longest j
@@ -185,15 +181,6 @@ pub record RowsSoFar (s : List ℕ) (all c : Rows) (before longest : List ℕ) :
 
 pub rows-begin : (s : List ℕ) (all : Rows) (before : List ℕ) → Narrow (rowsIn s all) → rowsEnd s all ≤ length s → RowsSoFar s all all before before
 rows-begin s all before n h = record { narrow = n; each = λ j l. refl; ends = refl; inside = h }
-
-first-and-others : {A : Type 0} (d : A) (n : ℕ) (here : ℕ → A) (stop : ℕ → ℕ) (p : ℕ) → 0 < n → parts n here stop p ≡ getD (parts n here stop p) 0 d ∷ drop 1 (parts n here stop p)
-unfolding parts
-first-and-others d zero here stop p h = absurd (omega arith)
-first-and-others d (suc n) here stop p h = refl
-
-rows-cons : (s : List ℕ) (c : Rows) → 0 < c .left → rowsIn s c ≡ firstRow s c ∷ drop 1 (rowsIn s c)
-unfolding rowsIn
-rows-cons s c some = first-and-others noRow (c .left) (rowHere s) (rowStop s) (c .at) some
 
 all-cons : (rs : List sheet.Row) (r : sheet.Row) (us : List sheet.Row) → rs ≡ r ∷ us → Narrow rs → (length (r .cells) ≤ mostColumns) × Narrow us
 all-cons rs r us e n = rw e at n

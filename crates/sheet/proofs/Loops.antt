@@ -1,16 +1,20 @@
 -- A loop that reads n items: what is left to read from here is what there was to read from its start. Assumes nothing.
 use Prim.Native.Nat.{ℕ, zero, suc, _+_, _-_, _<_, _≤_}
-use mathlib.Core.Bool.{Bool, true, false, _&&_, cond}
+use mathlib.Core.Bool.{Bool, true, false, _&&_, cond, and-eq-true-iff}
 use mathlib.Core.Path.{_≡_, refl, sym, _∙_}
 use mathlib.Core.List.{List}
 use native.Mathlib.Omega.{arith}
 use lib.ListN.{length, getD}
 use lib.Dec.{leb}
-use borrow.Author.Tests.{leb-true, le-leb, lt-leb}
-use Rattle.rules.specs.Field.{Reader, printable, character}
-use Rattle.sheet.specs.Steps.{after, times, printables}
-use Rattle.sheet.specs.declared.field.Step.{Step}
-use Rattle.sheet.specs.declared.field.Step.the-variants.{At, Refused}
+use borrow.Author.Tests.{le-leb, lt-leb}
+use Rattle.rules.specs.Field.{printable}
+use Rattle.rules.specs.Description as description
+use Rattle.rules.specs.Steps.{readFrom, times}
+use Rattle.rules.specs.declared.Step.{Step}
+use Rattle.rules.specs.declared.Step.the-variants.{At, Refused}
+use Rattle.rules.proofs.Accepted.{between-both}
+use Rattle.rules.proofs.Reading.{times-off, readFrom-off}
+use Rattle.sheet.specs.Steps.{printables}
 use Rattle.sheet.proofs.Fields.{between-ended, between-low, between-high, between-good}
 
 next : (f : Step → Step) (m : ℕ) (x : Step) → times (suc m) f x ≡ times m f (f x)
@@ -33,17 +37,10 @@ pub items-done : (f : Step → Step) (n i : ℕ) (x w : Step) → n ≤ i → It
 unfolding times
 items-done f n i x w h e = let z : n - i ≡ 0 = omega arith in rw z at (e .rest)
 
+abbrev pub characterFrom : List ℕ → Step → Step
+characterFrom s = readFrom (description.character printable) s
+
 -- a refusal stays, however many items were to come
-pub times-off : (k : ℕ) (f : Step → Step) → ((n p : ℕ) → f (Refused n p) ≡ Refused n p) → (n p : ℕ) → times k f (Refused n p) ≡ Refused n p
-unfolding times
-times-off zero f h n p = refl
-times-off (suc k) f h n p = rw (h n p) (times-off k f h n p)
-
--- a reader hands a refusal on
-pub after-off : {A : Type 0} (f : Reader A) (s : List ℕ) (n p : ℕ) → after f s (Refused n p) ≡ Refused n p
-unfolding after
-after-off f s n p = refl
-
 stopped : (f : Step → Step) → ((n p : ℕ) → f (Refused n p) ≡ Refused n p) → (n i : ℕ) (x w : Step) (m q : ℕ) → i < n → Items f n i x w → Refused m q ≡ f x → Refused m q ≡ w
 stopped f h n i x w m q l e g =
     let z : n - i ≡ suc (n - (i + 1)) = omega arith in
@@ -51,33 +48,29 @@ stopped f h n i x w m q l e g =
 
 -- characters from i up to e
 pub record Characters (s : List ℕ) (e i : ℕ) (w : Step) : Type 0 where
-  pub items : Items (after character s) e i (At i) w
+  pub items : Items (characterFrom s) e i (At i) w
 
-pub characters-begin : (s : List ℕ) (start n : ℕ) → Characters s (start + n) start (times n (after character s) (At start))
+pub characters-begin : (s : List ℕ) (start n : ℕ) → Characters s (start + n) start (times n (characterFrom s) (At start))
 characters-begin s start n = let z : start + n - start ≡ n = omega arith in record { items = record { rest = rw z } }
 
 -- one that isn't printable, one that is, the sheet's end before the last, and none left
 module _ (s : List ℕ) (e i : ℕ) (w : Step) (c : Characters s e i w) where
   pub character-low : i < e → i < length s → getD s i 0 < 32 → Refused 6 i ≡ w
-  character-low l h k = stopped (after character s) (after-off character s) e i (At i) w 6 i l (c .items) (between-low 32 126 6 s (At i) i refl h k)
+  character-low l h k = stopped (characterFrom s) (readFrom-off (description.character printable) s) e i (At i) w 6 i l (c .items) (between-low 32 126 6 s (At i) i refl h k)
 
   pub character-high : i < e → i < length s → 32 ≤ getD s i 0 → 126 < getD s i 0 → Refused 6 i ≡ w
-  character-high l h k m = stopped (after character s) (after-off character s) e i (At i) w 6 i l (c .items) (between-high 32 126 6 s (At i) i refl h k m)
+  character-high l h k m = stopped (characterFrom s) (readFrom-off (description.character printable) s) e i (At i) w 6 i l (c .items) (between-high 32 126 6 s (At i) i refl h k m)
 
   pub character-next : i < e → i < length s → 32 ≤ getD s i 0 → getD s i 0 ≤ 126 → Characters s e (i + 1) w
-  character-next l h k m = record { items = items-again (after character s) e i (At i) (At (i + 1)) w l (c .items) (between-good 32 126 6 s (At i) i refl h k m) }
+  character-next l h k m = record { items = items-again (characterFrom s) e i (At i) (At (i + 1)) w l (c .items) (between-good 32 126 6 s (At i) i refl h k m) }
 
   pub character-cut : i < e → length s ≤ i → Refused 1 (length s) ≡ w
-  character-cut l h = stopped (after character s) (after-off character s) e i (At i) w 1 (length s) l (c .items) (between-ended 32 126 6 s (At i) i refl h)
+  character-cut l h = stopped (characterFrom s) (readFrom-off (description.character printable) s) e i (At i) w 1 (length s) l (c .items) (between-ended 32 126 6 s (At i) i refl h)
 
   pub characters-done : e ≤ i → At i ≡ w
-  characters-done l = items-done (after character s) e i (At i) w l (c .items)
+  characters-done l = items-done (characterFrom s) e i (At i) w l (c .items)
 
 -- ---- printable characters passed at once
-
-both-true : (a b : Bool) → (a && b) ≡ true → (a ≡ true) × (b ≡ true)
-both-true true b e = (refl, e)
-both-true false b e = let z : _≡_ {A = ℕ} 0 1 = cc in absurd (omega arith)
 
 -- a byte's tests, exit by exit
 pub low-not : (v : ℕ) → v < 32 → false ≡ printable v
@@ -109,11 +102,11 @@ characters-on : (s : List ℕ) (start e m : ℕ) (w : Step) → start + m ≤ e 
 unfolding printables
 characters-on s start e zero w h k p c = let z : start + 0 ≡ start = omega arith in rw z c
 characters-on s start e (suc m) w h k p c =
-    let b = both-true (printables s start m) (printable (getD s (start + m) 0)) p in
-    let r = both-true (leb 32 (getD s (start + m) 0)) (leb (getD s (start + m) 0) 126) (b .1) in
+    let b = and-eq-true-iff (printables s start m) (printable (getD s (start + m) 0)) .0 p in
+    let r = between-both 32 126 (getD s (start + m) 0) (b .1) in
     let d = characters-on s start e m w (omega arith) (omega arith) (b .0) c in
     let z : start + suc m ≡ start + m + 1 = omega arith in
-    rw z (character-next s e (start + m) w d (omega arith) (omega arith) (leb-true 32 (getD s (start + m) 0) (r .0)) (leb-true (getD s (start + m) 0) 126 (r .1)))
+    rw z (character-next s e (start + m) w d (omega arith) (omega arith) (r .0) (r .1))
 
 pub past-all : (b p : Bool) (x y : ℕ) → b ≡ p → b ≡ true → x ≡ cond p x y
 past-all b p x y e f = rw (← e, f)
@@ -123,10 +116,10 @@ past-none b p x y e f = rw (← e, f)
 
 -- where the search for a bad one begins
 pub characters-past : (s : List ℕ) (start n end r : ℕ) → start ≤ end → end ≤ start + n → end ≤ length s → r ≡ cond (printables s start (end - start)) end start
-    → (start ≤ r) × ((r ≤ end) × Characters s (start + n) r (times n (after character s) (At start)))
+    → (start ≤ r) × ((r ≤ end) × Characters s (start + n) r (times n (characterFrom s) (At start)))
 characters-past s start n end r h k l e = go (printables s start (end - start)) refl
   where
-    go : (b : Bool) → printables s start (end - start) ≡ b → (start ≤ r) × ((r ≤ end) × Characters s (start + n) r (times n (after character s) (At start)))
+    go : (b : Bool) → printables s start (end - start) ≡ b → (start ≤ r) × ((r ≤ end) × Characters s (start + n) r (times n (characterFrom s) (At start)))
     go true f =
         let z : r ≡ start + (end - start) = e ∙ rw f (omega arith) in
         (omega arith, (omega arith, rw z (characters-on s start (start + n) (end - start) _ (omega arith) (omega arith) f (characters-begin s start n))))

@@ -1,15 +1,16 @@
 -- Walking from one part to the next: positions, and what is still to come. Assumes nothing.
-use Prim.Native.Nat.{ℕ, zero, suc, _+_, _-_, _*_, _≤_, _<_}
-use mathlib.Core.Path.{_≡_, refl}
-use mathlib.Core.List.{List, []}
+use Prim.Native.Nat.{ℕ, zero, suc, _+_, _-_, _≤_, _<_}
+use mathlib.Core.Path.{_≡_, refl, sym, _∙_}
+use mathlib.Core.List.{List, [], _∷_}
 use native.Mathlib.Omega.{arith}
 use lib.ListN.{length, getD, take, drop}
+use lib.Seq.{drop-cons}
 use Rattle.rules.specs.Sheet.{noRow, noCell}
-use Rattle.rules.proofs.Places.{past, parts, byteAt, textAt, lineStop, cellHere, cellStop, rowHere, rowStop, headerPlace, rowsPlace, endPlace, tableHere}
+use Rattle.rules.specs.Places.{past, parts, byteAt, textAt, lineStop, cellHere, cellStop, rowHere, rowStop, headerPlace, rowsPlace}
 use Rattle.rules.proofs.Stands as stands
-use Rattle.rules.proofs.Stands.{Onward, past-onward, cell-onward, row-onward, lines-onward, cells-onward, rows-onward}
+use Rattle.rules.proofs.Stands.{Onward, past-onward, cell-here, cell-stop, row-here, row-stop, cell-onward, row-onward, lines-onward, cells-onward, rows-onward}
 use Rattle.sheet.specs.Held.{Passes, tableOf}
-use Rattle.sheet.specs.Walk.{rowsIn, cellsIn, linesIn, rowsEnd, cellsEnd, linesEnd, firstLine, RowIs, CellIs, RowsNext, CellsNext, LinesNext}
+use Rattle.sheet.specs.Walk.{rowsIn, cellsIn, linesIn, rowsEnd, cellsEnd, linesEnd, firstRow, firstLine, RowIs, CellIs, RowsNext, CellsNext, LinesNext}
 use Rattle.sheet.specs.declared.records.Rows.{Rows}
 use Rattle.sheet.specs.declared.records.Cells.{Cells}
 use Rattle.sheet.specs.declared.records.Lines.{Lines}
@@ -41,12 +42,10 @@ passing-inside stop n i p w o h e =
 
 -- a cell's lines from its count on, a row's cells from theirs
 pub cell-begin : (s : List ℕ) (p n : ℕ) → n ≡ byteAt s (p + 2) → Passing (lineStop s) n 0 (p + 3) (cellStop s p)
-unfolding cellStop
-cell-begin s p n e = let z : n - 0 ≡ byteAt s (p + 2) = omega arith in record { rest = rw z }
+cell-begin s p n e = let z : n - 0 ≡ byteAt s (p + 2) = omega arith in record { rest = rw z (sym (cell-stop s p)) }
 
 pub row-begin : (s : List ℕ) (p n : ℕ) → n ≡ byteAt s (p + 1) → Passing (cellStop s) n 0 (p + 2) (rowStop s p)
-unfolding rowStop
-row-begin s p n e = let z : n - 0 ≡ byteAt s (p + 1) = omega arith in record { rest = rw z }
+row-begin s p n e = let z : n - 0 ≡ byteAt s (p + 1) = omega arith in record { rest = rw z (sym (row-stop s p)) }
 
 -- the first of n parts, and the others
 first-part : {A : Type 0} (d : A) (n : ℕ) (here : ℕ → A) (stop : ℕ → ℕ) (p : ℕ) → 0 < n → getD (parts n here stop p) 0 d ≡ here p
@@ -67,6 +66,23 @@ other-past (suc n) stop p h = let z : suc n - 1 ≡ n = omega arith in rw z
 first-inside : (n : ℕ) (stop : ℕ → ℕ) (p : ℕ) → Onward stop → 0 < n → stop p ≤ past n stop p
 first-inside n stop p o h = let a = past-onward (n - 1) stop (stop p) o in omega (arith, other-past n stop p h)
 
+-- as many as are left
+pub rows-number : (s : List ℕ) (c : Rows) → length (rowsIn s c) ≡ c .left
+unfolding rowsIn
+rows-number s c = stands.parts-count (c .left) (rowHere s) (rowStop s) (c .at)
+
+pub cells-number : (s : List ℕ) (c : Cells) → length (cellsIn s c) ≡ c .left
+unfolding cellsIn
+cells-number s c = stands.parts-count (c .left) (cellHere s) (cellStop s) (c .at)
+
+pub lines-number : (s : List ℕ) (c : Lines) → length (linesIn s c) ≡ c .left
+unfolding linesIn
+lines-number s c = stands.parts-count (c .left) (textAt s) (lineStop s) (c .at)
+
+-- the first row and those after it make the whole
+pub rows-cons : (s : List ℕ) (c : Rows) → 0 < c .left → rowsIn s c ≡ firstRow s c ∷ drop 1 (rowsIn s c)
+rows-cons s c some = drop-cons (rowsIn s c) 0 noRow (omega (arith, rows-number s c))
+
 -- the first row, and those after it
 module _ (s : List ℕ) (c : Rows) (some : 0 < c .left) where
   pub row-inside : rowStop s (c .at) ≤ rowsEnd s c
@@ -80,10 +96,10 @@ module _ (s : List ℕ) (c : Rows) (some : 0 < c .left) where
   row-room h = let a = row-onward s (c .at) in let b = row-inside in omega arith
 
   pub row-is : (limit left : ℕ) → limit ≡ byteAt s (c .at) → left ≡ byteAt s (c .at + 1) → RowIs s c (record { limit = limit; cells = record { at = c .at + 2; left = left } })
-  unfolding rowsIn cellsIn cellsEnd rowHere rowStop
+  unfolding rowsIn cellsIn cellsEnd
   row-is limit left e i =
-      let f = first-part noRow (c .left) (rowHere s) (rowStop s) (c .at) some in
-      record { limit = rw f e; cells = rw (f, i); ends = rw i }
+      let f = first-part noRow (c .left) (rowHere s) (rowStop s) (c .at) some ∙ row-here s (c .at) in
+      record { limit = rw f e; cells = rw (f, i); ends = rw i (sym (row-stop s (c .at))) }
 
   pub rows-next : (p : ℕ) → p ≡ rowStop s (c .at) → RowsNext s c (record { at = p; left = c .left - 1 })
   unfolding rowsIn rowsEnd
@@ -107,10 +123,10 @@ module _ (s : List ℕ) (c : Cells) (some : 0 < c .left) where
 
   pub cell-is : (delimiter alignment left : ℕ) → delimiter ≡ byteAt s (c .at) → alignment ≡ byteAt s (c .at + 1) → left ≡ byteAt s (c .at + 2)
       → CellIs s c (record { delimiter = delimiter; alignment = alignment; lines = record { at = c .at + 3; left = left } })
-  unfolding cellsIn linesIn linesEnd cellHere cellStop
+  unfolding cellsIn linesIn linesEnd
   cell-is delimiter alignment left e i j =
-      let f = first-part noCell (c .left) (cellHere s) (cellStop s) (c .at) some in
-      record { delimiter = rw f e; alignment = rw f i; lines = rw (f, j); ends = rw j }
+      let f = first-part noCell (c .left) (cellHere s) (cellStop s) (c .at) some ∙ cell-here s (c .at) in
+      record { delimiter = rw f e; alignment = rw f i; lines = rw (f, j); ends = rw j (sym (cell-stop s (c .at))) }
 
   pub cells-next : (p : ℕ) → p ≡ cellStop s (c .at) → CellsNext s c (record { at = p; left = c .left - 1 })
   unfolding cellsIn cellsEnd
@@ -161,15 +177,15 @@ lines-inside s c x some h is = rw (is .ends) (cell-whole s c some h)
 -- where the walk over the header begins, and that over the rows
 pub header-is : (s : List ℕ) (p n : ℕ) → Passes s → p ≡ headerPlace s → n ≡ byteAt s p
     → (rowsIn s (record { at = p + 1; left = n }) ≡ tableOf s .header) × (rowsEnd s (record { at = p + 1; left = n }) ≡ rowsPlace s)
-unfolding rowsIn rowsEnd rowsPlace tableHere
-header-is s p n h e i = (rw (table-here s h, i, e), rw (i, e))
+unfolding rowsIn rowsEnd
+header-is s p n h e i = (rw (table-here s h, i, e) (sym (stands.header-here s)), rw (i, e) (sym (stands.rows-begin s)))
 
 pub rows-are : (s : List ℕ) (p n : ℕ) → Passes s → p ≡ rowsPlace s → n ≡ byteAt s p
     → (rowsIn s (record { at = p + 1; left = n }) ≡ tableOf s .rows) × (rowsEnd s (record { at = p + 1; left = n }) ≡ length s)
-unfolding rowsIn rowsEnd tableHere endPlace
+unfolding rowsIn rowsEnd
 rows-are s p n h e i =
     let r = held s h in
-    (rw (table-here s h, i, e), rw (i, e) (stands.end-place s (tableOf s) (r .end) (r .reads)))
+    (rw (table-here s h, i, e) (sym (stands.rows-here s)), rw (i, e) (sym (stands.rows-end s) ∙ stands.end-place s (tableOf s) (r .end) (r .reads)))
 
 pub lines-none : (s : List ℕ) (c : Lines) → c .left ≤ 0 → linesEnd s c ≡ c .at
 unfolding linesEnd past
@@ -182,13 +198,6 @@ cells-none s c h = let z : c .left ≡ 0 = omega arith in rw z
 pub rows-none : (s : List ℕ) (c : Rows) → c .left ≤ 0 → rowsEnd s c ≡ c .at
 unfolding rowsEnd past
 rows-none s c h = let z : c .left ≡ 0 = omega arith in rw z
-
--- the header's count stands behind the columns
-pub header-at : (s : List ℕ) (n m : ℕ) → Passes s → n ≡ byteAt s 5 → m ≡ byteAt s (29 + n) → 29 + n + 1 + 11 * m ≡ headerPlace s
-header-at s n m h e i =
-    let r = room s h in
-    let j = rw e at i in
-    omega (arith, r .header)
 
 -- behind the header there is a count
 pub rows-room : (s : List ℕ) (c : Rows) → Passes s → rowsEnd s c ≡ rowsPlace s → c .left ≤ 0 → c .at < length s

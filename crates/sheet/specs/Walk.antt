@@ -5,7 +5,7 @@ use mathlib.Core.List.{List, []}
 use lib.ListN.{getD, drop}
 use Rattle.rules.specs.Sheet as sheet
 use Rattle.rules.specs.Sheet.{noRow, noCell}
-use Rattle.rules.proofs.Places.{past, parts, textAt, lineStop, cellHere, cellStop, rowHere, rowStop}
+use Rattle.rules.specs.Places.{past, parts, textAt, lineStop, cellHere, cellStop, rowHere, rowStop}
 use Rattle.sheet.specs.declared.records.Rows.{Rows}
 use Rattle.sheet.specs.declared.records.Cells.{Cells}
 use Rattle.sheet.specs.declared.records.Lines.{Lines}

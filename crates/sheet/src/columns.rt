@@ -3,12 +3,13 @@ ghost use mathlib.Core.Path.{_≡_};
 ghost use mathlib.Core.Bool.{cond};
 ghost use lib.Dec.{eqb};
 ghost use Rattle.rules.specs.Sheet.{mostColumns};
-ghost use Rattle.rules.specs.Field.{counted};
+ghost use Rattle.rules.specs.Description.{counted};
 ghost use Rattle.rules.specs.Format as format;
-ghost use Rattle.sheet.specs.Steps.{after, byteOf, constraintAfter};
+ghost use Rattle.rules.specs.Steps.{byteOf, after};
+ghost use Rattle.sheet.specs.Steps.{constraintAfter};
 use super::field;
 use super::field::Field;
-use super::field::Step;
+use rules::Step;
 
 // Fixed is 0 to 400, percent any value.
 fn most_of(unit: u8) -> u16

@@ -1,14 +1,11 @@
 // The fields of a sheet. Each reader takes the step before it and hands a refusal on, so that a section is a straight line of calls.
 ghost use mathlib.Core.Path.{_≡_};
 ghost use Prim.Native.Nat.{_<_};
-ghost use Rattle.rules.specs.Field.{optional, wordTo, zeroWord};
-ghost use Rattle.sheet.specs.Steps.{after, byteOf, byteBetween, cellCount};
-
-// Where the next field starts; or a refusal, with its number and its place.
-pub enum Step {
-    At(usize),
-    Refused { number: u64, place: usize },
-}
+ghost use Rattle.rules.specs.Description.{optional, wordTo, zeroWord};
+ghost use Rattle.rules.specs.Format.{cellCount};
+ghost use Rattle.rules.specs.Steps.{readFrom, byteOf, after};
+ghost use Rattle.sheet.specs.Steps.{byteBetween};
+use rules::Step;
 
 // A field of one byte. It has its value even where it is turned down: a loop that goes by it only hands the refusal on.
 pub struct Field {
@@ -18,7 +15,7 @@ pub struct Field {
 
 // A byte from low to high: 1 where the sheet has ended, else `number` where the byte is beyond them.
 pub fn byte_between(sheet: &[u8], from: Step, low: u8, high: u8, number: u64) -> Field
-    ensures { λ r. ⌜ r .next ≡ after (byteBetween low high number) (now (sheet .entry)) from ⌝ }
+    ensures { λ r. ⌜ r .next ≡ readFrom (byteBetween low high number) (now (sheet .entry)) from ⌝ }
     ensures { λ r. ⌜ r .value ≡ byteOf (now (sheet .entry)) from ⌝ }
 {
     let Step::At(at) = from else {
@@ -57,7 +54,7 @@ pub fn byte_between(sheet: &[u8], from: Step, low: u8, high: u8, number: u64) ->
 
 // The same where only the next step matters.
 pub fn within(sheet: &[u8], from: Step, low: u8, high: u8, number: u64) -> Step
-    ensures { λ r. ⌜ r ≡ after (byteBetween low high number) (now (sheet .entry)) from ⌝ }
+    ensures { λ r. ⌜ r ≡ readFrom (byteBetween low high number) (now (sheet .entry)) from ⌝ }
 {
     let read = byte_between(sheet, from, low, high, number);
     read.next

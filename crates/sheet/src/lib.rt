@@ -2,6 +2,7 @@
 mod columns;
 mod field;
 pub mod longest;
+mod places;
 pub mod records;
 mod rows;
 pub mod settings;
@@ -10,15 +11,16 @@ pub mod walk;
 
 ghost use mathlib.Core.Path.{_≡_};
 ghost use Rattle.rules.specs.Field as fields;
-ghost use Rattle.rules.specs.Field.{counted, optional};
+ghost use Rattle.rules.specs.Description as description;
 ghost use Rattle.rules.specs.Calls as calls;
-ghost use Rattle.sheet.specs.Steps.{after, answerOf, headAfter, bodyAfter};
-use field::Step;
+ghost use Rattle.rules.specs.Steps.{readFrom, after};
+ghost use Rattle.sheet.specs.Steps.{answerOf, headAfter, bodyAfter};
 use rules::Checked;
+use rules::Step;
 
 // The style's 22 characters.
 fn style(sheet: &[u8], from: Step) -> Step
-    ensures { λ r. ⌜ r ≡ after (counted 22 22 optional) (now (sheet .entry)) from ⌝ }
+    ensures { λ r. ⌜ r ≡ after (description.text 22 22 fields.printableOrZero) (now (sheet .entry)) from ⌝ }
 {
     let count = field::byte_between(sheet, from, 22, 22, 5);
     let n = count.value;
@@ -56,7 +58,7 @@ fn body(sheet: &[u8], from: Step) -> Step
 
 // Nothing stands after the last row.
 fn ended(sheet: &[u8], from: Step) -> Step
-    ensures { λ r. ⌜ r ≡ after fields.ended (now (sheet .entry)) from ⌝ }
+    ensures { λ r. ⌜ r ≡ readFrom fields.ended (now (sheet .entry)) from ⌝ }
 {
     let Step::At(at) = from else {
         return from;

@@ -1,11 +1,12 @@
 // The rows of a sheet: rows of cells, cells of lines.
 ghost use mathlib.Core.Path.{_≡_};
-ghost use Rattle.rules.specs.Field.{counted};
+ghost use Rattle.rules.specs.Description.{counted};
 ghost use Rattle.rules.specs.Format as format;
-ghost use Rattle.sheet.specs.Steps.{after, cellsAfter};
+ghost use Rattle.rules.specs.Steps.{after};
+ghost use Rattle.sheet.specs.Steps.{cellsAfter};
 use super::field;
-use super::field::Step;
 use super::text;
+use rules::Step;
 
 // A cell's lines.
 fn lines(sheet: &[u8], from: Step) -> Step

@@ -2,9 +2,10 @@
 ghost use mathlib.Core.Path.{_≡_};
 ghost use Prim.Native.Nat.{_+_, _<_, _≤_};
 ghost use lib.ListN.{length};
-ghost use Rattle.rules.proofs.Places as places;
+ghost use Rattle.rules.specs.Places.{wordAt, widthHere, columnHere};
 ghost use Rattle.sheet.specs.Held.{Passes, tableOf, settingsOf, indicatorOf, columnsOf};
 use super::field;
+use super::places;
 use super::records::Columns;
 use super::records::Indicator;
 use super::records::Settings;
@@ -14,7 +15,7 @@ use rules::Width;
 // Two bytes, low byte first.
 fn word_at(sheet: &[u8], at: usize) -> u16
     requires { ⌜ at + 1 < length (now sheet) ⌝ }
-    ensures { λ r. ⌜ r ≡ places.wordAt (now (sheet .entry)) at ⌝ }
+    ensures { λ r. ⌜ r ≡ wordAt (now (sheet .entry)) at ⌝ }
 {
     let low = field::wide(sheet[at]);
     let high = field::wide(sheet[at + 1]);
@@ -54,7 +55,7 @@ pub fn style(sheet: &[u8]) -> [u8; 22]
     requires { ⌜ Passes (now sheet) ⌝ }
     ensures { λ r. ⌜ r ≡ tableOf (now (sheet .entry)) .style ⌝ }
 {
-    let first = 7 + field::size(sheet[5]);
+    let first = places::style_place(sheet) + 1;
     let mut characters = [0u8; 22];
     let mut i: usize = 0;
     while i < 22 {
@@ -67,7 +68,7 @@ pub fn style(sheet: &[u8]) -> [u8; 22]
 
 fn width_at(sheet: &[u8], at: usize) -> Width
     requires { ⌜ at + 2 < length (now sheet) ⌝ }
-    ensures { λ r. ⌜ r ≡ places.widthHere (now (sheet .entry)) at ⌝ }
+    ensures { λ r. ⌜ r ≡ widthHere (now (sheet .entry)) at ⌝ }
 {
     Width {
         unit: sheet[at],
@@ -77,7 +78,7 @@ fn width_at(sheet: &[u8], at: usize) -> Width
 
 fn column_at(sheet: &[u8], at: usize) -> Column
     requires { ⌜ at + 10 < length (now sheet) ⌝ }
-    ensures { λ r. ⌜ r ≡ places.columnHere (now (sheet .entry)) at ⌝ }
+    ensures { λ r. ⌜ r ≡ columnHere (now (sheet .entry)) at ⌝ }
 {
     let first = width_at(sheet, at + 5);
     let second = width_at(sheet, at + 8);
@@ -108,7 +109,7 @@ pub fn columns(sheet: &[u8]) -> Columns
     requires { ⌜ Passes (now sheet) ⌝ }
     ensures { λ r. ⌜ r ≡ columnsOf (tableOf (now (sheet .entry))) ⌝ }
 {
-    let place = 29 + field::size(sheet[5]);
+    let place = places::columns_place(sheet);
     let count = field::size(sheet[place]);
     let mut each = [NONE; 12];
     let mut at = place + 1;

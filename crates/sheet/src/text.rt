@@ -3,10 +3,12 @@ ghost use mathlib.Core.Path.{_≡_};
 ghost use mathlib.Core.Bool.{_&&_, cond};
 ghost use Prim.Native.Nat.{_+_, _-_, _≤_, min};
 ghost use lib.ListN.{length};
-ghost use Rattle.rules.specs.Field.{printable, character, counted};
-ghost use Rattle.sheet.specs.Steps.{after, times, printables};
+ghost use Rattle.rules.specs.Field.{printable};
+ghost use Rattle.rules.specs.Description as description;
+ghost use Rattle.rules.specs.Steps.{readFrom, times, after};
+ghost use Rattle.sheet.specs.Steps.{printables};
 use super::field;
-use super::field::Step;
+use rules::Step;
 
 // Where n characters end, or the sheet where it ends before.
 fn reach(len: usize, start: usize, n: u8) -> usize
@@ -63,7 +65,7 @@ fn past_printable(sheet: &[u8], start: usize, end: usize) -> usize
 // n characters from `start` on. A bad one comes before the sheet's end.
 fn characters(sheet: &[u8], start: usize, n: u8) -> Step
     requires { ⌜ start ≤ length (now sheet) ⌝ }
-    ensures { λ r. ⌜ r ≡ times n (after character (now (sheet .entry))) (Step.At start) ⌝ }
+    ensures { λ r. ⌜ r ≡ times n (readFrom (description.character printable) (now (sheet .entry))) (Step.At start) ⌝ }
 {
     let end = reach(sheet.len(), start, n);
     let mut i = past_printable(sheet, start, end);
@@ -94,7 +96,7 @@ fn characters(sheet: &[u8], start: usize, n: u8) -> Step
 
 // A length up to `most`, and as many characters.
 pub fn text(sheet: &[u8], from: Step, most: u8) -> Step
-    ensures { λ r. ⌜ r ≡ after (counted 0 most character) (now (sheet .entry)) from ⌝ }
+    ensures { λ r. ⌜ r ≡ after (description.text 0 most printable) (now (sheet .entry)) from ⌝ }
 {
     let count = field::byte_between(sheet, from, 0, most, 5);
     let first = count.next;

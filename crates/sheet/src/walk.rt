@@ -2,10 +2,11 @@
 ghost use mathlib.Core.Path.{_≡_};
 ghost use Prim.Native.Nat.{_<_, _≤_};
 ghost use lib.ListN.{length};
-ghost use Rattle.rules.proofs.Places as places;
+ghost use Rattle.rules.specs.Places.{lineStop, cellStop, rowStop, rowsPlace};
 ghost use Rattle.sheet.specs.Held.{Passes, tableOf};
 ghost use Rattle.sheet.specs.Walk.{rowsIn, rowsEnd, cellsEnd, linesEnd, firstLine, RowIs, CellIs, RowsNext, CellsNext, LinesNext};
 use super::field;
+use super::places;
 use super::records::Cell;
 use super::records::Cells;
 use super::records::Lines;
@@ -14,16 +15,16 @@ use super::records::Rows;
 
 // Where the line at `at` ends.
 fn line_end(sheet: &[u8], at: usize) -> usize
-    requires { ⌜ places.lineStop (now sheet) at ≤ length (now sheet) ⌝ }
-    ensures { λ r. ⌜ r ≡ places.lineStop (now (sheet .entry)) at ⌝ }
+    requires { ⌜ lineStop (now sheet) at ≤ length (now sheet) ⌝ }
+    ensures { λ r. ⌜ r ≡ lineStop (now (sheet .entry)) at ⌝ }
 {
     at + 1 + field::size(sheet[at])
 }
 
 // Where the cell at `at` ends: its lines are passed, and none of their characters is looked at.
 fn cell_end(sheet: &[u8], at: usize) -> usize
-    requires { ⌜ places.cellStop (now sheet) at ≤ length (now sheet) ⌝ }
-    ensures { λ r. ⌜ r ≡ places.cellStop (now (sheet .entry)) at ⌝ }
+    requires { ⌜ cellStop (now sheet) at ≤ length (now sheet) ⌝ }
+    ensures { λ r. ⌜ r ≡ cellStop (now (sheet .entry)) at ⌝ }
 {
     let n = field::size(sheet[at + 2]);
     let mut p = at + 3;
@@ -37,8 +38,8 @@ fn cell_end(sheet: &[u8], at: usize) -> usize
 
 // Where the row at `at` ends.
 fn row_end(sheet: &[u8], at: usize) -> usize
-    requires { ⌜ places.rowStop (now sheet) at ≤ length (now sheet) ⌝ }
-    ensures { λ r. ⌜ r ≡ places.rowStop (now (sheet .entry)) at ⌝ }
+    requires { ⌜ rowStop (now sheet) at ≤ length (now sheet) ⌝ }
+    ensures { λ r. ⌜ r ≡ rowStop (now (sheet .entry)) at ⌝ }
 {
     let n = field::size(sheet[at + 1]);
     let mut p = at + 2;
@@ -128,10 +129,9 @@ pub fn next_line(sheet: &[u8], c: Lines) -> Lines
 // The header: no row, or one.
 pub fn header(sheet: &[u8]) -> Rows
     requires { ⌜ Passes (now sheet) ⌝ }
-    ensures { λ r. ⌜ (rowsIn (now (sheet .entry)) r ≡ tableOf (now (sheet .entry)) .header) × (rowsEnd (now (sheet .entry)) r ≡ places.rowsPlace (now (sheet .entry))) ⌝ }
+    ensures { λ r. ⌜ (rowsIn (now (sheet .entry)) r ≡ tableOf (now (sheet .entry)) .header) × (rowsEnd (now (sheet .entry)) r ≡ rowsPlace (now (sheet .entry))) ⌝ }
 {
-    let columns = 29 + field::size(sheet[5]);
-    let place = columns + 1 + 11 * field::size(sheet[columns]);
+    let place = places::header_place(sheet);
     let left = field::size(sheet[place]);
     Rows {
         at: place + 1,
@@ -141,7 +141,7 @@ pub fn header(sheet: &[u8]) -> Rows
 
 // The rows, which stand behind what is left of the header.
 pub fn rows(sheet: &[u8], header: Rows) -> Rows
-    requires { ⌜ Passes (now sheet) × (rowsEnd (now sheet) header ≡ places.rowsPlace (now sheet)) ⌝ }
+    requires { ⌜ Passes (now sheet) × (rowsEnd (now sheet) header ≡ rowsPlace (now sheet)) ⌝ }
     ensures { λ r. ⌜ (rowsIn (now (sheet .entry)) r ≡ tableOf (now (sheet .entry)) .rows) × (rowsEnd (now (sheet .entry)) r ≡ length (now (sheet .entry))) ⌝ }
 {
     let mut c = header;

@@ -1,5 +1,5 @@
 -- `sheet::ended` meets its contract. Assumes nothing.
-use Rattle.sheet.proofs.Fields.{after-stopped}
+use Rattle.sheet.proofs.Fields.{read-stopped}
 use Rattle.sheet.proofs.Sections.{ended-more, ended-all}
 use borrow.Author.Needs.{needs}
 use Rattle.sheet.proofs.ended.Statement.{statement}
@@ -11,6 +11,6 @@ ended-spec =
     (tie.spec
     (λ c. search needs)
     (λ c. search needs)
-    (λ c. search after-stopped)
+    (λ c. search read-stopped)
     (λ c. search ended-more)
     (λ c. search ended-all))

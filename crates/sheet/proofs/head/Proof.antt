@@ -1,11 +1,13 @@
 -- `sheet::head` meets its contract. Assumes nothing.
+use Rattle.rules.specs.Description.{reads}
+use Rattle.rules.specs.Steps.{after}
 use Rattle.sheet.specs.Steps.{headAfter}
 use borrow.Author.Needs.{needs}
 use Rattle.sheet.proofs.head.Statement.{statement}
 use Rattle.sheet.proofs.head.Tie as tie
 
 pub head-spec : {M : Type 1} → statement M
-unfolding headAfter
+unfolding headAfter after reads
 head-spec =
     tie.close
     (tie.spec

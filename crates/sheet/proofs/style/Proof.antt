@@ -2,10 +2,10 @@
 use Prim.Native.Nat.{_-_}
 use mathlib.Core.Path.{_∙_}
 use borrow.Author.Needs.{needs}
-use Rattle.rules.specs.Field.{optional}
-use Rattle.sheet.specs.Steps.{after, times}
+use Rattle.rules.specs.Description.{optional}
+use Rattle.rules.specs.Steps.{after, times}
 use Rattle.sheet.proofs.Loops.{Items, items-begin, items-again, items-done}
-use Rattle.sheet.proofs.Sections.{counted-whole}
+use Rattle.sheet.proofs.Sections.{style-whole}
 use Rattle.sheet.proofs.style.Statement.{statement}
 use Rattle.sheet.proofs.style.Tie as tie
 
@@ -27,4 +27,4 @@ style-spec =
     (λ c. search needs)
     (λ c. search needs)
     (λ c. items-again _ _ _ _ _ _ (c .before .loop-test .taken) (c .before .before .loop .inv) (c .printable-or-zero .ensures))
-    (λ c. items-done _ _ _ _ _ (c .loop-test .left) (c .before .loop .inv) ∙ counted-whole _ _ _ _ _ _ _ (c .before .before .byte-between .ensures .0) (c .before .before .byte-between .ensures .1)))
+    (λ c. items-done _ _ _ _ _ (c .loop-test .left) (c .before .loop .inv) ∙ style-whole _ _ _ _ (c .before .before .byte-between .ensures .0) (c .before .before .byte-between .ensures .1)))

@@ -1,11 +1,13 @@
 -- `sheet::columns::constraint` meets its contract. Assumes nothing.
+use Rattle.rules.specs.Description.{reads}
+use Rattle.rules.specs.Steps.{after}
 use Rattle.sheet.specs.Steps.{constraintAfter}
 use borrow.Author.Needs.{needs}
 use Rattle.sheet.proofs.columns.constraint.Statement.{statement}
 use Rattle.sheet.proofs.columns.constraint.Tie as tie
 
 pub constraint-spec : {M : Type 1} → statement M
-unfolding constraintAfter
+unfolding constraintAfter after reads
 constraint-spec =
     tie.close
     (tie.spec

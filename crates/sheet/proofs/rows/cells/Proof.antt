@@ -3,7 +3,8 @@ use Prim.Native.Nat.{_-_}
 use mathlib.Core.Path.{_∙_}
 use borrow.Author.Needs.{needs}
 use Rattle.rules.specs.Format.{cell}
-use Rattle.sheet.specs.Steps.{after, times, cellsAfter}
+use Rattle.rules.specs.Steps.{after, times}
+use Rattle.sheet.specs.Steps.{cellsAfter}
 use Rattle.sheet.proofs.Loops.{Items, items-begin, items-again, items-done}
 use Rattle.sheet.proofs.rows.cells.Statement.{statement}
 use Rattle.sheet.proofs.rows.cells.Tie as tie

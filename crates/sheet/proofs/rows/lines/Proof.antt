@@ -3,7 +3,7 @@ use Prim.Native.Nat.{_-_}
 use mathlib.Core.Path.{sym, _∙_}
 use borrow.Author.Needs.{needs}
 use Rattle.rules.specs.Format.{line}
-use Rattle.sheet.specs.Steps.{after, times}
+use Rattle.rules.specs.Steps.{after, times}
 use Rattle.sheet.proofs.Loops.{Items, items-begin, items-again, items-done}
 use Rattle.sheet.proofs.Sections.{counted-whole, line-after}
 use Rattle.sheet.proofs.rows.lines.Statement.{statement}

@@ -1,11 +1,11 @@
 -- `sheet::settings::column_at` meets its contract. Assumes nothing.
-use Rattle.rules.proofs.Places.{columnHere}
+use mathlib.Core.Path.{sym}
 use borrow.Author.Needs.{needs}
+use Rattle.rules.proofs.Stands.{column-here}
 use Rattle.sheet.proofs.settings.column_at.Statement.{statement}
 use Rattle.sheet.proofs.settings.column_at.Tie as tie
 
 pub column-at-spec : {M : Type 1} → statement M
-unfolding columnHere
 column-at-spec =
     tie.close
     (tie.spec
@@ -22,4 +22,4 @@ column-at-spec =
     (λ c. search needs)
     (λ c. search needs)
     (λ c. search needs)
-    (λ c. rw (c .before .before .before .before .before .width-at2 .ensures, c .before .before .before .before .before .before .width-at .ensures)))
+    (λ c. rw (c .before .before .before .before .before .width-at2 .ensures, c .before .before .before .before .before .before .width-at .ensures) (sym (column-here _ _))))

@@ -5,7 +5,7 @@ use native.Mathlib.Omega.{arith}
 use lib.ListN.{replicate}
 use borrow.Author.Needs.{needs}
 use Rattle.rules.specs.Sheet.{noColumn}
-use Rattle.rules.proofs.Places.{byteAt}
+use Rattle.rules.specs.Places.{byteAt, columnsPlace}
 use Rattle.sheet.specs.Held.{Passes, tableOf}
 use Rattle.sheet.proofs.Held.{room, columns-inside, columns-whole, column-copied}
 use Rattle.sheet.proofs.Copies.{Copied, copied-begin, copied-again}
@@ -13,7 +13,7 @@ use Rattle.sheet.proofs.settings.columns.Statement.{statement}
 use Rattle.sheet.proofs.settings.columns.Tie as tie
 
 abbrev Inv-loop : tie.InvT-loop
-Inv-loop sheet place count each₀ at₀ i₀ each at i = Passes sheet × ((i ≤ count) × ((count ≡ byteAt sheet (29 + byteAt sheet 5)) × ((at ≡ 30 + byteAt sheet 5 + 11 * i) × Copied (tableOf sheet .columns) (replicate 12 noColumn) i each)))
+Inv-loop sheet place count each₀ at₀ i₀ each at i = Passes sheet × ((i ≤ count) × ((count ≡ byteAt sheet (columnsPlace sheet)) × ((at ≡ columnsPlace sheet + 1 + 11 * i) × Copied (tableOf sheet .columns) (replicate 12 noColumn) i each)))
 
 abbrev μ-loop : tie.MeasureT-loop
 μ-loop sheet place count each₀ at₀ i₀ each at i = count - i
@@ -24,13 +24,11 @@ columns-spec =
     (tie.spec
     Inv-loop
     μ-loop
-    (λ c. let r = room _ (c .before .before .pre) in omega arith)
     (λ c κs. search needs)
-    (λ c. search needs)
-    (λ c. let r = room _ (c .before .before .before .before .pre) in omega arith)
+    (λ c. let r = room _ (c .before .before .before .pre) in omega (arith, c .before .columns-place .ensures))
     (λ c κs. search needs)
-    (λ c. search needs)
-    (λ c. (c .before .before .before .before .before .pre, (omega arith, (cc, (omega arith, copied-begin _ _)))))
+    (λ c. let r = room _ (c .before .before .before .before .pre) in omega (arith, c .before .before .columns-place .ensures))
+    (λ c. (c .before .before .before .before .pre, (omega arith, (cc, (omega arith, copied-begin _ _)))))
     (λ c κs. let r = room _ (c .before .loop .inv .0) in omega arith)
     (λ c. let r = room _ (c .before .before .loop .inv .0) in omega arith)
     (λ c. let r = room _ (c .before .before .loop .inv .0) in omega arith)

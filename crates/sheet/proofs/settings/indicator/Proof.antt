@@ -5,7 +5,7 @@ use mathlib.Core.Path.{_≡_, sym}
 use native.Mathlib.Omega.{arith}
 use lib.ListN.{replicate}
 use borrow.Author.Needs.{needs}
-use Rattle.rules.proofs.Places.{byteAt, textAt}
+use Rattle.rules.specs.Places.{byteAt, textAt}
 use Rattle.sheet.specs.Held.{Passes}
 use Rattle.sheet.proofs.Held.{room, text-inside, character-at}
 use Rattle.sheet.proofs.Copies.{Copied, copied-begin, copied-again}

@@ -4,7 +4,7 @@ use mathlib.Core.Path.{_≡_}
 use native.Mathlib.Omega.{arith}
 use lib.ListN.{replicate}
 use borrow.Author.Needs.{needs}
-use Rattle.rules.proofs.Places.{byteAt, textAt}
+use Rattle.rules.specs.Places.{textAt, stylePlace}
 use Rattle.sheet.specs.Held.{Passes}
 use Rattle.sheet.proofs.Held.{room, style-inside, style-whole, style-character}
 use Rattle.sheet.proofs.Copies.{Copied, copied-begin, copied-again}
@@ -12,7 +12,7 @@ use Rattle.sheet.proofs.settings.style.Statement.{statement}
 use Rattle.sheet.proofs.settings.style.Tie as tie
 
 abbrev Inv-loop : tie.InvT-loop
-Inv-loop sheet first characters₀ i₀ characters i = Passes sheet × ((i ≤ 22) × ((first ≡ 7 + byteAt sheet 5) × Copied (textAt sheet (6 + byteAt sheet 5)) (replicate 22 0) i characters))
+Inv-loop sheet first characters₀ i₀ characters i = Passes sheet × ((i ≤ 22) × ((first ≡ stylePlace sheet + 1) × Copied (textAt sheet (stylePlace sheet)) (replicate 22 0) i characters))
 
 abbrev μ-loop : tie.MeasureT-loop
 μ-loop sheet first characters₀ i₀ characters i = 22 - i
@@ -23,10 +23,9 @@ style-spec =
     (tie.spec
     Inv-loop
     μ-loop
-    (λ c. let r = room _ (c .before .before .pre) in omega arith)
     (λ c κs. search needs)
-    (λ c. search needs)
-    (λ c. (c .before .before .before .pre, (omega arith, (omega (arith, c .size .ensures .0), copied-begin _ _))))
+    (λ c. let r = room _ (c .before .before .pre) in omega (arith, c .style-place .ensures))
+    (λ c. (c .before .before .pre, (omega arith, (omega (arith, c .style-place .ensures), copied-begin _ _))))
     (λ c. let r = room _ (c .before .loop .inv .0) in omega arith)
     (λ c. let r = room _ (c .before .before .loop .inv .0) in omega arith)
     (λ c. search needs)

@@ -1,5 +1,7 @@
 -- `sheet::settings::width_at` meets its contract. Assumes nothing.
+use mathlib.Core.Path.{sym}
 use borrow.Author.Needs.{needs}
+use Rattle.rules.proofs.Stands.{width-here}
 use Rattle.sheet.proofs.settings.width_at.Statement.{statement}
 use Rattle.sheet.proofs.settings.width_at.Tie as tie
 
@@ -10,4 +12,4 @@ width-at-spec =
     (λ c. search needs)
     (λ c. search needs)
     (λ c κs. search needs)
-    (λ c. rw (c .word-at .ensures)))
+    (λ c. rw (c .word-at .ensures) (sym (width-here _ _))))

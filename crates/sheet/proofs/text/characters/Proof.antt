@@ -3,15 +3,14 @@ use Prim.Native.Nat.{_+_, _-_, _≤_}
 use mathlib.Core.Path.{_≡_}
 use native.Mathlib.Omega.{arith}
 use denote.Ref.{now}
-use Rattle.rules.specs.Field.{character}
-use Rattle.sheet.specs.Steps.{after, times}
-use Rattle.sheet.specs.declared.field.Step.the-variants.{At}
-use Rattle.sheet.proofs.Loops.{Characters, character-low, character-high, character-next, character-cut, characters-done, characters-past}
+use Rattle.rules.specs.Steps.{times}
+use Rattle.rules.specs.declared.Step.the-variants.{At}
+use Rattle.sheet.proofs.Loops.{characterFrom, Characters, character-low, character-high, character-next, character-cut, characters-done, characters-past}
 use Rattle.sheet.proofs.text.characters.Statement.{statement}
 use Rattle.sheet.proofs.text.characters.Tie as tie
 
 abbrev Inv-loop : tie.InvT-loop
-Inv-loop sheet start n end i₀ i = (start ≤ i) × ((i ≤ end) × Characters sheet (start + n) i (times n (after character sheet) (At start)))
+Inv-loop sheet start n end i₀ i = (start ≤ i) × ((i ≤ end) × Characters sheet (start + n) i (times n (characterFrom sheet) (At start)))
 
 abbrev μ-loop : tie.MeasureT-loop
 μ-loop sheet start n end i₀ i = end - i

@@ -1,7 +1,7 @@
 -- `sheet::walk::cell_end` meets its contract. The loop: the lines that are left end where the cell does. Assumes nothing.
 use Rattle.sheet.proofs.Walks.{Passing, cell-begin, passing-again, passing-done, passing-inside}
 use Rattle.rules.proofs.Stands.{cell-onward, lines-onward}
-use Rattle.rules.proofs.Places.{lineStop, cellStop}
+use Rattle.rules.specs.Places.{lineStop, cellStop}
 use lib.ListN.{length}
 use Prim.Native.Nat.{_-_, _≤_}
 use borrow.Author.Needs.{needs}

@@ -1,5 +1,5 @@
 -- `sheet::walk::line_end` meets its contract. Assumes nothing.
-use Rattle.rules.proofs.Places.{lineStop}
+use Rattle.rules.specs.Places.{lineStop}
 use native.Mathlib.Omega.{arith}
 use borrow.Author.Needs.{needs}
 use Rattle.sheet.proofs.walk.line_end.Statement.{statement}

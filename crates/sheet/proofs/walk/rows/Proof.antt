@@ -5,7 +5,7 @@ use Rattle.sheet.proofs.Walks.{rows-are, rows-none}
 use Rattle.sheet.proofs.Held.{room}
 use Rattle.sheet.specs.Walk.{rowsEnd}
 use Rattle.sheet.specs.Held.{Passes}
-use Rattle.rules.proofs.Places.{rowsPlace}
+use Rattle.rules.specs.Places.{rowsPlace}
 use mathlib.Core.Path.{_≡_, sym, _∙_}
 use borrow.Author.Needs.{needs}
 use native.Mathlib.Omega.{arith}

@@ -1,0 +1,38 @@
+-- Every definition by which a page is computed, behind one name: what is shown by computing unfolds it. Assumes nothing.
+use Rattle.rules.specs.Text.{greatest, sum, upFrom, keep, flat, textWidth, firstOf, restOf}
+use Rattle.rules.specs.Field.{onward, byte, word, only, zeroWord, several, ended}
+use Rattle.rules.specs.Description.{reads}
+use Rattle.rules.specs.Format.{width, column, line, cell, row, table, sheet}
+use Rattle.rules.specs.Style.{bordersOf}
+use Rattle.rules.specs.Wrap.{onto, pieces, glue, room, tight, full, act, last, place, weight, split, wrapLine, wrapLines, exceeds, fitting, cutLine, cut}
+use Rattle.rules.specs.Widths.{cellsOf, cellLongest, longest, numbers, visible, borders, percentOf, widthOf, valueOf, lowerWidth, upperWidth, absoluteWidth, lower, upper, absolute, covering, evaluate, noted, first, untargeted, zeros, taken, start, fix, fixAt, visit, pass, passes, aboveAverage, withinAverage, fittingAverage, trialParts, cellParts, longestPart, shorterBy3, splitAtAverage, step1, step2, step3, share, shared, widened, step4, contents}
+use Rattle.rules.specs.Page.{area, visibleWidths, wrapped, cellLines, height, areaAt, areas, joinedMore, joined, lineOf, ruled, textLine, shown, headed, ruledMore, ruledRows, rowText, framed, pageLines, closed, page, lineAt, lineCount, byteCount}
+use Rattle.rules.specs.Calls.{countOf, count, put, printOf, printPage, printLineOf, printLine}
+
+unfoldable texts : Unit {0}
+unfolding greatest sum upFrom keep flat textWidth firstOf restOf
+texts = tt
+
+unfoldable reading : Unit {0}
+unfolding onward byte word only zeroWord several reads ended width column line cell row table sheet
+reading = tt
+
+unfoldable wrapping : Unit {0}
+unfolding onto pieces glue room tight full act last place weight split wrapLine wrapLines exceeds fitting cutLine cut bordersOf
+wrapping = tt
+
+unfoldable widths : Unit {0}
+unfolding cellsOf cellLongest longest numbers visible borders percentOf widthOf valueOf lowerWidth upperWidth absoluteWidth lower upper absolute covering evaluate noted first untargeted zeros taken start fix fixAt visit pass passes aboveAverage withinAverage fittingAverage trialParts cellParts longestPart shorterBy3 splitAtAverage step1 step2 step3 share shared widened step4 contents
+widths = tt
+
+unfoldable drawing : Unit {0}
+unfolding area visibleWidths wrapped cellLines height areaAt areas joinedMore joined lineOf ruled textLine shown headed ruledMore ruledRows rowText framed pageLines closed page lineAt lineCount byteCount
+drawing = tt
+
+unfoldable calls : Unit {0}
+unfolding countOf count put printOf printPage printLineOf printLine
+calls = tt
+
+unfoldable pub rules : Unit {0}
+unfolding texts reading wrapping widths drawing calls
+rules = tt
