@@ -4,13 +4,15 @@ use libc::EINTR;
 use libc::STDERR_FILENO;
 use libc::STDIN_FILENO;
 use libc::STDOUT_FILENO;
+use libc::types::timespec;
 ghost use mathlib.Core.Path.{_≡_};
 ghost use Prim.Native.Nat.{_+_, _≤_};
 ghost use lib.ListN.{length};
 ghost use Rattle.io.specs.Counts.{Counts};
 
-// A proved loop has to end. So many calls may read one sheet or write one part of a page; only calls that find nothing ready come to this number.
-const TURNS: u64 = 100000000;
+// A proved loop has to end. So many calls may read one sheet or write one part of a page: far more than either has bytes, and, where they find
+// nothing ready, a quarter of an hour of pauses.
+const TURNS: u64 = 1000000;
 
 // How far reading or writing has come: the bytes that were moved, whether there is another turn, whether all went well.
 pub struct Progress {
@@ -19,14 +21,27 @@ pub struct Progress {
     pub well: bool,
 }
 
-// Whether the call that has just failed is worth another turn. The processor is left to others first, as nothing here can sleep.
+// A thousandth of a second.
+fn pause() {
+    let asked = timespec {
+        tv_sec: 0,
+        tv_nsec: 1000000,
+    };
+    let mut left = timespec {
+        tv_sec: 0,
+        tv_nsec: 0,
+    };
+    libc::nanosleep(&asked, &mut left);
+}
+
+// Whether the call that has just failed is worth another turn: at once if it was interrupted, after a pause if nothing was ready.
 fn try_again() -> bool {
     let error = os::errno();
     if error == EINTR {
         return true;
     }
     if error == EAGAIN {
-        libc::sched_yield();
+        pause();
         return true;
     }
     false
