@@ -1,9 +1,16 @@
 /* Cagwoni: a sheet becomes a page of printable ASCII, or is refused with a number and a place.
  *
- * A sheet is `sheet_len` bytes from `sheet` on; a page buffer is `page_len` bytes from `page` on. A pointer may be
- * null if its length is 0. Sheet and buffer must not overlap. No call reads a byte outside the sheet, or reads or
- * writes one outside the buffer. No call keeps a pointer, allocates, or has state of its own: calls may run in several
- * threads at once. Every call returns, whatever the bytes, lengths and positions are.
+ * A sheet is `sheet_len` bytes from `sheet` on (docs/FORMAT.md says what they mean); a page buffer is `page_len` bytes
+ * from `page` on. A pointer may be null if its length is 0. No call reads a byte outside the sheet, or reads or writes
+ * one outside the buffer. No call keeps a pointer, allocates, or has state of its own: calls may run in several threads
+ * at once. Every call returns, whatever the bytes, lengths and positions are.
+ *
+ * The host sees to two things, on which all of this rests:
+ *   - Sheet and buffer don't overlap.
+ *   - While a call runs, nobody writes the sheet, and nobody reads or writes the buffer: no other thread, interrupt,
+ *     signal handler or device. Several calls may read one sheet at once; each has a buffer of its own.
+ * A call goes through the sheet more than once. If its bytes change in between, by an overlap or by somebody else,
+ * nothing is promised any more: the call may write outside the buffer.
  *
  * A page is lines of bytes 20 to 7E (hexadecimal), each closed by byte 0A. Lines are counted from 0, and a line's
  * bytes include its 0A.
@@ -27,6 +34,35 @@
  * From the state of the call; 21 is tested before 20.
  *   CAGWONI_BUFFER_SHORT     20  buffer shorter than the page or line (place: bytes needed)
  *   CAGWONI_PAST_END         21  position at or past the line count (place: that count)
+ *
+ * A page can be far larger than its sheet: one of 142,653,555 bytes from a sheet of 32,424 was seen. `cagwoni_count`
+ * gives the size, and the host compares it with what it has before it asks for a buffer. A buffer of a fixed size, at
+ * least CAGWONI_LONGEST_LINE, prints every page:
+ *
+ *     static uint8_t part[CAGWONI_LONGEST_LINE];
+ *     size_t line = 0;
+ *     for (;;) {
+ *         cagwoni_printed_lines p = cagwoni_print_lines(sheet, sheet_len, line, part, sizeof part);
+ *         if (p.number == CAGWONI_PAST_END)
+ *             break;                              // the page is whole; it may have no line at all
+ *         if (p.number != 0)
+ *             return refused(p.number, p.place);  // 1 to 9, and only at the first turn; 20 can't come
+ *         put_out(part, p.written);
+ *         line = p.next;
+ *     }
+ *
+ * The sheet must stay the same from the first turn to the last. A call has to find its first line anew, so a larger
+ * buffer saves time (docs/PERFORMANCE.md). examples/host.c is a whole host.
+ *
+ * The library, target/staticlib/libgateway.a, is code for x86-64 with the calling convention of System V (Linux), and
+ * it is position independent. Of the host it needs `memcpy` and `memset` alone, as C has them; it makes no system call
+ * and has no data that can be written. Link it after what calls it:
+ *     cc -I include host.c target/staticlib/libgateway.a -o host
+ * It uses the vector registers xmm0 to xmm15 (SSE2) and none wider, and the red zone, the 128 bytes below the stack
+ * pointer. Where interrupts don't keep these, as in a kernel or with no system at all, the host lets none in during a
+ * call, or serves it on another stack and saves the registers.
+ *
+ * Stack: see CAGWONI_CHECK_STACK and those after it.
  */
 #ifndef CAGWONI_H
 #define CAGWONI_H
@@ -56,9 +92,21 @@ enum {
 enum {
     CAGWONI_LONGEST_SHEET = 32768,
     CAGWONI_MOST_COLUMNS = 12,
-    /* A buffer of this size takes any line: twelve columns of content width 801, the bound that is proved, with padding
-     * 20+20, a border between each two and at both ends, and 0A. */
-    CAGWONI_LONGEST_LINE = 12 * (801 + 40) + 13 + 1
+    /* A buffer of this size takes any line, its 0A included: the bound that is proved (crates/rules/proofs/Counts.antt,
+     * line-at-bound). */
+    CAGWONI_LONGEST_LINE = 10201
+};
+
+/* Bytes of stack that are enough for each call, from its return address on, the red zone included. They are counted in
+ * the compiled code, not proved. What the host's memcpy and memset take comes on top, and so does the loader's work at
+ * their first call in a program that isn't linked with -z now. */
+enum {
+    CAGWONI_CHECK_STACK = 1024,
+    CAGWONI_WIDTHS_STACK = 4096,
+    CAGWONI_COUNT_STACK = 8192,
+    CAGWONI_PRINT_PAGE_STACK = 8192,
+    CAGWONI_PRINT_LINE_STACK = 16384,
+    CAGWONI_PRINT_LINES_STACK = 16384
 };
 
 typedef struct {
@@ -69,10 +117,11 @@ typedef struct {
     uint64_t number, place, lines, bytes;
 } cagwoni_counted;
 
+/* The only answer with padding, four bytes at its end that may hold anything: compare its fields, not its bytes. */
 typedef struct {
     uint64_t number, place, columns;
-    uint16_t content[12];
-    bool hidden[12];
+    uint16_t content[CAGWONI_MOST_COLUMNS];
+    bool hidden[CAGWONI_MOST_COLUMNS];
 } cagwoni_measured;
 
 typedef struct {

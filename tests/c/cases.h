@@ -8,6 +8,7 @@
 extern const uint8_t desk_sheet[81];
 extern const char desk_page[];
 
+void header_cases(enum fence fence);
 void desk_cases(enum fence fence);
 void random_cases(enum fence fence, size_t count);
 

@@ -230,6 +230,7 @@ static void every_call(const struct expected *e, enum fence fence) {
     }
     each_line(e, lines, fence);
     lines_in_turn(e, lines, fence);
+    by_fixed_buffer(e, fence);
 }
 
 void replay(const struct expected *expected, enum fence fence) {

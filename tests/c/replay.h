@@ -18,6 +18,9 @@ struct expected {
 
 void replay(const struct expected *expected, enum fence fence);
 
+/* The page by turns of a buffer that has room for any line, as the header shows it. */
+void by_fixed_buffer(const struct expected *expected, enum fence fence);
+
 /* The same where no answer is known: whatever check, count and page say, all calls must agree with it. */
 void replay_unknown(const uint8_t *sheet, size_t sheet_len, enum fence fence);
 

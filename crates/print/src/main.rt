@@ -1,8 +1,8 @@
-// A sheet on standard input becomes its page on standard output, or `refused N at P`.
+// A sheet on standard input becomes its page on standard output, or `refused N at P`; what can't be read or written, a line on standard error.
 // A page can be far larger than memory: it goes out by as many whole lines at a time as the space holds, and the cursor is kept between them,
 // so that no line is passed over.
-use libc::STDIN_FILENO;
-use libc::STDOUT_FILENO;
+mod stream;
+
 use page::cursor;
 use page::lines;
 use page::open;
@@ -24,21 +24,13 @@ fn page_space() -> [u8; 65536]
     [0; 65536]
 }
 
-fn report(number: u64, place: u64) {
-    io::write_all(STDOUT_FILENO, b"refused ");
-    io::print_decimal(STDOUT_FILENO, number);
-    io::write_all(STDOUT_FILENO, b" at ");
-    io::print_decimal(STDOUT_FILENO, place);
-    io::write_all(STDOUT_FILENO, b"\n");
-}
-
 // Part after part, each from the line after the last one; ends where no more can be written.
 fn print(sheet: &[u8], space: &mut [u8])
     requires { ⌜ 10201 ≤ length (now space) ⌝ }
 {
     let checked = page::check(sheet);
     if checked.number != 0 {
-        report(checked.number, checked.place);
+        stream::write_refusal(checked.number, checked.place);
         return;
     }
     let p = open::open(sheet);
@@ -46,7 +38,7 @@ fn print(sheet: &[u8], space: &mut [u8])
     while !lines::is_end(c) {
         let part = lines::write_lines(space, sheet, p, c);
         let n = part.bytes;
-        if !io::write_all(STDOUT_FILENO, &space[..n]) {
+        if !stream::write_part(&space[..n]) {
             return;
         }
         c = part.next;
@@ -55,7 +47,11 @@ fn print(sheet: &[u8], space: &mut [u8])
 
 fn main() {
     let mut sheet = sheet_space();
-    let n = io::read_full(STDIN_FILENO, &mut sheet);
+    let got = stream::read_sheet(&mut sheet);
+    if !got.well {
+        return;
+    }
+    let n = got.done;
     let mut space = page_space();
     print(&sheet[..n], &mut space);
 }
