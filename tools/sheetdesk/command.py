@@ -118,6 +118,7 @@ def main(words):
         return 3
     except OSError as error:
         print(f"{error.filename or 'standard output'}: {error.strerror}", file=sys.stderr)
-        # What is left in the buffer can't be written; the interpreter would try again.
-        os.dup2(os.open(os.devnull, os.O_WRONLY), 1)
+        if not error.filename:
+            # What is left in the buffer can't be written; the interpreter would try again.
+            os.dup2(os.open(os.devnull, os.O_WRONLY), 1)
         return 2

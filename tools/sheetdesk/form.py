@@ -4,7 +4,7 @@ import re
 from collections import namedtuple
 
 from . import fields, styles, words
-from .words import Wrong, spread
+from .words import Wrong, beyond_a_byte, spread
 
 CONTENT = ["edition", "arrangement", "target", "delimiter", "indicator"]
 SETTINGS = [*CONTENT, "style", *styles.LINES, "padding"]
@@ -56,11 +56,10 @@ Record = namedtuple("Record", "at bytes")
 Row = namedtuple("Row", "at height cells")
 
 
-def counted(records, at):
-    """Records after their count. Nobody writes a count, so its place is that of the last record."""
+def counted(records, what, most, at=None):
+    """Records after their count, of which the printer takes `most`. A count's place is that of the last record."""
     if len(records) > 255:
-        right = "a count is a byte: at most 255 can be written"
-        raise Wrong(f"{len(records)} are too many to be counted", right, records[255].at)
+        raise Wrong(f"{len(records)} {what}s", beyond_a_byte(most), records[255].at)
     place = records[-1].at._replace(note="the last one counted") if records else at
     return spread([len(records)], place) + [pair for record in records for pair in record.bytes]
 
@@ -153,7 +152,7 @@ class Form:
                 "arrangement": lambda: line.code(name, fields.ARRANGEMENTS),
                 "target": lambda: line.number_or_none(name, "none, or 1 to 400", 2),
                 "delimiter": line.delimiter,
-                "indicator": lambda: line.counted_text(name),
+                "indicator": lambda: line.counted_text(name, 8),
                 "padding": lambda: self.padding(line),
             }[name]()
 
@@ -188,15 +187,15 @@ class Form:
         cells = []
         while line.left() and line.words[0].written not in OPTIONS:
             at = line.words[0].at
-            cells.append(Record(at, spread(b"\0\0\1", at) + line.counted_text("a cell")))
+            cells.append(Record(at, spread(b"\0\0\1", at) + line.counted_text("a cell", 200)))
         return Row(line.at, height, cells)
 
     def read_cell(self, line):
         start, lines = delimiter_and_alignment(line), []
         while line.left() and line.words[0].written not in OPTIONS:
-            lines.append(Record(line.words[0].at, line.counted_text("a cell's line")))
+            lines.append(Record(line.words[0].at, line.counted_text("a cell's line", 200)))
         cells = (self.rows or self.header)[-1].cells
-        cells.append(Record(line.at, start + counted(lines, line.at)))
+        cells.append(Record(line.at, start + counted(lines, "line", 8, line.at)))
 
     def read_bytes(self, line):
         word = line.take("a byte")
@@ -217,9 +216,10 @@ class Form:
     def read_raw(self, line):
         self.raw_at = line.at
 
-    def rows_counted(self, rows):
-        """Rows after their count."""
-        return counted([Record(row.at, row.height + counted(row.cells, row.at)) for row in rows], None)
+    @staticmethod
+    def rows_counted(rows, what, most):
+        records = [Record(row.at, row.height + counted(row.cells, "cell", 12, row.at)) for row in rows]
+        return counted(records, what, most)
 
     def body(self):
         longest = max((row.cells for row in self.header + self.rows), key=len, default=[])
@@ -227,7 +227,8 @@ class Form:
         columns = self.columns or [Record(cell.at, plain) for cell in longest]
         parts = [self.settings[name] for name in CONTENT] + [spread([styles.SIZE], None)]
         parts += [self.settings[name] for name in styles.LINES]
-        parts += [counted(columns, None), self.rows_counted(self.header), self.rows_counted(self.rows)]
+        parts += [counted(columns, "column", 12)]
+        parts += [self.rows_counted(self.header, "header", 1), self.rows_counted(self.rows, "row", 100)]
         return [pair for part in parts for pair in part]
 
     def made(self):

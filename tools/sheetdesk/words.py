@@ -29,6 +29,10 @@ def is_number(word):
     return word.text is None and re.fullmatch("[0-9]+", word.written)
 
 
+def beyond_a_byte(most):
+    return f"at most {most}; a count or length is a byte, so that over 255 can't be written at all"
+
+
 def spread(value, at):
     return [(byte, at) for byte in value]
 
@@ -140,18 +144,17 @@ class Line:
         return spread([list(names).index(word.written)], word.at)
 
     def text(self, what):
-        """A quoted text's bytes and where it starts."""
+        """A quoted text as a word."""
         word = self.take(what)
         if word.text is None:
             raise self.wrong(f"{what}: {word.written} is no text in quotes", word)
-        if len(word.text) > 255:
-            right = "a text's length is a byte: at most 255 can be written"
-            raise self.wrong(f"{what} has {len(word.text)} characters", word, right)
         return word
 
-    def counted_text(self, what):
-        """A text after its length."""
+    def counted_text(self, what, most):
+        """A text after its length, of which the printer takes `most`."""
         word = self.text(what)
+        if len(word.text) > 255:
+            raise self.wrong(f"{what} has {len(word.text)} characters", word, beyond_a_byte(most))
         return spread([len(word.text)], word.at) + word.text
 
     def delimiter(self):
