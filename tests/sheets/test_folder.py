@@ -36,8 +36,8 @@ class Folder(DeskTest):
         self.path("cut.txt").unlink()
         names = ["bare.sheet is out of date", "cut.page is left over", "cut.sheet is left over", "desk.page is missing",
                  "house.sheet is missing"]
-        lines = [f"sheets/{name}" for name in names]
-        self.assertEqual(self.said("check"), (1, [*lines, f"{count - 1} text forms, {count - 3} stored sheets, 5 wrong"]))
+        lines = [f"sheets/{name}" for name in names] + [f"{count - 1} text forms, {count - 3} stored sheets, 5 wrong"]
+        self.assertEqual(self.said("check"), (1, lines))
 
     def test_build_makes_what_is_missing(self):
         self.path("house.sheet").unlink()

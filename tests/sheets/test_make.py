@@ -10,7 +10,7 @@ delimiter none
 indicator "..."
 style house
 """
-# comfy-table's own pictures of its presets.
+# The pictures that comfy-table's presets are known by, a line after another.
 PICTURES = {
     "house": "+-------+-------+|| Hello | there ||+=======+=======+|| a     | b     ||+-------+-------+|"
     "| c     | d     ||+-------+-------+|",
@@ -92,3 +92,36 @@ class Make(DeskTest):
         done = self.sheets("make", ROOT / "sheets/desk.sheet")
         self.assertEqual((done.returncode, done.stdout), (2, b""))
         self.assertIn("desk.sheet is a sheet, and a text form is wanted", done.said)
+
+
+class Readme(DeskTest):
+    """What sheets/README.md shows is what the tool answers."""
+
+    def setUp(self):
+        super().setUp()
+        blocks = (ROOT / "sheets/README.md").read_text("ascii").split("\n\n")
+        blocks = [block for block in blocks if block.startswith("    ")]
+        self.blocks = ["".join(line[4:] + "\n" for line in block.splitlines()) for block in blocks]
+
+    def test_first_table(self):
+        form, page = self.blocks[:2]
+        self.assertEqual(len(form.splitlines()), 10)
+        self.assertEqual(self.page(form), page)
+        self.assertEqual(form, (ROOT / "sheets/ten-lines.txt").read_text("ascii"))
+
+    def test_messages(self):
+        wrong = self.file("column alignment center\n", "wrong.txt")
+        self.assertEqual(self.sheets("print", wrong).said.replace(f"{self.folder}/", ""), self.blocks[3])
+        bad = self.file('target 44\ncolumn padding 1 21\nrow "kitchen"\n', "bad.txt")
+        said = self.sheets("explain", bad).stdout.decode("ascii")
+        self.assertEqual(said.replace(f"{self.folder}/", ""), self.blocks[4])
+
+    def test_styles(self):
+        rows = [line for line in (ROOT / "sheets/README.md").read_text("ascii").splitlines() if line.startswith("| `")]
+        for name in PICTURES:
+            row = next(row for row in rows if f"`{name}`" in row.split(" | ")[0])
+            cells = row.replace("\\|", "!").strip("| ").split(" | ")[1:]
+            lines = [cell.strip("`").replace("!", "|") for cell in cells]
+            heads = ["top", "header-lines", "header-rule", "content-lines", "row-rule", "bottom"]
+            form = "".join(f'{head} "{line}"\n' for head, line in zip(heads, lines)).replace('"unset"', "unset")
+            self.assertEqual(self.made(form), self.made(f"style {name}"))

@@ -63,8 +63,8 @@ class Text(DeskTest):
         table += "column padding 0 0 constraint Absolute unit 2 10\ncolumn padding 0 0 alignment 9 constraint 7\n"
         table += 'header height 3\n  cell delimiter "/" alignment right "a" "\\x09"\nrow\n'
         settings = 'edition 1\narrangement 7\ntarget 401\ndelimiter ";"\nindicator "\\\\"\n'
-        for style in ["style ASCII_FULL\n", 'top unset\nheader-lines "|\\0|"\nheader-rule unset\ncontent-lines "|\\0|"\n'
-                      'row-rule unset\nbottom "+-\\0+"\n']:
+        drawn = 'top unset\nheader-lines "|\\0|"\nheader-rule unset\ncontent-lines "|\\0|"\n'
+        for style in ["style ASCII_FULL\n", drawn + 'row-rule unset\nbottom "+-\\0+"\n']:
             done = self.sheets("text", self.file(self.made(settings + style + table), "a.sheet"))
             self.assertEqual(done.stdout.decode("ascii"), settings + style + table)
 

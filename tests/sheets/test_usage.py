@@ -6,7 +6,7 @@ import sys
 
 from desk import ROOT, DeskTest
 
-OLD_PYTHON = "import sys; sys.version_info = (3, 7, 16); sys.argv = ['sheets', 'check']; exec(open('tools/sheets').read())"
+OLD_PYTHON = "import sys; sys.version_info = (3, 7, 16); exec(open('tools/sheets').read())"
 # Tries to install with a command that looks whether it was said before.
 INSTALLS = """
 source tools/differential/comfy-table.sh

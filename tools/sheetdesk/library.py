@@ -1,4 +1,4 @@
-"""The proved library of include/cagwoni.h, linked as a shared object. Every verdict, count, width and page is its answer."""
+"""The proved library of include/cagwoni.h as a shared object: every verdict, count, width and page is its answer."""
 
 import ctypes
 import os
