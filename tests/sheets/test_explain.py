@@ -165,6 +165,11 @@ class AnotherLibrary(DeskTest):
         self.assertEqual(said[1], f"refused 8 at 32: {WORDS[8]}")
         self.assertEqual(said[2:4], ["  field    column 1, delimiter", "  value    00 hexadecimal"])
         self.assertEqual(os.listdir(root / "target/sheets"), ["libgateway.so"])
+        self.library(root, "5, 6", 3)
+        done = self.sheets("explain", root / "sheets/desk.txt", root=root)
+        said = done.stdout.decode("ascii").splitlines()
+        self.assertEqual(said[2], "  field    style, count of characters")
+        self.assertEqual(said[5], "  written  nowhere in the text form: it was left out")
 
     def test_no_library(self):
         root = self.tree()

@@ -1,6 +1,11 @@
 """Each way in which a text form can be wrong: where it is said to be, what is said, what would be right."""
 
+import random
+
 from desk import ROOT, DeskTest
+
+from sheetdesk import form
+from sheetdesk.words import Wrong
 
 ALIGNMENTS = "none, left, right, centre"
 ONE_CHARACTER = 'exactly one character in quotes, such as "/", or none'
@@ -33,6 +38,8 @@ WRONG = [
     ("column constraint Absolute", (1, 27), "Absolute wants 1 width, not 0", WIDTHS),
     ("column constraint LowerBoundary", (1, 32), "LowerBoundary wants 1 width, not 0", WIDTHS),
     ("column constraint UpperBoundary", (1, 32), "UpperBoundary wants 1 width, not 0", WIDTHS),
+    ("column constraint Absolute alignment left", (1, 28), "Absolute wants 1 width, not 0", WIDTHS),
+    ("column constraint", (1, 18), "constraint is missing", COLUMN),
     ("column constraint Boundaries 3", (1, 31), "Boundaries wants 2 widths, not 1", WIDTHS),
     ("column constraint Hidden 3", (1, 26), "Hidden doesn't use 3", WIDTHS),
     ("column constraint Absolute 3 4", (1, 30), "Absolute doesn't use 4", WIDTHS),
@@ -63,6 +70,9 @@ WRONG = [
     ("edition 1\n  colum", (2, 3), "unknown word colum", "a line starts with one of edition, arrangement, target, "),
     ('"target" 20', (1, 1), 'unknown word "target"', "a line starts with one of "),
     (b"\0\0", (1, 1), r"unknown word \x00\x00", "a line starts with one of "),
+    ('row\n  cell height 2 "a"', (2, 8), "a cell's line: height is no text in quotes", CELL),
+    ("column height 2", (1, 8), "height isn't known here", COLUMN),
+    ("padding 1 1 alignment left", (1, 13), "alignment isn't known here", "padding LEFT RIGHT, each 0 to 20"),
     ("row heigth 2", (1, 5), "a cell: heigth is no text in quotes", "row [height N]"),
     ("column alignment left padding 1 1", (1, 23), "padding is given twice or in another order", COLUMN),
     ("column constraint Hidden alignment left", (1, 26), "alignment is given twice or in another order", COLUMN),
@@ -115,6 +125,23 @@ class WrongForms(DeskTest):
             with self.subTest(form=case[0][:60]):
                 path = self.file(case[0])
                 self.assert_said(self.sheets("make", path), path, case)
+
+    def test_damaged_forms_never_end_in_a_traceback(self):
+        chance, wrong = random.Random(20261116), 0
+        forms = [path.read_bytes() for path in sorted((ROOT / "sheets").glob("*.txt"))]
+        words = b" ".join(forms).split()
+        for _ in range(2000):
+            damaged = bytearray(chance.choice(forms))
+            for _ in range(chance.randint(1, 3)):
+                at = chance.randrange(len(damaged))
+                new = chance.choice([b" " + chance.choice(words) + b" ", b'"', b"\\", b"\xff"])
+                damaged[at : at + chance.randrange(4)] = new
+            try:
+                form.read(bytes(damaged))
+            except Wrong as error:
+                wrong += 1
+                self.assertTrue(error.message and error.right and min(error.at[:2]) >= 1)
+        self.assertGreater(wrong, 1000)
 
     def test_every_command_says_the_same(self):
         for command in ["make", "print", "explain"]:

@@ -48,7 +48,12 @@ USAGE = {
     "cut": "cut LENGTH, less than the sheet has",
     "raw": "raw, alone and first; then only bytes, pad and cut",
 }
-OPTIONS = ["padding", "delimiter", "alignment", "constraint", "height"]
+OPTIONS = {
+    "column": ["padding", "delimiter", "alignment", "constraint"],
+    "header": ["height"],
+    "row": ["height"],
+    "cell": ["delimiter", "alignment"],
+}
 
 # A sheet, each byte's place in the text form (None if nobody wrote it), and the place that ends the sheet.
 Made = namedtuple("Made", "sheet places end")
@@ -83,12 +88,13 @@ def constraint(line):
     code = line.code("constraint", fields.CONSTRAINTS)
     uses = fields.CONSTRAINTS.get(name.written)
     widths = []
-    while line.left() and len(widths) < 2 and line.words[0].written not in OPTIONS:
+    while line.before_options() and len(widths) < 2:
         if uses is not None and len(widths) >= uses and line.words[0].written != "unit":
             raise line.wrong(f"{name.written} doesn't use {line.words[0].written}", line.words[0], WIDTHS)
         widths.append(width(line))
     if uses is not None and len(widths) < uses:
-        raise line.wrong(f"{name.written} wants {uses} width{'s' * (uses > 1)}, not {len(widths)}", None, WIDTHS)
+        message = f"{name.written} wants {uses} width{'s' * (uses > 1)}, not {len(widths)}"
+        raise line.wrong(message, line.words[0] if line.left() else None, WIDTHS)
     widths += [spread(bytes(3), name.at)] * (2 - len(widths))
     return code + widths[0] + widths[1]
 
@@ -114,13 +120,13 @@ class Form:
         name = word.written
         if name not in USAGE:
             raise Wrong(f"unknown word {name}", f"a line starts with one of {', '.join(USAGE)}", word.at)
-        line.usage = USAGE[name]
+        line.usage, line.options = USAGE[name], OPTIONS.get(name, [])
         self.in_order(name, word)
         if name in SETTINGS:
             self.read_setting(name, line)
         else:
             getattr(self, "read_" + name)(line)
-        line.end(OPTIONS)
+        line.end()
         self.last = name
 
     def in_order(self, name, word):
@@ -185,14 +191,14 @@ class Form:
         """A row; texts in its own line are cells of one line each."""
         height = line.number_or_none("height", "none, or 1 to 255") if line.option("height") else spread([0], line.at)
         cells = []
-        while line.left() and line.words[0].written not in OPTIONS:
+        while line.before_options():
             at = line.words[0].at
             cells.append(Record(at, spread(b"\0\0\1", at) + line.counted_text("a cell", 200)))
         return Row(line.at, height, cells)
 
     def read_cell(self, line):
         start, lines = delimiter_and_alignment(line), []
-        while line.left() and line.words[0].written not in OPTIONS:
+        while line.before_options():
             lines.append(Record(line.words[0].at, line.counted_text("a cell's line", 200)))
         cells = (self.rows or self.header)[-1].cells
         cells.append(Record(line.at, start + counted(lines, "line", 8, line.at)))

@@ -88,10 +88,10 @@ def lines(form):
 
 
 class Line:
-    """The words of one line, taken from the left. `usage` is what the line should look like."""
+    """The words of one line, taken from the left. `usage` is what the line should look like, `options` its options."""
 
     def __init__(self, words, end):
-        self.words, self.place_after, self.usage = words, end, ""
+        self.words, self.place_after, self.usage, self.options = words, end, "", []
         self.at = words[0].at
 
     def wrong(self, message, word=None, right=None):
@@ -99,6 +99,10 @@ class Line:
 
     def left(self):
         return bool(self.words)
+
+    def before_options(self):
+        """Whether a word is left that is none of the line's options."""
+        return self.left() and self.words[0].written not in self.options
 
     def take(self, what):
         if not self.words:
@@ -111,12 +115,10 @@ class Line:
             return self.words.pop(0)
         return None
 
-    def end(self, options=()):
-        if not self.words:
-            return
-        word = self.words[0]
-        what = "is given twice or in another order" if word.written in options else "isn't known here"
-        raise self.wrong(f"{word.written} {what}", word)
+    def end(self):
+        if self.left():
+            what = "isn't known here" if self.before_options() else "is given twice or in another order"
+            raise self.wrong(f"{self.words[0].written} {what}", self.words[0])
 
     def number(self, what, limits, size=1):
         word = self.take(what)
