@@ -105,12 +105,10 @@ class Reader:
         delimiter = self.character("table delimiter")
         indicator = self.text("indicator", self.take("indicator, length", COUNT.format(8)))
         style = self.style()
-        columns = self.take("count of columns", COUNT.format(12))
-        columns = [self.column(f"column {at + 1}") for at in range(columns)]
-        headers = self.take("count of headers", "0 or 1")
-        headers = [self.row("header", len(columns)) for _ in range(headers)]
-        rows = self.take("count of rows", COUNT.format(100))
-        rows = [self.row(f"row {at + 1}", len(columns)) for at in range(rows)]
+        count = self.take("count of columns", COUNT.format(12))
+        columns = [self.column(f"column {at + 1}") for at in range(count)]
+        headers = [self.row("header", count) for _ in range(self.take("count of headers", "0 or 1"))]
+        rows = [self.row(f"row {at + 1}", count) for at in range(self.take("count of rows", COUNT.format(100)))]
         return Table(edition, arrangement, target, delimiter, indicator, style, columns, headers, rows)
 
 

@@ -112,7 +112,7 @@ class Form:
         self.settings = {name: spread(value, None) for name, value in DEFAULTS.items()}
         self.load_style(DEFAULT_STYLE, None)
         self.columns, self.header, self.rows, self.after = [], [], [], []
-        self.cut_at = self.raw_at = None
+        self.cut_at = self.length = self.raw_at = None
         self.rank, self.last = -1, None
 
     def line(self, line):

@@ -24,15 +24,16 @@ def delimiter(value):
 
 def options(record):
     """The delimiter and alignment of a column or cell, where it has any."""
-    return [f"delimiter {delimiter(record.delimiter)}"] * bool(record.delimiter) + [
-        f"alignment {code(record.alignment, fields.ALIGNMENTS)}"
-    ] * bool(record.alignment)
+    if record.delimiter:
+        yield f"delimiter {delimiter(record.delimiter)}"
+    if record.alignment:
+        yield f"alignment {code(record.alignment, fields.ALIGNMENTS)}"
 
 
-def width(width, used):
-    if not used or width.unit > 1:
-        return f"unit {width.unit} {width.value}"
-    return f"{width.value}{'%' * width.unit}"
+def width(given, used):
+    if not used or given.unit > 1:
+        return f"unit {given.unit} {given.value}"
+    return f"{given.value}{'%' * given.unit}"
 
 
 def constraint(column):
@@ -56,24 +57,24 @@ def style(characters):
     return lines
 
 
-def row(name, row):
-    yield " ".join([name] + [f"height {row.height}"] * bool(row.height))
-    for cell in row.cells:
+def row(name, held):
+    yield f"{name} height {held.height}" if held.height else name
+    for cell in held.cells:
         yield " ".join(["  cell", *options(cell), *map(quoted, cell.lines)])
 
 
-def table(table):
-    yield f"edition {table.edition}"
-    yield f"arrangement {code(table.arrangement, fields.ARRANGEMENTS)}"
-    yield f"target {table.target or 'none'}"
-    yield f"delimiter {delimiter(table.delimiter)}"
-    yield f"indicator {quoted(table.indicator)}"
-    yield from style(table.style)
-    for column in table.columns:
+def table(held):
+    yield f"edition {held.edition}"
+    yield f"arrangement {code(held.arrangement, fields.ARRANGEMENTS)}"
+    yield f"target {held.target or 'none'}"
+    yield f"delimiter {delimiter(held.delimiter)}"
+    yield f"indicator {quoted(held.indicator)}"
+    yield from style(held.style)
+    for column in held.columns:
         yield " ".join([f"column padding {column.left} {column.right}", *options(column), *constraint(column)])
-    for header in table.header:
+    for header in held.header:
         yield from row("header", header)
-    for each in table.rows:
+    for each in held.rows:
         yield from row("row", each)
 
 
