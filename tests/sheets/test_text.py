@@ -61,7 +61,8 @@ class Text(DeskTest):
     def test_words(self):
         table = 'column padding 1 20 delimiter "\\"" alignment centre constraint Boundaries 5 50%\n'
         table += "column padding 0 0 constraint Absolute unit 2 10\ncolumn padding 0 0 alignment 9 constraint 7\n"
-        table += 'header height 3\n  cell delimiter "/" alignment right "a" "\\x09"\nrow\n'
+        table += "column padding 0 0 constraint Hidden unit 0 0 unit 0 256\n"
+        table += 'header height 3\n  cell delimiter "/" alignment right "a" "\\x09"\nrow\nbytes 01 FF\n'
         settings = 'edition 1\narrangement 7\ntarget 401\ndelimiter ";"\nindicator "\\\\"\n'
         drawn = 'top unset\nheader-lines "|\\0|"\nheader-rule unset\ncontent-lines "|\\0|"\n'
         for style in ["style ASCII_FULL\n", drawn + 'row-rule unset\nbottom "+-\\0+"\n']:

@@ -52,7 +52,9 @@ class Usage(DeskTest):
                       ["tools/differential/run"], ["bench/run", "--rust"], ["bench/run", "a", "b"],
                       ["tests/c/run", "a", "b"], ["tests/sheets/run", "nothing"], [".ci/run", "fast"]]:
             with self.subTest(words=words):
-                self.assertEqual(self.run_in(ROOT, *words).returncode, 2)
+                done = self.run_in(ROOT, *words)
+                self.assertEqual((done.returncode, done.stdout), (2, b""))
+                self.assertTrue(f"  {words[0]}" in done.said or "--rust needs a path" in done.said, done.said)
 
     def test_sheets(self):
         for words, said in [
@@ -78,6 +80,13 @@ class Usage(DeskTest):
             words = [ROOT / "tools/sheets", "print", ROOT / "sheets/desk.sheet"]
             done = subprocess.run(words, stdout=full, stderr=subprocess.PIPE)
         self.assertEqual((done.returncode, done.stderr), (2, b"standard output: No space left on device\n"))
+        # Closed outputs: nothing that looks like an answer, and no message where an answer belongs.
+        for words, answer in [
+            ("print sheets/desk.sheet >&-", (2, b"", b"standard output is closed\n")),
+            ("make sheets/desk.sheet 2>&-", (2, b"", b"")),
+        ]:
+            done = subprocess.run(["bash", "-c", f"tools/sheets {words}"], cwd=ROOT, capture_output=True)
+            self.assertEqual((done.returncode, done.stdout, done.stderr), answer)
 
     def test_python(self):
         self.assertIn(b"Needs Python 3.8 or later", self.sheets("--help").stdout)

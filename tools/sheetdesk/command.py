@@ -26,7 +26,6 @@ Status 0: done. 1: the text form is wrong, the sheet is refused (print), or file
 or a file that can't be read or written. 3: the library isn't there.
 """
 
-import os
 import sys
 from pathlib import Path
 
@@ -54,6 +53,12 @@ def load(name, wanted=None):
     return form.read(data) if kind == "text form" else form.Made(data, None, None)
 
 
+def say(words):
+    """On standard error; print would take standard output if that is closed."""
+    if sys.stderr:
+        print(words, file=sys.stderr)
+
+
 def write(data):
     sys.stdout.buffer.write(data)
     return True
@@ -63,7 +68,7 @@ def print_page(name):
     made, library = load(name), Library()
     if library.check(made.sheet).number == 0:
         return write(library.page(made.sheet))
-    print("\n".join([f"{name}:", *explain(library, name, made)]), file=sys.stderr)
+    say("\n".join([f"{name}:", *explain(library, name, made)]))
     return False
 
 
@@ -100,25 +105,25 @@ def run(words):
 
 
 def main(words):
+    if not sys.stdout:
+        say("standard output is closed")
+        return 2
     try:
         done = run(words)
         sys.stdout.flush()
         return 0 if done else 1
     except Usage as usage:
-        print(f"tools/sheets: {usage}; `tools/sheets --help` says more", file=sys.stderr)
+        say(f"tools/sheets: {usage}; `tools/sheets --help` says more")
         return 2
     except Wrong as wrong:
-        print(folder.complaint(words[1], wrong), file=sys.stderr)
+        say(folder.complaint(words[1], wrong))
         return 1
     except folder.Failed as failed:
-        print(failed, file=sys.stderr)
+        say(failed)
         return 1
     except Missing as missing:
-        print(missing, file=sys.stderr)
+        say(missing)
         return 3
     except OSError as error:
-        print(f"{error.filename or 'standard output'}: {error.strerror}", file=sys.stderr)
-        if not error.filename:
-            # What is left in the buffer can't be written; the interpreter would try again.
-            os.dup2(os.open(os.devnull, os.O_WRONLY), 1)
+        say(f"{error.filename or 'standard output'}: {error.strerror}")
         return 2

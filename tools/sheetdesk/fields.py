@@ -62,7 +62,7 @@ class Reader:
         return self.take(name, UNSET, kind="character")
 
     def style(self):
-        self.take("style, count of characters", str(styles.SIZE), missing=styles.SIZE)
+        self.take("style, count of characters", str(styles.SIZE))
         names = [f"style, {line}, {part}" for line, parts in styles.LINES.values() for part in parts]
         return bytes(self.character(name) for name in names)
 
