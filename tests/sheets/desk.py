@@ -13,7 +13,7 @@ from pathlib import Path
 ROOT = Path(__file__).resolve().parent.parent.parent
 sys.path.insert(0, str(ROOT / "tools"))
 
-from sheetdesk import command  # noqa: E402
+from sheetdesk import command  # found by the path above
 
 
 Done = namedtuple("Done", "returncode stdout said")
