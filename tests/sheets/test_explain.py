@@ -124,6 +124,10 @@ class Explain(DeskTest):
                     done = self.sheets("print", name)
                     self.assertEqual((done.stdout, done.said, done.returncode), (page, "", 0))
 
+    def test_a_file_name_that_is_no_text(self):
+        path = self.file('row "a"', os.fsdecode(b"\xff.txt"))
+        self.assertIn(b"accepted: 53 bytes", self.sheets("explain", path, root=ROOT).stdout)
+
     def test_kind_of_a_file(self):
         form, sheet = b'# a form\nrow "a"\n', (ROOT / "sheets/desk.sheet").read_bytes()
         for name, data, said in [
@@ -177,6 +181,8 @@ class AnotherLibrary(DeskTest):
             done = self.sheets(command, root / "sheets/desk.sheet", root=root)
             self.assertEqual((done.returncode, done.stdout), (3, b""))
             self.assertIn("no library at target/staticlib/libgateway.a: run `rt staticlib gateway` first", done.said)
+            wrong = self.sheets(command, self.file("colum"), root=root)
+            self.assertIn("unknown word colum", wrong.said)
         for command, name in [("make", "desk.txt"), ("text", "desk.sheet")]:
             self.assertEqual(self.sheets(command, root / "sheets" / name, root=root).returncode, 0)
 

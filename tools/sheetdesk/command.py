@@ -74,8 +74,8 @@ def print_page(name):
 
 def explain_file(name):
     made = load(name)
-    print("\n".join([f"{name}:", *explain(Library(), name, made)]))
-    return True
+    lines = [f"{name}:", *explain(Library(), name, made)]
+    return write("".join(line + "\n" for line in lines).encode("utf-8", "backslashreplace"))
 
 
 COMMANDS = {
