@@ -20,6 +20,7 @@ packaged() {
 fetch_packages() {
     [ -n "$(packaged unicode-width)" ] && [ -n "$(packaged unicode-segmentation)" ] && return
     local packages=(librust-unicode-width-dev librust-unicode-segmentation-dev)
+    echo "comfy-table: installing the packages ${packages[*]} by apt-get" >&2
     { apt-get install -y "${packages[@]}" || { apt-get update && apt-get install -y "${packages[@]}"; }; } \
         </dev/null >/dev/null 2>&1 || true
     [ -n "$(packaged unicode-width)" ] && [ -n "$(packaged unicode-segmentation)" ] ||

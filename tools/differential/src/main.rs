@@ -22,16 +22,7 @@ mod sheet;
 use std::io::{self, Read, Write};
 use std::process::ExitCode;
 
-const USAGE: &str = "run [--rust PATH] [--archive PATH] COMMAND
-  print [--by-reading]                sheet on standard input, page or `refused N at P` on standard output
-  compare --seed S --count N [--damaged]  the oracle against the reading
-  slips --seed S --most N             sheets until each planted mistake shows
-  sample --seed S                     writes the stored sample
-  check-sample                        the stored sample against the oracle, and the document's examples
-  self-test                           the document's examples, and what its limits shut out
-  exhaustive                          the oracle against the reading on small spaces of sheets, whole
-  emit --seed S --count N [--damaged] records of sheets and answers on standard output
-  gateway --seed S --count N [--damaged]  every call of the archive against the oracle; needs --archive";
+const USAGE: &str = "tools/differential/run --help lists the commands and their options";
 
 fn main() -> ExitCode {
     let arguments: Vec<String> = std::env::args().skip(1).collect();

@@ -1,0 +1,1 @@
+"""What tools/sheets does: text forms, sheets and pages of the trial desk."""

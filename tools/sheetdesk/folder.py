@@ -1,0 +1,104 @@
+"""The stored trial sheets: sheets/NAME.txt, NAME.sheet, NAME.page."""
+
+import subprocess
+from pathlib import Path
+
+from . import form
+from .words import Wrong
+
+FOLDER = Path(__file__).resolve().parent.parent.parent / "sheets"
+LONGEST_STORED = 4096
+
+
+class Failed(Exception):
+    """Something in the folder, or a command that is run on it, isn't as it should be."""
+
+
+def complaint(name, wrong):
+    """A wrong text form in words."""
+    message = "".join(each if each.isprintable() else f"\\x{ord(each):02X}" for each in wrong.message)
+    return f"{name}, line {wrong.at.line}, column {wrong.at.column}: {message}\n  right: {wrong.right}"
+
+
+def forms():
+    """Each text form's path and its sheet; all that are wrong are named."""
+    made, complaints = [], []
+    for path in sorted(FOLDER.glob("*.txt")):
+        try:
+            made.append((path, form.read(path.read_bytes()).sheet))
+        except Wrong as wrong:
+            complaints.append(complaint(f"sheets/{path.name}", wrong))
+    if complaints:
+        raise Failed("\n".join(complaints))
+    return made
+
+
+def stored(made):
+    return {path.with_suffix(".sheet"): sheet for path, sheet in made if len(sheet) <= LONGEST_STORED}
+
+
+def pages_of(made):
+    return [path.with_suffix(".page") for path, _ in made]
+
+
+def build():
+    for path, sheet in stored(forms()).items():
+        path.write_bytes(sheet)
+    return True
+
+
+def check():
+    made = forms()
+    sheets, pages = stored(made), pages_of(made)
+    there = {*FOLDER.glob("*.sheet"), *FOLDER.glob("*.page")}
+    wrong = {path: "is missing" for path in {*sheets, *pages} - there}
+    wrong.update((path, "is left over") for path in there - {*sheets, *pages})
+    wrong.update((path, "is out of date") for path in there & {*sheets} if path.read_bytes() != sheets[path])
+    for path in sorted(wrong):
+        print(f"sheets/{path.name} {wrong[path]}")
+    print(f"{len(made)} text forms, {len(sheets)} stored sheets, {len(wrong)} wrong")
+    return not wrong
+
+
+def need_pages(made):
+    missing = [f"sheets/{page.name} is missing" for page in pages_of(made) if not page.exists()]
+    if missing:
+        raise Failed("\n".join(missing) + "\n(`tools/sheets pages COMMAND` writes the pages)")
+
+
+def write_all(directory):
+    made = forms()
+    need_pages(made)
+    directory.mkdir(parents=True, exist_ok=True)
+    for path, sheet in made:
+        (directory / path.with_suffix(".sheet").name).write_bytes(sheet)
+        (directory / path.with_suffix(".page").name).write_bytes(path.with_suffix(".page").read_bytes())
+    return True
+
+
+def answers(made, command):
+    """Each page's path and what the command prints for its sheet."""
+    for path, sheet in made:
+        try:
+            done = subprocess.run(command, input=sheet, stdout=subprocess.PIPE)
+        except OSError as error:
+            raise Failed(f"{command[0]} can't be run: {error.strerror}") from None
+        if done.returncode:
+            raise Failed(f"{command[0]} ended with status {done.returncode} on the sheet of sheets/{path.name}")
+        yield path.with_suffix(".page"), done.stdout
+
+
+def pages(command):
+    for path, answer in answers(forms(), command):
+        path.write_bytes(answer)
+    return True
+
+
+def replay(command):
+    made = forms()
+    need_pages(made)
+    differ = [path for path, answer in answers(made, command) if answer != path.read_bytes()]
+    for path in differ:
+        print(f"sheets/{path.name}: another answer")
+    print(f"{len(made)} sheets replayed, {len(differ)} differ")
+    return not differ
