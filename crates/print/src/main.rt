@@ -1,14 +1,15 @@
 // A sheet on standard input becomes its page on standard output, or `refused N at P`; what can't be read or written, a line on standard error.
-// A page can be far larger than memory: it goes out by as many whole lines at a time as the space holds, and the cursor is kept between them,
-// so that no line is passed over.
+// A page can be far larger than memory: it goes out by as many whole lines at a time as the space holds, and a row and a line in it are kept
+// between them.
 mod stream;
 
-use page::cursor;
-use page::lines;
-use page::open;
+use lines::cursor;
+use lines::open;
+use rules::MOST_COLUMNS;
 ghost use mathlib.Core.Path.{_≡_};
-ghost use Prim.Native.Nat.{_≤_};
+ghost use Prim.Native.Nat.{_+_, _≤_};
 ghost use lib.ListN.{length};
+ghost use Rattle.lines.specs.Lengths.{longestLine};
 
 // Room for a sheet that is one byte too long, which is enough to refuse any longer one.
 fn sheet_space() -> [u8; 32769]
@@ -26,17 +27,18 @@ fn page_space() -> [u8; 65536]
 
 // Part after part, each from the line after the last one; ends where no more can be written.
 fn print(sheet: &[u8], space: &mut [u8])
-    requires { ⌜ 10201 ≤ length (now space) ⌝ }
+    requires { ⌜ longestLine + 1 ≤ length (now space) ⌝ }
 {
     let checked = page::check(sheet);
     if checked.number != 0 {
         stream::write_refusal(checked.number, checked.place);
         return;
     }
-    let p = open::open(sheet);
-    let mut c = cursor::start(sheet, p);
-    while !lines::is_end(c) {
-        let part = lines::write_lines(space, sheet, p, c);
+    let mut columns = [[0usize; 6]; MOST_COLUMNS];
+    let p = open::open(sheet, &mut columns);
+    let mut c = cursor::first(p);
+    while !cursor::is_end(c) {
+        let part = lines::write(space, sheet, &columns, p, c);
         let n = part.bytes;
         if !stream::write_part(&space[..n]) {
             return;
