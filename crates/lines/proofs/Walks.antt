@@ -14,7 +14,7 @@ use Rattle.rules.specs.Text.{All}
 use Rattle.rules.specs.Sheet.{Row, noRow}
 use Rattle.rules.specs.Style.{topBorder, bottomBorder}
 use Rattle.rules.specs.Page.{closed, fitting}
-use Rattle.rules.specs.Limits.{RowLimits}
+use Rattle.rules.specs.Limits.{longestLine, RowLimits}
 use Rattle.rules.proofs.Counts.{height-bound, framed-count, framed-byte-bound}
 use Rattle.rules.proofs.Fitting.{fitting-few}
 use Rattle.rules.proofs.Lists.{all-getD}
@@ -236,7 +236,7 @@ module _ (s : List ℕ) (cols : List (List ℕ)) (p : Page) (O : Opened s cols p
   unfolding linesOf
   total-lines = framed-count (tableOf s) (limits-of s (O .passes)) (widthsIn s) (rowsIn s (p .rows)) rows-left (O .rows-at .sound)
 
-  pub total-bytes : length (closed (linesOf s p)) ≤ 1000000 * 10201
+  pub total-bytes : length (closed (linesOf s p)) ≤ 1000000 * (longestLine + 1)
   unfolding linesOf
   total-bytes = framed-byte-bound (tableOf s) (limits-of s (O .passes)) (rowsIn s (p .rows)) rows-left (O .rows-at .sound)
 

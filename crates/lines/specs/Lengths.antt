@@ -1,10 +1,10 @@
 -- How long a page's lines are. Assumes nothing.
-use Prim.Native.Nat.{ℕ, zero, suc, _+_, _*_, _≤_}
+use Prim.Native.Nat.{ℕ, zero, suc, _+_, _≤_}
 use mathlib.Core.Path.{_≡_}
 use mathlib.Core.List.{List}
 use lib.ListN.{length}
 use Rattle.rules.specs.Text.{All}
-use Rattle.rules.specs.Sheet.{mostColumns}
+use Rattle.rules.specs.Limits.{longestLine}
 use Rattle.rules.proofs.Lines.{lineLength, borderLength}
 use Rattle.sheet.specs.Held.{tableOf}
 use Rattle.formatting.specs.Line.{View, visibleAt}
@@ -13,10 +13,6 @@ use Rattle.lines.specs.Ahead.{partLines}
 use Rattle.lines.specs.declared.open.Page.{Page}
 use Rattle.lines.specs.declared.cursor.Cursor.{Cursor}
 use Rattle.lines.specs.declared.lengths.Lengths.{Lengths}
-
--- no line is longer, its 0A left aside: a column takes at most 801, paddings of 20 and 20, and a junction
-abbrev pub longestLine : ℕ
-longestLine = mostColumns * 850
 
 -- the visible widths of the first n columns
 unfoldable pub widthUpTo : View → ℕ → ℕ

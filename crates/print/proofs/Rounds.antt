@@ -15,7 +15,7 @@ use Rattle.sheet.specs.Held.{tableOf}
 use Rattle.sheet.specs.Walk.{rowsIn}
 use Rattle.lines.specs.Opened.{Opened}
 use Rattle.lines.specs.Ahead.{isEnd, At, ahead, linesOf, firstCursor}
-use Rattle.lines.specs.Lengths.{longestLine}
+use Rattle.rules.specs.Limits.{longestLine}
 use Rattle.lines.specs.Walk.{WroteIs}
 use Rattle.lines.specs.declared.open.Page.{Page}
 use Rattle.lines.specs.declared.cursor.Cursor.{Cursor}
@@ -54,9 +54,9 @@ module _ (s : List ℕ) (cols : List (List ℕ)) (p : Page) (O : Opened s cols p
   -- the space holds any line, so that a part that leaves some has some
   some : longestLine + 1 ≤ length b → 0 < length (ahead s p c) → 0 < length (fitting (length b) (ahead s p c))
   unfolding linesOf
-  some h k = go (ahead s p c) k (rw (S .lines) (all-drop (λ l. length l ≤ 10200) (S .passed) (linesOf s p) (framed-line-bound (tableOf s) (limits-of s (O .passes)) (rowsIn s (p .rows)))))
+  some h k = go (ahead s p c) k (rw (S .lines) (all-drop (λ l. length l ≤ longestLine) (S .passed) (linesOf s p) (framed-line-bound (tableOf s) (limits-of s (O .passes)) (rowsIn s (p .rows)))))
     where
-      go : (ls : List (List ℕ)) → 0 < length ls → All (λ l. length l ≤ 10200) ls → 0 < length (fitting (length b) ls)
+      go : (ls : List (List ℕ)) → 0 < length ls → All (λ l. length l ≤ longestLine) ls → 0 < length (fitting (length b) ls)
       go [] f g = absurd (omega arith)
       go (l ∷ ls) f g = rw (fitting-more (length b) l ls (omega (arith, g .0))) (omega arith)
 

@@ -9,7 +9,7 @@ use rules::MOST_COLUMNS;
 ghost use mathlib.Core.Path.{_≡_};
 ghost use Prim.Native.Nat.{_+_, _≤_};
 ghost use lib.ListN.{length};
-ghost use Rattle.lines.specs.Lengths.{longestLine};
+ghost use Rattle.rules.specs.Limits.{longestLine};
 
 // Room for a sheet that is one byte too long, which is enough to refuse any longer one.
 fn sheet_space() -> [u8; 32769]

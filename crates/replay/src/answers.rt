@@ -1,4 +1,5 @@
 // Answers beside the stored ones. Each function says what differs, and counts it.
+use rules::MOST_COLUMNS;
 use crate::stored;
 use libc::STDOUT_FILENO;
 use rules::Checked;
@@ -55,8 +56,8 @@ fn flag(b: bool) -> usize {
 }
 
 // Whether each of the twelve widths is the stored one.
-fn same_contents(content: [u16; 12], text: &[u8], widths: usize, columns: usize) -> bool {
-    for i in 0..12 {
+fn same_contents(content: [u16; MOST_COLUMNS], text: &[u8], widths: usize, columns: usize) -> bool {
+    for i in 0..MOST_COLUMNS {
         if wide(content[i]) != stored::content(text, widths, columns, i) {
             return false;
         }
@@ -65,8 +66,8 @@ fn same_contents(content: [u16; 12], text: &[u8], widths: usize, columns: usize)
 }
 
 // Whether just the stored columns are hidden.
-fn same_hidden(hidden: [bool; 12], text: &[u8], widths: usize, columns: usize) -> bool {
-    for i in 0..12 {
+fn same_hidden(hidden: [bool; MOST_COLUMNS], text: &[u8], widths: usize, columns: usize) -> bool {
+    for i in 0..MOST_COLUMNS {
         if flag(hidden[i]) != stored::hidden(text, widths, columns, i) {
             return false;
         }

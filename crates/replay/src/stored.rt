@@ -1,6 +1,7 @@
 // The stored answers: numbers, low byte first, and parts of the text. Past the end every byte reads as 0.
 ghost use Prim.Native.Nat.{_≤_, _<_};
 ghost use lib.ListN.{length};
+ghost use Rattle.rules.specs.Sheet.{mostColumns};
 
 // What a record holds beyond number and place: where its widths and its page stand, and its counts.
 pub struct Accepted {
@@ -96,7 +97,7 @@ pub fn rest_of(text: &[u8], at: usize) -> Accepted
 
 // Where a column's width stands. The text's end, where every byte reads as 0, stands for a column that isn't stored.
 fn width_at(text: &[u8], widths: usize, columns: usize, column: usize) -> usize
-    requires { ⌜ column < 12 ⌝ }
+    requires { ⌜ column < mostColumns ⌝ }
     ensures { λ r. ⌜ r ≤ length (now (text .entry)) ⌝ }
 {
     if text.len() < widths {
@@ -109,14 +110,14 @@ fn width_at(text: &[u8], widths: usize, columns: usize, column: usize) -> usize
 }
 
 pub fn content(text: &[u8], widths: usize, columns: usize, column: usize) -> usize
-    requires { ⌜ column < 12 ⌝ }
+    requires { ⌜ column < mostColumns ⌝ }
 {
     word(text, width_at(text, widths, columns, column))
 }
 
 // 1 where the column is hidden.
 pub fn hidden(text: &[u8], widths: usize, columns: usize, column: usize) -> usize
-    requires { ⌜ column < 12 ⌝ }
+    requires { ⌜ column < mostColumns ⌝ }
 {
     let at = width_at(text, widths, columns, column);
     byte(text, after(text, at, 2))

@@ -10,7 +10,7 @@ use lib.Dec.{ltb, eqb}
 use borrow.Author.Tests.{ltb-true, ltb-false}
 use Rattle.rules.specs.Text.{textWidth, restOf, sum, oneIf, upFrom, keep, flat, All}
 use Rattle.rules.specs.Sheet.{Cell, Row, Table, noCell, noColumn, columnAt, cellAt, padding, isHidden}
-use Rattle.rules.specs.Limits.{ColumnLimits, LineLimits, CellLimits, RowLimits, TableLimits}
+use Rattle.rules.specs.Limits.{longestLine, ColumnLimits, LineLimits, CellLimits, RowLimits, TableLimits}
 use Rattle.rules.specs.Style.{topBorder, headerLines, headerRule, contentLines, rowRule, bottomBorder, anyLeft, anyRight, anyJunction, isVisible, bordersOf}
 use Rattle.rules.specs.Wrap.{Act, join, retry, fill, begin, onto, pieces, glue, room, full, act, last, place, weight, split, wrapLine, wrapLines, exceeds, cutLine, cut, delimiterOf}
 use Rattle.rules.specs.Widths.{numbers, visible, borders, contents}
@@ -294,13 +294,13 @@ module _ (t : Table) (T : TableLimits t) where
   widths-bound = omega (arith, sum-841 (visibleWidths t (contents t)) (all-map (Most 841) (visibleWidth t (contents t)) visible-841 (visible t)), length-widths t (contents t))
 
   -- text lines and rules
-  pub line-length-bound : lineLength t (contents t) ≤ 10200
+  pub line-length-bound : lineLength t (contents t) ≤ longestLine
   unfolding lineLength borders bordersOf
   line-length-bound =
       omega (arith, one-le (anyLeft (t .style)), one-le (anyRight (t .style)), cond-le (anyJunction (t .style)) (length (visible t) - 1), widths-bound, visible-count t, T .columns)
 
   -- borders
-  pub border-length-bound : borderLength t (contents t) ≤ 10200
+  pub border-length-bound : borderLength t (contents t) ≤ longestLine
   unfolding borderLength
   border-length-bound = omega (arith, one-le (anyLeft (t .style)), one-le (anyRight (t .style)), widths-bound, visible-count t, T .columns)
 
@@ -337,31 +337,31 @@ pub page-line-lengths : (t : Table) → All (λ l. (length l ≡ lineLength t (c
 unfolding pageLines
 page-line-lengths t = framed-line-lengths t (contents t) (t .rows)
 
-bytes-10201 : (ls : List (List ℕ)) → All (λ l. length l ≤ 10200) ls → sum (map (λ l. length l + 1) ls) ≤ 10201 * length ls
+bytes-longest : (ls : List (List ℕ)) → All (λ l. length l ≤ longestLine) ls → sum (map (λ l. length l + 1) ls) ≤ (longestLine + 1) * length ls
 unfolding sum
-bytes-10201 [] h = omega arith
-bytes-10201 (l ∷ ls) h = omega (arith, bytes-10201 ls (h .1), h .0)
+bytes-longest [] h = omega arith
+bytes-longest (l ∷ ls) h = omega (arith, bytes-longest ls (h .1), h .0)
 
 module _ (t : Table) (T : TableLimits t) where
   -- no line is longer, over some of the rows
-  pub framed-line-bound : (rs : List Row) → All (λ l. length l ≤ 10200) (framed t (contents t) rs)
-  framed-line-bound rs = all-imp (Drawn t (contents t)) (λ l. length l ≤ 10200) go (framed t (contents t) rs) (framed-line-lengths t (contents t) rs)
+  pub framed-line-bound : (rs : List Row) → All (λ l. length l ≤ longestLine) (framed t (contents t) rs)
+  framed-line-bound rs = all-imp (Drawn t (contents t)) (λ l. length l ≤ longestLine) go (framed t (contents t) rs) (framed-line-lengths t (contents t) rs)
     where
-      go : (l : List ℕ) → Drawn t (contents t) l → length l ≤ 10200
+      go : (l : List ℕ) → Drawn t (contents t) l → length l ≤ longestLine
       go l (inl e) = omega (arith, line-length-bound t T)
       go l (inr e) = omega (arith, border-length-bound t T)
 
   -- line k of the page, its 0A included
-  pub line-at-bound : (k : ℕ) → length (lineAt t k) ≤ 10201
+  pub line-at-bound : (k : ℕ) → length (lineAt t k) ≤ longestLine + 1
   unfolding lineAt pageLines
-  line-at-bound k = simp length-append (omega (arith, all-default (λ l. length l ≤ 10200) (pageLines t) k [] (omega arith) (framed-line-bound (t .rows))))
+  line-at-bound k = simp length-append (omega (arith, all-default (λ l. length l ≤ longestLine) (pageLines t) k [] (omega arith) (framed-line-bound (t .rows))))
 
   -- the bytes of lines over some of the rows
-  pub framed-byte-bound : (rs : List Row) → length rs ≤ 100 → All (RowLimits (length (t .columns))) rs → length (closed (framed t (contents t) rs)) ≤ 1000000 * 10201
+  pub framed-byte-bound : (rs : List Row) → length rs ≤ 100 → All (RowLimits (length (t .columns))) rs → length (closed (framed t (contents t) rs)) ≤ 1000000 * (longestLine + 1)
   framed-byte-bound rs n h =
-      omega (arith, length-closed (framed t (contents t) rs), bytes-10201 (framed t (contents t) rs) (framed-line-bound rs), framed-count t T (contents t) rs n h)
+      omega (arith, length-closed (framed t (contents t) rs), bytes-longest (framed t (contents t) rs) (framed-line-bound rs), framed-count t T (contents t) rs n h)
 
   -- and those of the page
-  pub byte-count-bound : byteCount t ≤ 1000000 * 10201
+  pub byte-count-bound : byteCount t ≤ 1000000 * (longestLine + 1)
   unfolding pageLines
   byte-count-bound = omega (arith, byte-count-closed t, framed-byte-bound (t .rows) (T .rows) (T .each-row))

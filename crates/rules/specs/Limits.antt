@@ -1,5 +1,5 @@
 -- What the table of an accepted sheet satisfies: every limit, every code, printable characters. Assumes nothing.
-use Prim.Native.Nat.{ℕ, _≤_}
+use Prim.Native.Nat.{ℕ, _*_, _≤_}
 use mathlib.Core.Path.{_≡_}
 use mathlib.Core.Logic.{_⊎_}
 use mathlib.Core.List.{List, [], _∷_}
@@ -8,6 +8,10 @@ use lib.ListN.{length}
 use lib.Dec.{leb, eqb}
 use Rattle.rules.specs.Text.{All}
 use Rattle.rules.specs.Sheet.{Width, Column, Cell, Row, Table, mostColumns}
+
+-- no line of a page is longer, its 0A left aside: a column takes content of at most 801, paddings of 20 and 20, and a junction
+abbrev pub longestLine : ℕ
+longestLine = mostColumns * 850
 
 -- printable ASCII, 20 to 7E hexadecimal
 abbrev pub Printable : ℕ → Type 0

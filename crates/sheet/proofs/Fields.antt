@@ -15,6 +15,7 @@ use Rattle.rules.specs.declared.Step.{Step}
 use Rattle.rules.specs.declared.Step.the-variants.{At, Refused}
 use Rattle.rules.proofs.Reading.{after-off, tested}
 use Rattle.sheet.specs.Steps.{byteBetween}
+use Rattle.rules.specs.Sheet.{mostColumns}
 
 -- a refusal is handed on, and no byte stands there
 pub after-stopped : {A : Type 0} (f : Format A) (s : List ℕ) (x : Step) (n q : ℕ) → x ≡ Refused n q → x ≡ after f s x
@@ -144,40 +145,40 @@ unfolding only onward
 only-bad good n f s p v q e h = rw (e, h, onward)
 
 -- a cell count, from the step y after it and its value v: 5 above the limit, else 7 above the columns
-pub count-few : (columns : ℕ) (s : List ℕ) (x y : Step) (v : ℕ) → y ≡ readFrom (byteBetween 0 12 5) s x → v ≡ byteOf s x → v ≤ columns → y ≡ after (cellCount columns) s x
+pub count-few : (columns : ℕ) (s : List ℕ) (x y : Step) (v : ℕ) → y ≡ readFrom (byteBetween 0 mostColumns 5) s x → v ≡ byteOf s x → v ≤ columns → y ≡ after (cellCount columns) s x
 unfolding after readFrom reads byteOf
-count-few columns s (At p) y v few value l = few ∙ go (byteBetween 0 12 5 s p) refl
+count-few columns s (At p) y v few value l = few ∙ go (byteBetween 0 mostColumns 5 s p) refl
   where
-    go : (r : Read ℕ) → byteBetween 0 12 5 s p ≡ r → stepOf (byteBetween 0 12 5 s p) ≡ stepOf (only (between 0 columns) 7 (byteBetween 0 12 5) s p)
+    go : (r : Read ℕ) → byteBetween 0 mostColumns 5 s p ≡ r → stepOf (byteBetween 0 mostColumns 5 s p) ≡ stepOf (only (between 0 columns) 7 (byteBetween 0 mostColumns 5) s p)
     go (got w q) i =
-        let k = tested (between 0 12) 5 s p w q i .value in
+        let k = tested (between 0 mostColumns) 5 s p w q i .value in
         let b : between 0 columns w ≡ true = rw (le-leb 0 w (omega arith), le-leb w columns (omega arith)) in
-        rw (i, only-good (between 0 columns) 7 (byteBetween 0 12 5) s p w q i b)
-    go (refused n q) i = rw (i, only-off (between 0 columns) 7 (byteBetween 0 12 5) s p n q i)
+        rw (i, only-good (between 0 columns) 7 (byteBetween 0 mostColumns 5) s p w q i b)
+    go (refused n q) i = rw (i, only-off (between 0 columns) 7 (byteBetween 0 mostColumns 5) s p n q i)
 count-few columns s (Refused n p) y v few value l = few
 
-pub count-stopped : (columns : ℕ) (s : List ℕ) (x y : Step) (m r : ℕ) → y ≡ readFrom (byteBetween 0 12 5) s x → y ≡ Refused m r → y ≡ after (cellCount columns) s x
+pub count-stopped : (columns : ℕ) (s : List ℕ) (x y : Step) (m r : ℕ) → y ≡ readFrom (byteBetween 0 mostColumns 5) s x → y ≡ Refused m r → y ≡ after (cellCount columns) s x
 unfolding after readFrom reads
-count-stopped columns s (At p) y m r few e = go (byteBetween 0 12 5 s p) refl
+count-stopped columns s (At p) y m r few e = go (byteBetween 0 mostColumns 5 s p) refl
   where
-    go : (r : Read ℕ) → byteBetween 0 12 5 s p ≡ r → y ≡ stepOf (only (between 0 columns) 7 (byteBetween 0 12 5) s p)
+    go : (r : Read ℕ) → byteBetween 0 mostColumns 5 s p ≡ r → y ≡ stepOf (only (between 0 columns) 7 (byteBetween 0 mostColumns 5) s p)
     go (got w q) i = let j = rw i at few in let z : _≡_ {A = ℕ} 0 1 = cc in absurd (omega arith)
-    go (refused n q) i = few ∙ rw (i, only-off (between 0 columns) 7 (byteBetween 0 12 5) s p n q i)
+    go (refused n q) i = few ∙ rw (i, only-off (between 0 columns) 7 (byteBetween 0 mostColumns 5) s p n q i)
 count-stopped columns s (Refused n p) y m r few e = few
 
 -- the step after a count that was read stands one byte past it
-pub count-over : (columns : ℕ) (s : List ℕ) (x y : Step) (v q : ℕ) → y ≡ readFrom (byteBetween 0 12 5) s x → v ≡ byteOf s x → y ≡ At q → columns < v → (Refused 7 (q - 1) ≡ after (cellCount columns) s x) × (1 ≤ q)
+pub count-over : (columns : ℕ) (s : List ℕ) (x y : Step) (v q : ℕ) → y ≡ readFrom (byteBetween 0 mostColumns 5) s x → v ≡ byteOf s x → y ≡ At q → columns < v → (Refused 7 (q - 1) ≡ after (cellCount columns) s x) × (1 ≤ q)
 unfolding after readFrom reads byteOf
-count-over columns s (At p) y v q few value e l = go (byteBetween 0 12 5 s p) refl
+count-over columns s (At p) y v q few value e l = go (byteBetween 0 mostColumns 5 s p) refl
   where
-    go : (r : Read ℕ) → byteBetween 0 12 5 s p ≡ r → (Refused 7 (q - 1) ≡ stepOf (only (between 0 columns) 7 (byteBetween 0 12 5) s p)) × (1 ≤ q)
+    go : (r : Read ℕ) → byteBetween 0 mostColumns 5 s p ≡ r → (Refused 7 (q - 1) ≡ stepOf (only (between 0 columns) 7 (byteBetween 0 mostColumns 5) s p)) × (1 ≤ q)
     go (got w o) i =
         let j = rw i at few in
-        let k = tested (between 0 12) 5 s p w o i in
+        let k = tested (between 0 mostColumns) 5 s p w o i in
         let m : q ≡ o = cc in
         let z : q - 1 ≡ p = omega (arith, k .end) in
         let b : between 0 columns w ≡ false = rw (le-leb 0 w (omega arith), lt-leb w columns (omega (arith, k .value))) in
-        (rw (z, only-bad (between 0 columns) 7 (byteBetween 0 12 5) s p w o i b), omega (arith, k .end))
+        (rw (z, only-bad (between 0 columns) 7 (byteBetween 0 mostColumns 5) s p w o i b), omega (arith, k .end))
     go (refused n o) i = let j = rw i at few in let z : _≡_ {A = ℕ} 0 1 = cc in absurd (omega arith)
 count-over columns s (Refused n p) y v q few value e l = let z : _≡_ {A = ℕ} 0 1 = cc in absurd (omega arith)
 

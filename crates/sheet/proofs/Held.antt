@@ -5,7 +5,7 @@ use mathlib.Core.List.{List, append-nil}
 use native.Mathlib.Omega.{arith}
 use lib.ListN.{length, getD, drop, replicate}
 use lib.Seq.{getD-take, getD-drop}
-use Rattle.rules.specs.Sheet.{Table, noColumn}
+use Rattle.rules.specs.Sheet.{Table, noColumn, mostColumns}
 use Rattle.rules.specs.declared.Column.{Column}
 use Rattle.rules.specs.Field.{got}
 use Rattle.rules.specs.Description as description
@@ -41,7 +41,7 @@ pub record Room (s : List ℕ) : Type 0 where
   pub style-at : stylePlace s ≡ 6 + byteAt s 5
   pub style : byteAt s (stylePlace s) ≡ 22
   pub columns-at : columnsPlace s ≡ stylePlace s + 23
-  pub columns : byteAt s (columnsPlace s) ≤ 12
+  pub columns : byteAt s (columnsPlace s) ≤ mostColumns
   pub header-at : headerPlace s ≡ columnsPlace s + 1 + 11 * byteAt s (columnsPlace s)
   pub rows : headerPlace s + 1 ≤ rowsPlace s
   pub inside : rowsPlace s + 1 ≤ length s
@@ -119,12 +119,12 @@ style-whole s i a h e c =
 pub columns-inside : (s : List ℕ) → Passes s → length (tableOf s .columns) ≡ byteAt s (columnsPlace s)
 columns-inside s h = let r = held s h in stands.column-count s (tableOf s) (r .end) (r .reads)
 
-pub columns-whole : (s : List ℕ) (n i : ℕ) (a : List Column) → Passes s → n ≡ byteAt s (columnsPlace s) → i ≤ n → n ≤ i → Copied (tableOf s .columns) (replicate 12 noColumn) i a → record { count = n; each = a } ≡ columnsOf (tableOf s)
+pub columns-whole : (s : List ℕ) (n i : ℕ) (a : List Column) → Passes s → n ≡ byteAt s (columnsPlace s) → i ≤ n → n ≤ i → Copied (tableOf s .columns) (replicate mostColumns noColumn) i a → record { count = n; each = a } ≡ columnsOf (tableOf s)
 unfolding columnsOf padded
 columns-whole s n i a h e j k c =
     let l = columns-inside s h in
     let m : n ≡ length (tableOf s .columns) = omega arith in
-    rw (m, copied-done (tableOf s .columns) (replicate 12 noColumn) i a (omega arith) c, drop-replicate (length (tableOf s .columns)) 12 noColumn)
+    rw (m, copied-done (tableOf s .columns) (replicate mostColumns noColumn) i a (omega arith) c, drop-replicate (length (tableOf s .columns)) mostColumns noColumn)
 
 pub style-character : (s : List ℕ) (first i : ℕ) → Passes s → first ≡ stylePlace s + 1 → i < 22 → getD s (first + i) 0 ≡ getD (textAt s (stylePlace s)) i 0
 style-character s first i h e l = let r = room s h in rw e (sym (character-at s (stylePlace s) i (omega (arith, r .style))))

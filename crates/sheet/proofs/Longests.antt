@@ -272,13 +272,13 @@ pub header-behind : (s : List ℕ) (c : Rows) (before : List ℕ) (r : LongestLi
 header-behind s c before r walked e = rows-none s (record { at = r .end; left = 0 }) (omega arith) ∙ (walked .ends ∙ e)
 
 -- the header's walk and then the rows'
-pub walked-twice : (s : List ℕ) (t : Table) (h c : Rows) (first all : LongestLines) → length (all .longest) ≡ mostColumns → RowsWalked s h (replicate 12 0) first → RowsWalked s c (first .longest) all
+pub walked-twice : (s : List ℕ) (t : Table) (h c : Rows) (first all : LongestLines) → length (all .longest) ≡ mostColumns → RowsWalked s h (replicate mostColumns 0) first → RowsWalked s c (first .longest) all
     → rowsIn s h ≡ t .header → rowsIn s c ≡ t .rows → all .longest ≡ map (widths.longest t) (upFrom 0 mostColumns)
 walked-twice s t h c first all l a b d e = longest-whole t (all .longest) l each
   where
     each : (j : ℕ) → j < mostColumns → getD (all .longest) j 0 ≡ max (longestIn j (t .header)) (longestIn j (t .rows))
     each j i =
-        let z : _≡_ {A = ℕ} (getD (replicate 12 0) j 0) 0 = getD-replicate 12 j 0 0 i in
-        let x : getD (first .longest) j 0 ≡ max (getD (replicate 12 0) j 0) (longestIn j (t .header)) = a .each j i ∙ rw d in
+        let z : _≡_ {A = ℕ} (getD (replicate mostColumns 0) j 0) 0 = getD-replicate mostColumns j 0 0 i in
+        let x : getD (first .longest) j 0 ≡ max (getD (replicate mostColumns 0) j 0) (longestIn j (t .header)) = a .each j i ∙ rw d in
         let y : getD (all .longest) j 0 ≡ max (getD (first .longest) j 0) (longestIn j (t .rows)) = b .each j i ∙ rw e in
         omega arith

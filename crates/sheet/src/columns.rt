@@ -7,6 +7,7 @@ ghost use Rattle.rules.specs.Description.{counted};
 ghost use Rattle.rules.specs.Format as format;
 ghost use Rattle.rules.specs.Steps.{byteOf, after};
 ghost use Rattle.sheet.specs.Steps.{constraintAfter};
+use rules::MOST_CELLS;
 use super::field;
 use super::field::Field;
 use rules::Step;
@@ -61,7 +62,7 @@ pub fn columns(sheet: &[u8], from: Step) -> Field
     ensures { λ r. ⌜ r .next ≡ after (counted 0 mostColumns format.column) (now (sheet .entry)) from ⌝ }
     ensures { λ r. ⌜ r .value ≡ byteOf (now (sheet .entry)) from ⌝ }
 {
-    let count = field::byte_between(sheet, from, 0, 12, 5);
+    let count = field::byte_between(sheet, from, 0, MOST_CELLS, 5);
     let n = count.value;
     let mut step = count.next;
     let mut i: u8 = 0;

@@ -5,6 +5,7 @@ ghost use Rattle.rules.specs.Description.{optional, wordTo, zeroWord};
 ghost use Rattle.rules.specs.Format.{cellCount};
 ghost use Rattle.rules.specs.Steps.{readFrom, byteOf, after};
 ghost use Rattle.sheet.specs.Steps.{byteBetween};
+use rules::MOST_CELLS;
 use rules::Step;
 
 // A field of one byte. It has its value even where it is turned down: a loop that goes by it only hands the refusal on.
@@ -177,7 +178,7 @@ pub fn cell_count(sheet: &[u8], from: Step, columns: u8) -> Field
     ensures { λ r. ⌜ r .next ≡ after (cellCount columns) (now (sheet .entry)) from ⌝ }
     ensures { λ r. ⌜ r .value ≡ byteOf (now (sheet .entry)) from ⌝ }
 {
-    let count = byte_between(sheet, from, 0, 12, 5);
+    let count = byte_between(sheet, from, 0, MOST_CELLS, 5);
     let value = count.value;
     let next = count.next;
     if value <= columns {

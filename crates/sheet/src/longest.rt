@@ -9,6 +9,7 @@ ghost use Rattle.rules.specs.Widths as widths;
 ghost use Rattle.sheet.specs.Held.{Passes, tableOf};
 ghost use Rattle.sheet.specs.Walk.{rowsIn, rowsEnd, cellsEnd, linesEnd};
 ghost use Rattle.sheet.specs.Longest.{Narrow, CellWalked, RowWalked, RowsWalked};
+use rules::MOST_COLUMNS;
 use super::field;
 use super::records::Cells;
 use super::records::Lines;
@@ -23,7 +24,7 @@ pub struct LongestLine {
 
 // Each column's longest line so far, and where the walk stands.
 pub struct LongestLines {
-    pub longest: [u16; 12],
+    pub longest: [u16; MOST_COLUMNS],
     pub end: usize,
 }
 
@@ -52,7 +53,7 @@ fn of_cell(sheet: &[u8], lines: Lines) -> LongestLine
 }
 
 // A row's cells, each in its column.
-fn of_row(sheet: &[u8], cells: Cells, before: [u16; 12]) -> LongestLines
+fn of_row(sheet: &[u8], cells: Cells, before: [u16; MOST_COLUMNS]) -> LongestLines
     requires { ⌜ (cells .left ≤ mostColumns) × (cellsEnd (now sheet) cells ≤ length (now sheet)) ⌝ }
     ensures { λ r. ⌜ RowWalked (now (sheet .entry)) cells before r ⌝ }
 {
@@ -74,7 +75,7 @@ fn of_row(sheet: &[u8], cells: Cells, before: [u16; 12]) -> LongestLines
 }
 
 // Row after row, from the columns' longest so far.
-fn of_rows(sheet: &[u8], rows: Rows, before: [u16; 12]) -> LongestLines
+fn of_rows(sheet: &[u8], rows: Rows, before: [u16; MOST_COLUMNS]) -> LongestLines
     requires { ⌜ Narrow (rowsIn (now sheet) rows) × (rowsEnd (now sheet) rows ≤ length (now sheet)) ⌝ }
     ensures { λ r. ⌜ RowsWalked (now (sheet .entry)) rows before r ⌝ }
 {
@@ -94,12 +95,12 @@ fn of_rows(sheet: &[u8], rows: Rows, before: [u16; 12]) -> LongestLines
 }
 
 // Each column's longest line over header and rows; 0 past the columns.
-pub fn longest(sheet: &[u8]) -> [u16; 12]
+pub fn longest(sheet: &[u8]) -> [u16; MOST_COLUMNS]
     requires { ⌜ Passes (now sheet) ⌝ }
     ensures { λ r. ⌜ r ≡ map (widths.longest (tableOf (now (sheet .entry)))) (upFrom 0 mostColumns) ⌝ }
 {
     let header = walk::header(sheet);
-    let first = of_rows(sheet, header, [0u16; 12]);
+    let first = of_rows(sheet, header, [0u16; MOST_COLUMNS]);
     let behind = Rows {
         at: first.end,
         left: 0,

@@ -1,4 +1,5 @@
 // What the sheet holds, as values: each record is equal to a part of the definition's table.
+use rules::MOST_COLUMNS;
 use rules::Column;
 
 // Codes as the sheet has them: a target or a delimiter of 0 is none.
@@ -17,7 +18,7 @@ pub struct Indicator {
 // The first `count` columns are the sheet's.
 pub struct Columns {
     pub count: usize,
-    pub each: [Column; 12],
+    pub each: [Column; MOST_COLUMNS],
 }
 
 // Rows still to come: `left` of them, the first at `at` in the sheet.

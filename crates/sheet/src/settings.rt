@@ -4,6 +4,7 @@ ghost use Prim.Native.Nat.{_+_, _<_, _≤_};
 ghost use lib.ListN.{length};
 ghost use Rattle.rules.specs.Places.{wordAt, widthHere, columnHere};
 ghost use Rattle.sheet.specs.Held.{Passes, tableOf, settingsOf, indicatorOf, columnsOf};
+use rules::MOST_COLUMNS;
 use super::field;
 use super::places;
 use super::records::Columns;
@@ -111,7 +112,7 @@ pub fn columns(sheet: &[u8]) -> Columns
 {
     let place = places::columns_place(sheet);
     let count = field::size(sheet[place]);
-    let mut each = [NONE; 12];
+    let mut each = [NONE; MOST_COLUMNS];
     let mut at = place + 1;
     let mut i: usize = 0;
     while i < count {

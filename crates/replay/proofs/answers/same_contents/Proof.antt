@@ -3,12 +3,13 @@ use borrow.Author.Needs.{needs}
 use Prim.Native.Nat.{_-_, _≤_}
 use Rattle.replay.proofs.answers.same_contents.Statement.{statement}
 use Rattle.replay.proofs.answers.same_contents.Tie as tie
+use Rattle.rules.specs.Sheet.{mostColumns}
 
 abbrev Inv-loop : tie.InvT-loop
-Inv-loop text widths columns content i₀ i = i ≤ 12
+Inv-loop text widths columns content i₀ i = i ≤ mostColumns
 
 abbrev μ-loop : tie.MeasureT-loop
-μ-loop text widths columns content i₀ i = 12 - i
+μ-loop text widths columns content i₀ i = mostColumns - i
 
 pub same-contents-spec : {M : Type 1} → statement M
 same-contents-spec =

@@ -4,7 +4,7 @@ use mathlib.Core.Path.{_≡_}
 use native.Mathlib.Omega.{arith}
 use lib.ListN.{replicate}
 use borrow.Author.Needs.{needs}
-use Rattle.rules.specs.Sheet.{noColumn}
+use Rattle.rules.specs.Sheet.{noColumn, mostColumns}
 use Rattle.rules.specs.Places.{byteAt, columnsPlace}
 use Rattle.sheet.specs.Held.{Passes, tableOf}
 use Rattle.sheet.proofs.Held.{room, columns-inside, columns-whole, column-copied}
@@ -13,7 +13,7 @@ use Rattle.sheet.proofs.settings.columns.Statement.{statement}
 use Rattle.sheet.proofs.settings.columns.Tie as tie
 
 abbrev Inv-loop : tie.InvT-loop
-Inv-loop sheet place count each₀ at₀ i₀ each at i = Passes sheet × ((i ≤ count) × ((count ≡ byteAt sheet (columnsPlace sheet)) × ((at ≡ columnsPlace sheet + 1 + 11 * i) × Copied (tableOf sheet .columns) (replicate 12 noColumn) i each)))
+Inv-loop sheet place count each₀ at₀ i₀ each at i = Passes sheet × ((i ≤ count) × ((count ≡ byteAt sheet (columnsPlace sheet)) × ((at ≡ columnsPlace sheet + 1 + 11 * i) × Copied (tableOf sheet .columns) (replicate mostColumns noColumn) i each)))
 
 abbrev μ-loop : tie.MeasureT-loop
 μ-loop sheet place count each₀ at₀ i₀ each at i = count - i
