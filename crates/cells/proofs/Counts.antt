@@ -48,7 +48,8 @@ place-most (suc n) w d pos [] [] = omega arith
 place-most (suc n) w d pos (x ∷ l) [] = omega arith
 place-most (suc n) w d pos l (p ∷ ps) = go (act w d l p) refl (view w d l p) (λ m qs. place-most n w d pos m qs)
   where
-    ended : (m : List ℕ) (b : Bool) → ltb (w - 2) (textWidth m) ≡ b → ((m : List ℕ) (qs : List (List ℕ)) → length (place n w d m qs) ≤ length m + span qs)
+    ended : (m : List ℕ) (b : Bool) → ltb (w - 2) (textWidth m) ≡ b →
+        ((m : List ℕ) (qs : List (List ℕ)) → length (place n w d m qs) ≤ length m + span qs)
         → length {A = List ℕ} (elim b as (λ x. List (List ℕ)) [ true ↦ m ∷ place n w d [] ps | false ↦ place n w d m ps ]) ≤ length m + span ps
     ended m true e ih = omega (arith, ih [] ps, ltb-true (w - 2) (textWidth m) e, width-length m)
     ended m false e ih = ih m ps
@@ -70,7 +71,8 @@ unfolding pieces span
 span-pieces d [] = refl
 span-pieces d (b ∷ t) = go (eqb b d) (span-pieces d t)
   where
-    go : (x : Bool) → span (pieces d t) ≡ length t + 1 → span (elim x as (λ y. List (List ℕ)) [ true ↦ [] ∷ pieces d t | false ↦ onto b (pieces d t) ]) ≡ suc (length t) + 1
+    go : (x : Bool) → span (pieces d t) ≡ length t + 1 → span (elim x as (λ y. List (List ℕ))
+        [ true ↦ [] ∷ pieces d t | false ↦ onto b (pieces d t) ]) ≡ suc (length t) + 1
     go true e = omega arith
     go false e = omega (arith, onto-span b (pieces d t) (omega arith))
 
@@ -121,7 +123,8 @@ module _ (s : List ℕ) (w d : ℕ) (all : Lines) where
     unfolding span
     counting-room h m l = omega (arith, C .few, ap span (lines-some s c h))
 
-    pub counting-on : 0 < c .left → (m k : ℕ) → m ≡ length (wrapLine w d (firstLine s c)) → m ≤ length (firstLine s c) + 1 → k ≡ n + m → (r : Lines) → LinesNext s c r → Counting s w d all k r
+    pub counting-on : 0 < c .left → (m k : ℕ) → m ≡ length (wrapLine w d (firstLine s c)) → m ≤ length (firstLine s c) + 1 → k ≡ n + m → (r : Lines) →
+        LinesNext s c r → Counting s w d all k r
     unfolding span
     counting-on h m k e l i r x =
         let z : length (wrapLines w d (linesIn s c)) ≡ m + length (wrapLines w d (drop 1 (linesIn s c))) =

@@ -122,12 +122,14 @@ module _ (s : List ℕ) (w d : ℕ) where
         fits = omega (arith, width-length []);
       }
 
-  pub taken-found : (c : Lines) → linesEnd s c ≤ length s → (ls : List (List ℕ)) (p : Part) (r : Next) → HeadIs w d (firstLine s c) ls p → r ≡ taken c p → r .found ≡ true
+  pub taken-found : (c : Lines) → linesEnd s c ≤ length s → (ls : List (List ℕ)) (p : Part) (r : Next) → HeadIs w d (firstLine s c) ls p → r ≡ taken c
+      p → r .found ≡ true
       → FirstOf s w d (ls ++ wrapLines w d (drop 1 (linesIn s c))) r
   taken-found c h ls (Line a e n) r l q f = rw q (found-first c h ls a e n l)
   taken-found c h ls Nothing r l q f = absurd (never (sym (ap (λ (x : Next). x .found) q) ∙ f))
 
-  pub taken-none : (c : Lines) (t : List ℕ) (ls : List (List ℕ)) (p : Part) (r : Next) → HeadIs w d t ls p → r ≡ taken c p → r .found ≡ false → ls ≡ []
+  pub taken-none : (c : Lines) (t : List ℕ) (ls : List (List ℕ)) (p : Part) (r : Next) → HeadIs w d t ls p → r ≡ taken c p → r .found ≡ false → ls ≡
+      []
   taken-none c t ls (Line a e n) r l q f = absurd (never (sym f ∙ ap (λ (x : Next). x .found) q))
   taken-none c t ls Nothing r l q f = l
 
@@ -146,7 +148,8 @@ module _ (s : List ℕ) (w d : ℕ) (pos : 0 < w) (all : Lines) where
     pub seeking-here : 0 < c .left → wrapLines w d (linesIn s all) ≡ wrapLine w d (firstLine s c) ++ wrapLines w d (drop 1 (linesIn s c))
     seeking-here h = S .same ∙ ap (wrapLines w d) (lines-some s c h) ∙ wrap-more w d (firstLine s c) (drop 1 (linesIn s c))
 
-    module _ (some : 0 < c .left) (t : List ℕ) (e : t ≡ firstLine s c) (p : Part) (l : HeadIs w d t (wrapLine w d t) p) (r : Next) (q : r ≡ taken c p) where
+    module _ (some : 0 < c .left) (t : List ℕ) (e : t ≡ firstLine s c) (p : Part) (l : HeadIs w d t (wrapLine w d t) p) (r : Next) (q : r ≡ taken c p)
+        where
       head-here : HeadIs w d (firstLine s c) (wrapLine w d (firstLine s c)) p
       head-here = subst (λ (x : List ℕ). HeadIs w d x (wrapLine w d x) p) e l
 

@@ -22,16 +22,19 @@ use Rattle.formatting.specs.declared.content_format.VisibleColumn.{Visib
 use Rattle.formatting.specs.declared.content_format.Pending.{Pending}
 
 -- two pieces, one after the other
-pub two : (d : List ℕ) (at : ℕ) (a b d₁ d₂ : List ℕ) (p : ℕ) → d₁ ≡ putAt d at a → d₂ ≡ putAt d₁ p b → at + length a ≡ p → at ≤ length d → d₂ ≡ putAt d at (a ++ b)
+pub two : (d : List ℕ) (at : ℕ) (a b d₁ d₂ : List ℕ) (p : ℕ) → d₁ ≡ putAt d at a → d₂ ≡ putAt d₁ p b → at + length a ≡ p → at ≤ length d → d₂ ≡ putAt
+    d at (a ++ b)
 two d at a b d₁ d₂ p e₁ e₂ x h = e₂ ∙ ap (λ (t : List ℕ). putAt t p b) e₁ ∙ put-put d at a b p x h
 
 -- four pieces
-pub four : (d : List ℕ) (at : ℕ) (a b c e d₁ d₂ d₃ d₄ : List ℕ) (p q r : ℕ) → d₁ ≡ putAt d at a → d₂ ≡ putAt d₁ p b → d₃ ≡ putAt d₂ q c → d₄ ≡ putAt d₃ r e
+pub four : (d : List ℕ) (at : ℕ) (a b c e d₁ d₂ d₃ d₄ : List ℕ) (p q r : ℕ) → d₁ ≡ putAt d at a → d₂ ≡ putAt d₁ p b → d₃ ≡ putAt d₂ q c → d₄ ≡ putAt
+    d₃ r e
     → at + length a ≡ p → p + length b ≡ q → q + length c ≡ r → at ≤ length d → d₄ ≡ putAt d at (a ++ (b ++ (c ++ e)))
 four d at a b c e d₁ d₂ d₃ d₄ p q r e₁ e₂ e₃ e₄ x y z h =
     let f : d₂ ≡ putAt d at (a ++ b) = two d at a b d₁ d₂ p e₁ e₂ x h in
     let g : d₃ ≡ putAt d at ((a ++ b) ++ c) = two d at (a ++ b) c d₂ d₃ q f e₃ (omega (arith, length-append a b)) h in
-    let i : d₄ ≡ putAt d at (((a ++ b) ++ c) ++ e) = two d at ((a ++ b) ++ c) e d₃ d₄ r g e₄ (omega (arith, length-append a b, length-append (a ++ b) c)) h in
+    let i : d₄ ≡ putAt d at (((a ++ b) ++ c) ++ e) = two d at ((a ++ b) ++ c) e d₃ d₄ r g e₄
+          (omega (arith, length-append a b, length-append (a ++ b) c)) h in
     i ∙ ap (putAt d at) (simp append-assoc)
 
 -- an area as it is drawn: blanks, a text, what follows it, blanks
@@ -107,14 +110,16 @@ module _ (s : List ℕ) (w : ℕ) (t : Pending) (I : InSheet s w t) where
   pub pending-fits : t .line .end - t .line .start ≤ w
   pending-fits = omega (arith, I .fits, width-length (pendingText s t), pending-length)
 
-  module _ (bytes : List ℕ) (n : ℕ) (k : n ≤ length bytes) (m stop : ℕ) (l : m ≤ n) (q : stop ≡ t .line .start + min (t .line .end - t .line .start) (w - m)) where
+  module _ (bytes : List ℕ) (n : ℕ) (k : n ≤ length bytes) (m stop : ℕ) (l : m ≤ n)
+      (q : stop ≡ t .line .start + min (t .line .end - t .line .start) (w - m)) where
     -- how much of the cell line it takes
     pub shown-within : (t .line .start ≤ stop) × (stop ≤ length (firstLine s (t .line .cursor .lines)))
     shown-within = (omega arith, omega (arith, I .within, I .order))
 
     -- the part of the cell line and of the indicator that are shown
     pub shown-is : (cut : Bool) → m ≡ marksShown cut n w
-        → take (stop - t .line .start) (drop (t .line .start) (firstLine s (t .line .cursor .lines))) ++ take m bytes ≡ shownText s w (take n bytes) cut t
+        → take (stop - t .line .start) (drop (t .line .start) (firstLine s (t .line .cursor .lines))) ++ take m bytes ≡ shownText s w (take n bytes)
+            cut t
     unfolding shownText
     shown-is true e =
         let i = length-take-le n bytes k in
@@ -135,14 +140,17 @@ module _ (s : List ℕ) (w : ℕ) (t : Pending) (I : InSheet s w t) where
         rw (e, append-nil, z) (lent-slice (t .line .start) (t .line .end) (firstLine s (t .line .cursor .lines)))
 
     -- how much of the column it takes
-    pub shown-fits : m ≤ w → textWidth (take (stop - t .line .start) (drop (t .line .start) (firstLine s (t .line .cursor .lines)))) + textWidth (take m bytes) ≤ w
+    pub shown-fits : m ≤ w → textWidth (take (stop - t .line .start) (drop (t .line .start) (firstLine s (t .line .cursor .lines)))) + textWidth
+        (take m bytes) ≤ w
     shown-fits x =
         let a = take (stop - t .line .start) (drop (t .line .start) (firstLine s (t .line .cursor .lines))) in
         let f = pending-fits in
-        omega (arith, width-length a, width-length (take m bytes), length-take-le m bytes (omega arith), length-take (stop - t .line .start) (drop (t .line .start) (firstLine s (t .line .cursor .lines))))
+        omega (arith, width-length a, width-length (take m bytes), length-take-le m bytes (omega arith), length-take (stop - t .line .start)
+            (drop (t .line .start) (firstLine s (t .line .cursor .lines))))
 
 -- whether the line is cut is told by the line after it
-pub piece-is : (s : List ℕ) (v : VisibleColumn) (t r : Pending) (ind : List ℕ) (last cut : Bool) → cut ≡ (last && r .line .found) → After s (v .width) t r
+pub piece-is : (s : List ℕ) (v : VisibleColumn) (t r : Pending) (ind : List ℕ) (last cut : Bool) → cut ≡ (last && r .line .found) → After s (v .width)
+    t r
     → areaIn v (t .alignment) (shownText s (v .width) ind cut t) ≡ columnPiece s v t ind last
 unfolding columnPiece
 piece-is s v t r ind last cut e a = rw (e, a .line .found)

@@ -49,7 +49,8 @@ pub measuring-begins : (s : List ℕ) (view : View) (c : Cells) → cellsEnd s c
 unfolding heightUpTo
 measuring-begins s view c h = record { passing = passing-begins s view c h; tall = refl }
 
-pub measuring-on : (s : List ℕ) (view : View) → Rising view → (xs : List Cell) (left : Cells) (passed most i : ℕ) → Measuring s view xs left passed most i → i < view .count
+pub measuring-on : (s : List ℕ) (view : View) → Rising view → (xs : List Cell) (left : Cells) (passed most i : ℕ) → Measuring s view xs left passed
+    most i → i < view .count
     → (next : Cells) (n m : ℕ) → cellsIn s next ≡ drop (visibleAt view i .number - passed) (cellsIn s left) → cellsEnd s next ≡ cellsEnd s left
     → n ≡ cellHeight (firstCell s next) (visibleAt view i) → m ≡ max most n → Measuring s view xs next (visibleAt view i .number) m (i + 1)
 unfolding heightUpTo
@@ -60,7 +61,8 @@ measuring-on s view R xs left passed most i M h next n m e f o x =
       tall = rw (add-one i) (x ∙ rw (M .tall, o, d));
     }
 
-pub measuring-done : (s : List ℕ) (view : View) (xs : List Cell) (left : Cells) (passed most i : ℕ) → Measuring s view xs left passed most i → view .count ≤ i → most ≡ heightUpTo xs view (view .count)
+pub measuring-done : (s : List ℕ) (view : View) (xs : List Cell) (left : Cells) (passed most i : ℕ) → Measuring s view xs left passed most i →
+    view .count ≤ i → most ≡ heightUpTo xs view (view .count)
 measuring-done s view xs left passed most i M h = let w = M .passing .within in let e : i ≡ view .count = omega arith in rw e at (M .tall)
 
 -- ---- limits
@@ -71,7 +73,8 @@ length-cut w ind zero ls = refl
 length-cut w ind (suc h) ls = go (ltb (suc h) (length ls)) refl
   where
     go : (x : Bool) → ltb (suc h) (length ls) ≡ x
-        → length {A = List ℕ} (elim x as (λ z. List (List ℕ)) [ true ↦ take (suc h - 1) ls ++ (cutLine w ind (getD ls (suc h - 1) []) ∷ []) | false ↦ ls ]) ≡ limited (suc h) (length ls)
+        → length {A = List ℕ} (elim x as (λ z. List (List ℕ)) [ true ↦ take (suc h - 1) ls ++ (cutLine w ind (getD ls (suc h - 1) []) ∷ []) | false ↦
+            ls ]) ≡ limited (suc h) (length ls)
     go true e =
         let l = ltb-true (suc h) (length ls) e in
         length-append (take (suc h - 1) ls) (cutLine w ind (getD ls (suc h - 1) []) ∷ []) ∙ omega (arith, length-take-le (suc h - 1) ls (omega arith))
@@ -89,7 +92,8 @@ limited-max (suc h) a b = omega arith
 
 -- ---- a row
 
-cell-is : (t : Table) (ws : List ℕ) (r : Row) (i : ℕ) (v : VisibleColumn) → v ≡ shownOf t ws (numberOf t i) → cellHeight (getD (r .cells) (v .number) noCell) v ≡ length (wrapped t ws r (numberOf t i))
+cell-is : (t : Table) (ws : List ℕ) (r : Row) (i : ℕ) (v : VisibleColumn) → v ≡ shownOf t ws (numberOf t i) → cellHeight
+    (getD (r .cells) (v .number) noCell) v ≡ length (wrapped t ws r (numberOf t i))
 unfolding shownOf wrapped cellHeight
 cell-is t ws r i v e = rw e
 
@@ -97,10 +101,12 @@ module _ (t : Table) (ws : List ℕ) (r : Row) (view : View) (W : Views t ws vie
   lines-of : ℕ → ℕ
   lines-of i = length (cellLines t ws r (numberOf t i))
 
-  column-lines : (i : ℕ) → i < view .count → limited (r .limit) (cellHeight (getD (r .cells) (visibleAt view i .number) noCell) (visibleAt view i)) ≡ lines-of i
+  column-lines : (i : ℕ) → i < view .count → limited (r .limit) (cellHeight (getD (r .cells) (visibleAt view i .number) noCell) (visibleAt view i)) ≡
+      lines-of i
   unfolding lines-of cellLines
   column-lines i h =
-      ap (limited (r .limit)) (cell-is t ws r i (visibleAt view i) (W .each i h)) ∙ sym (length-cut (getD ws (numberOf t i) 0) (t .indicator) (r .limit) (wrapped t ws r (numberOf t i)))
+      ap (limited (r .limit)) (cell-is t ws r i (visibleAt view i) (W .each i h)) ∙ sym
+          (length-cut (getD ws (numberOf t i) 0) (t .indicator) (r .limit) (wrapped t ws r (numberOf t i)))
 
   up-to : (n : ℕ) → n ≤ view .count → limited (r .limit) (heightUpTo (r .cells) view n) ≡ greatest (map lines-of (upFrom 0 n))
   unfolding heightUpTo
@@ -108,7 +114,8 @@ module _ (t : Table) (ws : List ℕ) (r : Row) (view : View) (W : Views t ws vie
   up-to (suc n) h =
       let v = visibleAt view n in
       limited-max (r .limit) (heightUpTo (r .cells) view n) (cellHeight (getD (r .cells) (v .number) noCell) v)
-      ∙ rw (up-to n (omega arith), column-lines n (omega arith)) (sym (ap greatest (map-up lines-of n) ∙ greatest-snoc (map lines-of (upFrom 0 n)) (lines-of n)))
+      ∙ rw (up-to n (omega arith), column-lines n (omega arith)) (sym
+          (ap greatest (map-up lines-of n) ∙ greatest-snoc (map lines-of (upFrom 0 n)) (lines-of n)))
 
   -- what the limit leaves of the most lines of a visible column's cell is the row's height
   pub limited-height : limited (r .limit) (heightUpTo (r .cells) view (view .count)) ≡ height t ws r

@@ -41,7 +41,8 @@ column-packed v d a e f = rw (← e .1, ← f .1, e .0, f .0)
 
 pub pending-is : (x : List ℕ) (f : Bool) (d a : ℕ) → f ≡ eqb (getD x 0 0) 1 → d ≡ getD x 6 0 % 256 → a ≡ getD x 7 0 % 256
     → record {
-      line = record { found = f; start = getD x 1 0; end = getD x 2 0; cursor = record { lines = record { at = getD x 3 0; left = getD x 4 0 }; from = getD x 5 0 } };
+      line = record { found = f; start = getD x 1 0; end = getD x 2 0; cursor = record
+          { lines = record { at = getD x 3 0; left = getD x 4 0 }; from = getD x 5 0 } };
       delimiter = d;
       alignment = a;
     } ≡ pendingFrom x
@@ -49,7 +50,8 @@ unfolding pendingFrom
 pending-is x f d a g e h = rw (g, e, h)
 
 pub pending-packed : (t : Pending) (f d a : ℕ) → t .line .found ≡ eqb f 1 → (d ≡ t .delimiter) × (d ≡ d % 256) → (a ≡ t .alignment) × (a ≡ a % 256)
-    → t ≡ pendingFrom (f ∷ t .line .start ∷ t .line .end ∷ t .line .cursor .lines .at ∷ t .line .cursor .lines .left ∷ t .line .cursor .from ∷ d ∷ a ∷ [])
+    → t ≡ pendingFrom (f ∷ t .line .start ∷ t .line .end ∷ t .line .cursor .lines .at ∷ t .line .cursor .lines .left ∷ t .line .cursor .from ∷ d ∷ a ∷
+        [])
 unfolding pendingFrom
 pending-packed t f d a g e h = rw (← g, ← e .1, ← h .1, e .0, h .0)
 
@@ -87,7 +89,8 @@ pendings-length st = length-map st pendingFrom
 
 -- ---- the loops: what they have read is the column and the line that their invariants speak of
 
-module _ (s : List ℕ) (cols : List (List ℕ)) (n : ℕ) (st₀ : List (List ℕ)) (R : ReadyAll s (viewOf cols n) (pendingsOf st₀)) (st : List (List ℕ)) (more : Bool) (i : ℕ)
+module _ (s : List ℕ) (cols : List (List ℕ)) (n : ℕ) (st₀ : List (List ℕ)) (R : ReadyAll s (viewOf cols n) (pendingsOf st₀)) (st : List (List ℕ))
+    (more : Bool) (i : ℕ)
     (P : Passing s (viewOf cols n) (pendingsOf st₀) (pendingsOf st) more i) (h : i < n) (v : VisibleColumn) (t : Pending)
     (e : v ≡ columnFrom (getD cols i [])) (f : t ≡ pendingFrom (getD st i [])) where
   pub skip-ready : Ready s v t
@@ -97,14 +100,18 @@ module _ (s : List ℕ) (cols : List (List ℕ)) (n : ℕ) (st₀ : List (List �
       → Passing s (viewOf cols n) (pendingsOf st₀) (pendingsOf (set st i z)) m (i + 1)
   skip-on u z m a x y =
       rw (pendings-set st i z u y)
-      (passing-on s (viewOf cols n) (pendingsOf st₀) (pendingsOf st) more m i u (R .most) h P (rw (column-at cols n i, pending-at st i, ← e, ← f) a) x)
+      (passing-on s (viewOf cols n) (pendingsOf st₀) (pendingsOf st) more m i u (R .most) h P (rw (column-at cols n i, pending-at st i, ← e, ← f) a)
+          x)
 
-module _ (s : List ℕ) (cols : List (List ℕ)) (n : ℕ) (ind : Indicator) (style : TextStyle) (st₀ : List (List ℕ)) (last : Bool) (page₀ : List ℕ) (at₀ : ℕ)
+module _ (s : List ℕ) (cols : List (List ℕ)) (n : ℕ) (ind : Indicator) (style : TextStyle) (st₀ : List (List ℕ)) (last : Bool) (page₀ : List ℕ)
+    (at₀ : ℕ)
     (R : ReadyAll s (viewOf cols n) (pendingsOf st₀))
     (room : at₀ + length (build (linePiece s (viewOf cols n) (take (ind .count) (ind .characters)) style (pendingsOf st₀) last) n) ≤ length page₀)
     (page : List ℕ) (st : List (List ℕ)) (more : Bool) (at i : ℕ)
-    (D : Drawing s (viewOf cols n) (take (ind .count) (ind .characters)) style (pendingsOf st₀) last page₀ at₀ page (pendingsOf st) more at i) (h : i < n)
-    (v : VisibleColumn) (t : Pending) (j : Bool) (ev : v ≡ columnFrom (getD cols i [])) (et : t ≡ pendingFrom (getD st i [])) (ej : j ≡ lead i (style .joined)) where
+    (D : Drawing s (viewOf cols n) (take (ind .count) (ind .characters)) style (pendingsOf st₀) last page₀ at₀ page (pendingsOf st) more at i)
+        (h : i < n)
+    (v : VisibleColumn) (t : Pending) (j : Bool) (ev : v ≡ columnFrom (getD cols i [])) (et : t ≡ pendingFrom (getD st i []))
+        (ej : j ≡ lead i (style .joined)) where
   marks : List ℕ
   marks = take (ind .count) (ind .characters)
 
@@ -114,26 +121,32 @@ module _ (s : List ℕ) (cols : List (List ℕ)) (n : ℕ) (ind : Indicator) (st
   ft : t ≡ pendingAt (pendingsOf st) i
   ft = et ∙ sym (pending-at st i)
 
-  pub column-fits : ind .count ≤ length (ind .characters) → InSheet s (v .width) t × (Inside s (t .line .cursor) × ((0 < v .width) × (ind .count ≤ length (ind .characters))))
+  pub column-fits : ind .count ≤ length (ind .characters) → InSheet s (v .width) t ×
+      (Inside s (t .line .cursor) × ((0 < v .width) × (ind .count ≤ length (ind .characters))))
   column-fits k =
-      let r = column-ready s (viewOf cols n) (take (ind .count) (ind .characters)) style (pendingsOf st₀) last page₀ at₀ R page (pendingsOf st) more at i D h in
+      let r = column-ready s (viewOf cols n) (take (ind .count) (ind .characters)) style (pendingsOf st₀) last page₀ at₀ R page (pendingsOf st) more
+            at i D h in
       rw (fv, ft) (r .line, (r .inside, (r .wide, k)))
 
   pub column-room : at + (length (edge j (style .junction)) + (v .left + (v .width + v .right))) ≤ length page
   column-room =
-      rw (fv, ej) (drawing-room s (viewOf cols n) (take (ind .count) (ind .characters)) style (pendingsOf st₀) last page₀ at₀ R page (pendingsOf st) more at i D h room)
+      rw (fv, ej) (drawing-room s (viewOf cols n) (take (ind .count) (ind .characters)) style (pendingsOf st₀) last page₀ at₀ R page (pendingsOf st)
+          more at i D h room)
 
   pub column-drawn : (page₁ : List ℕ) (u : Pending) (at₁ : ℕ) (m : Bool) (z : List ℕ)
       → at₁ ≡ at + (length (edge j (style .junction)) + (v .left + (v .width + v .right))) → After s (v .width) t u
       → page₁ ≡ putAt page at (edge j (style .junction) ++ columnPiece s v t (take (ind .count) (ind .characters)) last)
       → length page₁ ≡ length page → m ≡ (more || u .line .found) → u ≡ pendingFrom z
-      → Drawing s (viewOf cols n) (take (ind .count) (ind .characters)) style (pendingsOf st₀) last page₀ at₀ page₁ (pendingsOf (set st i z)) m at₁ (i + 1)
+      → Drawing s (viewOf cols n) (take (ind .count) (ind .characters)) style (pendingsOf st₀) last page₀ at₀ page₁ (pendingsOf (set st i z)) m at₁
+          (i + 1)
   column-drawn page₁ u at₁ m z e a w l x y =
       rw (pendings-set st i z u y)
-      (drawing-on s (viewOf cols n) (take (ind .count) (ind .characters)) style (pendingsOf st₀) last page₀ at₀ R page (pendingsOf st) more at i D h page₁ u at₁ m room
+      (drawing-on s (viewOf cols n) (take (ind .count) (ind .characters)) style (pendingsOf st₀) last page₀ at₀ R page (pendingsOf st) more at i D h
+          page₁ u at₁ m room
       (rw (fv, ej) at e) (rw (fv, ft) at a) (rw (fv, ft, ej) at w) l x)
 
-module _ (s : List ℕ) (cols : List (List ℕ)) (n : ℕ) (R : Rising (viewOf cols n)) (W : WideAll (viewOf cols n)) (xs : List Cell) (left : Cells) (passed : ℕ) (i : ℕ)
+module _ (s : List ℕ) (cols : List (List ℕ)) (n : ℕ) (R : Rising (viewOf cols n)) (W : WideAll (viewOf cols n)) (xs : List Cell) (left : Cells)
+    (passed : ℕ) (i : ℕ)
     (h : i < n) (v : VisibleColumn) (e : v ≡ columnFrom (getD cols i [])) where
   at-i : v ≡ visibleAt (viewOf cols n) i
   at-i = e ∙ sym (column-at cols n i)
@@ -145,7 +158,8 @@ module _ (s : List ℕ) (cols : List (List ℕ)) (n : ℕ) (R : Rising (viewOf c
     pub open-order : passed ≤ v .number
     open-order = rw at-i (O .passing .order i (omega arith) h)
 
-    pub open-on : (next : Cells) (t : Pending) (m : Bool) (z : List ℕ) → cellsIn s next ≡ drop (v .number - passed) (cellsIn s left) → cellsEnd s next ≡ cellsEnd s left
+    pub open-on : (next : Cells) (t : Pending) (m : Bool) (z : List ℕ) → cellsIn s next ≡ drop (v .number - passed) (cellsIn s left) → cellsEnd s next
+        ≡ cellsEnd s left
         → OpenedAt s (firstCell s next) v t → m ≡ (more || t .line .found) → t ≡ pendingFrom z
         → Opening s (viewOf cols n) xs (pendingsOf (set st i z)) next (v .number) m (i + 1)
     open-on next t m z a b o x y =
@@ -160,7 +174,8 @@ module _ (s : List ℕ) (cols : List (List ℕ)) (n : ℕ) (R : Rising (viewOf c
         → k ≡ cellHeight (firstCell s next) v → m ≡ max most k → Measuring s (viewOf cols n) xs next (v .number) m (i + 1)
     tall-on next k m a b o x = rw at-i (measuring-on s (viewOf cols n) R xs left passed most i M h next k m (rw at-i at a) b (rw at-i at o) x)
 
-module _ (cols : List (List ℕ)) (n : ℕ) (style : RuleStyle) (page₀ : List ℕ) (at₀ : ℕ) (room : at₀ + length (build (rulePiece (viewOf cols n) style) n) ≤ length page₀)
+module _ (cols : List (List ℕ)) (n : ℕ) (style : RuleStyle) (page₀ : List ℕ) (at₀ : ℕ)
+    (room : at₀ + length (build (rulePiece (viewOf cols n) style) n) ≤ length page₀)
     (page : List ℕ) (at i : ℕ) (D : Ruling (viewOf cols n) style page₀ at₀ page at i) (h : i < n) (v : VisibleColumn) (j : Bool)
     (ev : v ≡ columnFrom (getD cols i [])) (ej : j ≡ lead i (style .joined)) where
   rv : v ≡ visibleAt (viewOf cols n) i
@@ -173,5 +188,6 @@ module _ (cols : List (List ℕ)) (n : ℕ) (style : RuleStyle) (page₀ : List 
   fill-room = rw (rv, ej) (ruling-room (viewOf cols n) style page₀ at₀ page at i D h room)
 
   pub fill-on : (page₁ : List ℕ) (at₁ : ℕ) → at₁ ≡ at + (length (edge j (style .junction)) + (v .left + (v .width + v .right)))
-      → page₁ ≡ putAt page at (edge j (style .junction) ++ ruleArea v (style .fill)) → length page₁ ≡ length page → Ruling (viewOf cols n) style page₀ at₀ page₁ at₁ (i + 1)
+      → page₁ ≡ putAt page at (edge j (style .junction) ++ ruleArea v (style .fill)) → length page₁ ≡ length page → Ruling (viewOf cols n) style page₀
+          at₀ page₁ at₁ (i + 1)
   fill-on page₁ at₁ e w l = ruling-on (viewOf cols n) style page₀ at₀ page at i D h page₁ at₁ room (rw (rv, ej) at e) (rw (rv, ej) at w) l

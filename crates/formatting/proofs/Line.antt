@@ -43,7 +43,8 @@ module _ (s : List ℕ) (view : View) where
   unfolding anyFound
   passing-begins ts h = record { within = omega arith; size = h; done = λ k l. absurd (omega arith); todo = λ k l. refl; found = refl }
 
-  pub passing-on : (ts₀ ts : List Pending) (more m : Bool) (i : ℕ) (u : Pending) → view .count ≤ mostColumns → i < view .count → Passing s view ts₀ ts more i
+  pub passing-on : (ts₀ ts : List Pending) (more m : Bool) (i : ℕ) (u : Pending) → view .count ≤ mostColumns → i < view .count → Passing s view ts₀ ts
+      more i
       → After s (visibleAt view i .width) (pendingAt ts i) u → m ≡ (more || u .line .found) → Passing s view ts₀ (set ts i u) m (i + 1)
   unfolding anyFound
   passing-on ts₀ ts more m i u l h p a e =
@@ -65,11 +66,13 @@ module _ (s : List ℕ) (view : View) where
   passing-from ts h = passing-begins ts h
 
   -- the same where only the cells count
-  pub passing-next : (ts₀ ts : List Pending) (i : ℕ) (u : Pending) → view .count ≤ mostColumns → i < view .count → Passing s view ts₀ ts (anyFound ts i) i
+  pub passing-next : (ts₀ ts : List Pending) (i : ℕ) (u : Pending) → view .count ≤ mostColumns → i < view .count → Passing s view ts₀ ts
+      (anyFound ts i) i
       → After s (visibleAt view i .width) (pendingAt ts i) u → Passing s view ts₀ (set ts i u) (anyFound (set ts i u) (i + 1)) (i + 1)
   passing-next ts₀ ts i u l h p a = let q = passing-on ts₀ ts (anyFound ts i) (anyFound ts i || u .line .found) i u l h p a refl in rw (q .found) at q
 
-  pub passing-done : (ts₀ ts : List Pending) (more : Bool) (i : ℕ) → view .count ≤ i → Passing s view ts₀ ts more i → AfterAll s view ts₀ ts × (more ≡ anyFound ts (view .count))
+  pub passing-done : (ts₀ ts : List Pending) (more : Bool) (i : ℕ) → view .count ≤ i → Passing s view ts₀ ts more i → AfterAll s view ts₀ ts ×
+      (more ≡ anyFound ts (view .count))
   passing-done ts₀ ts more i h p =
       let w = p .within in
       let e : i ≡ view .count = omega arith in
@@ -82,17 +85,20 @@ unfolding shownText
 shown-length s w ind true t h = short-cutLine w ind (pendingText s t)
 shown-length s w ind false t h = h .fits
 
-pub piece-length : (s : List ℕ) (v : VisibleColumn) (t : Pending) (ind : List ℕ) (last : Bool) → InSheet s (v .width) t → length (columnPiece s v t ind last) ≡ v .left + (v .width + v .right)
+pub piece-length : (s : List ℕ) (v : VisibleColumn) (t : Pending) (ind : List ℕ) (last : Bool) → InSheet s (v .width) t → length
+    (columnPiece s v t ind last) ≡ v .left + (v .width + v .right)
 unfolding columnPiece
 piece-length s v t ind last h = area-length v (t .alignment) _ (shown-length s (v .width) ind (last && ltb 0 (length (following s (v .width) t))) t h)
 
 module _ (s : List ℕ) (view : View) (ind : List ℕ) (style : TextStyle) (ts : List Pending) (last : Bool) where
-  pub line-is : lineBytes s view ind style ts last ≡ edge (style .opens) (style .left) ++ (build (linePiece s view ind style ts last) (view .count) ++ (edge (style .closes) (style .right) ++ (10 ∷ [])))
+  pub line-is : lineBytes s view ind style ts last ≡ edge (style .opens) (style .left) ++
+      (build (linePiece s view ind style ts last) (view .count) ++ (edge (style .closes) (style .right) ++ (10 ∷ [])))
   unfolding lineBytes
   line-is = refl
 
   pub line-length : length (lineBytes s view ind style ts last)
-      ≡ length (edge (style .opens) (style .left)) + length (build (linePiece s view ind style ts last) (view .count)) + length (edge (style .closes) (style .right)) + 1
+      ≡ length (edge (style .opens) (style .left)) + length (build (linePiece s view ind style ts last) (view .count)) + length
+          (edge (style .closes) (style .right)) + 1
   unfolding lineBytes
   line-length =
       let l = edge (style .opens) (style .left) in
@@ -101,8 +107,10 @@ module _ (s : List ℕ) (view : View) (ind : List ℕ) (style : TextStyle) (ts :
       omega (arith, length-append l (b ++ (r ++ (10 ∷ []))), length-append b (r ++ (10 ∷ [])), length-append r (10 ∷ []))
 
   -- the whole, once its last byte is stored
-  pub line-whole : (d d₁ d₂ d₃ : List ℕ) (p q e : ℕ) → d₁ ≡ putAt d 0 (edge (style .opens) (style .left)) → d₂ ≡ putAt d₁ p (build (linePiece s view ind style ts last) (view .count))
-      → d₃ ≡ putAt d₂ q (edge (style .closes) (style .right)) → length (edge (style .opens) (style .left)) ≡ p → p + length (build (linePiece s view ind style ts last) (view .count)) ≡ q
+  pub line-whole : (d d₁ d₂ d₃ : List ℕ) (p q e : ℕ) → d₁ ≡ putAt d 0 (edge (style .opens) (style .left)) → d₂ ≡ putAt d₁ p
+      (build (linePiece s view ind style ts last) (view .count))
+      → d₃ ≡ putAt d₂ q (edge (style .closes) (style .right)) → length (edge (style .opens) (style .left)) ≡ p → p + length
+          (build (linePiece s view ind style ts last) (view .count)) ≡ q
       → q + length (edge (style .closes) (style .right)) ≡ e → e < length d₃ → set d₃ e 10 ≡ over (lineBytes s view ind style ts last) d
   line-whole d d₁ d₂ d₃ p q e e₁ e₂ e₃ x y z h =
       let l = edge (style .opens) (style .left) in
@@ -111,44 +119,54 @@ module _ (s : List ℕ) (view : View) (ind : List ℕ) (style : TextStyle) (ts :
       let f : d₂ ≡ putAt d 0 (l ++ b) = two d 0 l b d₁ d₂ p e₁ e₂ (omega arith) (omega arith) in
       let g : d₃ ≡ putAt d 0 ((l ++ b) ++ r) = two d 0 (l ++ b) r d₂ d₃ q f e₃ (omega (arith, length-append l b)) (omega arith) in
       let i : set d₃ e 10 ≡ putAt d 0 (((l ++ b) ++ r) ++ (10 ∷ [])) =
-      two d 0 ((l ++ b) ++ r) (10 ∷ []) d₃ (set d₃ e 10) e g (put-one d₃ e 10 h) (omega (arith, length-append l b, length-append (l ++ b) r)) (omega arith) in
+      two d 0 ((l ++ b) ++ r) (10 ∷ []) d₃ (set d₃ e 10) e g (put-one d₃ e 10 h) (omega (arith, length-append l b, length-append (l ++ b) r))
+          (omega arith) in
       i ∙ ap (putAt d 0) ((simp append-assoc) ∙ sym line-is) ∙ sym (over-put-zero (lineBytes s view ind style ts last) d)
 
 -- ---- the columns drawn one after another
 
-pub record Drawing (s : List ℕ) (view : View) (ind : List ℕ) (style : TextStyle) (ts₀ : List Pending) (last : Bool) (page₀ : List ℕ) (at₀ : ℕ) (page : List ℕ) (ts : List Pending) (more : Bool) (at i : ℕ) : Type 0 where
+pub record Drawing (s : List ℕ) (view : View) (ind : List ℕ) (style : TextStyle) (ts₀ : List Pending) (last : Bool) (page₀ : List ℕ) (at₀ : ℕ)
+    (page : List ℕ) (ts : List Pending) (more : Bool) (at i : ℕ) : Type 0 where
   pub passing : Passing s view ts₀ ts more i
   pub place : at ≡ at₀ + length (build (linePiece s view ind style ts₀ last) i)
   pub text : page ≡ putAt page₀ at₀ (build (linePiece s view ind style ts₀ last) i)
   pub size : length page ≡ length page₀
 
-module _ (s : List ℕ) (view : View) (ind : List ℕ) (style : TextStyle) (ts₀ : List Pending) (last : Bool) (page₀ : List ℕ) (at₀ : ℕ) (R : ReadyAll s view ts₀) where
+module _ (s : List ℕ) (view : View) (ind : List ℕ) (style : TextStyle) (ts₀ : List Pending) (last : Bool) (page₀ : List ℕ) (at₀ : ℕ)
+    (R : ReadyAll s view ts₀) where
   pub drawing-begins : Drawing s view ind style ts₀ last page₀ at₀ page₀ ts₀ false at₀ 0
   drawing-begins = record { passing = passing-begins s view ts₀ (R .size); place = omega arith; text = sym (put-nil page₀ at₀); size = refl }
 
-  module _ (page : List ℕ) (ts : List Pending) (more : Bool) (at i : ℕ) (D : Drawing s view ind style ts₀ last page₀ at₀ page ts more at i) (h : i < view .count) where
+  module _ (page : List ℕ) (ts : List Pending) (more : Bool) (at i : ℕ) (D : Drawing s view ind style ts₀ last page₀ at₀ page ts more at i)
+      (h : i < view .count) where
     ready : Ready s (visibleAt view i) (pendingAt ts i)
     ready = rw (D .passing .todo i (omega arith)) (R .each i h)
 
     pub column-ready : Ready s (visibleAt view i) (pendingAt ts i)
     column-ready = ready
 
-    piece-at : edge (lead i (style .joined)) (style .junction) ++ columnPiece s (visibleAt view i) (pendingAt ts i) ind last ≡ linePiece s view ind style ts₀ last i
+    piece-at : edge (lead i (style .joined)) (style .junction) ++ columnPiece s (visibleAt view i) (pendingAt ts i) ind last ≡ linePiece s view ind
+        style ts₀ last i
     unfolding linePiece
     piece-at = rw (D .passing .todo i (omega arith))
 
-    here-length : length (linePiece s view ind style ts₀ last i) ≡ length (edge (lead i (style .joined)) (style .junction)) + (visibleAt view i .left + (visibleAt view i .width + visibleAt view i .right))
+    here-length : length (linePiece s view ind style ts₀ last i) ≡ length (edge (lead i (style .joined)) (style .junction)) +
+        (visibleAt view i .left + (visibleAt view i .width + visibleAt view i .right))
     here-length =
         sym (ap length piece-at)
         ∙ length-append (edge (lead i (style .joined)) (style .junction)) (columnPiece s (visibleAt view i) (pendingAt ts i) ind last)
-        ∙ ap (λ n. length (edge (lead i (style .joined)) (style .junction)) + n) (piece-length s (visibleAt view i) (pendingAt ts i) ind last (ready .line))
+        ∙ ap (λ n. length (edge (lead i (style .joined)) (style .junction)) + n)
+            (piece-length s (visibleAt view i) (pendingAt ts i) ind last (ready .line))
 
     pub drawing-room : at₀ + length (build (linePiece s view ind style ts₀ last) (view .count)) ≤ length page₀
-        → at + (length (edge (lead i (style .joined)) (style .junction)) + (visibleAt view i .left + (visibleAt view i .width + visibleAt view i .right))) ≤ length page
+        → at + (length (edge (lead i (style .joined)) (style .junction)) +
+            (visibleAt view i .left + (visibleAt view i .width + visibleAt view i .right))) ≤ length page
     drawing-room r = omega (arith, D .place, D .size, here-length, build-room (linePiece s view ind style ts₀ last) i (view .count) h)
 
-    pub drawing-on : (page₁ : List ℕ) (u : Pending) (at₁ : ℕ) (m : Bool) → at₀ + length (build (linePiece s view ind style ts₀ last) (view .count)) ≤ length page₀
-        → at₁ ≡ at + (length (edge (lead i (style .joined)) (style .junction)) + (visibleAt view i .left + (visibleAt view i .width + visibleAt view i .right)))
+    pub drawing-on : (page₁ : List ℕ) (u : Pending) (at₁ : ℕ) (m : Bool) → at₀ + length (build (linePiece s view ind style ts₀ last) (view .count)) ≤
+        length page₀
+        → at₁ ≡ at + (length (edge (lead i (style .joined)) (style .junction)) +
+            (visibleAt view i .left + (visibleAt view i .width + visibleAt view i .right)))
         → After s (visibleAt view i .width) (pendingAt ts i) u
         → page₁ ≡ putAt page at (edge (lead i (style .joined)) (style .junction) ++ columnPiece s (visibleAt view i) (pendingAt ts i) ind last)
         → length page₁ ≡ length page → m ≡ (more || u .line .found) → Drawing s view ind style ts₀ last page₀ at₀ page₁ (set ts i u) m at₁ (i + 1)
@@ -158,11 +176,13 @@ module _ (s : List ℕ) (view : View) (ind : List ℕ) (style : TextStyle) (ts�
         record {
           passing = passing-on s view ts₀ ts more m i u (R .most) h (D .passing) a x;
           place = omega (arith, D .place, here-length, ap length b, length-append (build g i) (g i));
-          text = two page₀ at₀ (build g i) (g i) page page₁ at (D .text) (w ∙ ap (putAt page at) piece-at) (sym (D .place)) (omega arith) ∙ ap (putAt page₀ at₀) b;
+          text = two page₀ at₀ (build g i) (g i) page page₁ at (D .text) (w ∙ ap (putAt page at) piece-at) (sym (D .place)) (omega arith) ∙ ap
+              (putAt page₀ at₀) b;
           size = l ∙ D .size;
         }
 
-  pub drawing-done : (page : List ℕ) (ts : List Pending) (more : Bool) (at i : ℕ) → Drawing s view ind style ts₀ last page₀ at₀ page ts more at i → view .count ≤ i
+  pub drawing-done : (page : List ℕ) (ts : List Pending) (more : Bool) (at i : ℕ) → Drawing s view ind style ts₀ last page₀ at₀ page ts more at i →
+      view .count ≤ i
       → Drawing s view ind style ts₀ last page₀ at₀ page ts more at (view .count)
   drawing-done page ts more at i D h =
       let w = D .passing .within in
@@ -174,6 +194,7 @@ lead-some zero joined h = absurd (h refl)
 lead-some (suc i) joined h = refl
 
 -- a column that isn't passed yet is ready
-pub passing-ready : (s : List ℕ) (view : View) (ts₀ ts : List Pending) (more : Bool) (i : ℕ) → ReadyAll s view ts₀ → Passing s view ts₀ ts more i → i < view .count
+pub passing-ready : (s : List ℕ) (view : View) (ts₀ ts : List Pending) (more : Bool) (i : ℕ) → ReadyAll s view ts₀ → Passing s view ts₀ ts more i → i
+    < view .count
     → Ready s (visibleAt view i) (pendingAt ts i)
 passing-ready s view ts₀ ts more i R p h = rw (p .todo i (omega arith)) (R .each i h)

@@ -73,30 +73,6 @@ opened-cell s c x X v wide r e f g =
       alignment = z;
     }
 
--- ---- cells passed over
-
-drop-none : (n m : ℕ) (xs : List Cell) → n ≤ m → drop n xs ≡ [] → drop m xs ≡ []
-drop-none n m xs h e =
-    let z : n + (m - n) ≡ m = omega arith in
-    sym (ap (λ k. drop k xs) z) ∙ sym (drop-drop (m - n) n xs) ∙ rw e (nil-drop (m - n))
-  where
-    nil-drop : (k : ℕ) → drop {A = Cell} k [] ≡ []
-    nil-drop zero = refl
-    nil-drop (suc k) = refl
-
-none-left : (s : List ℕ) (c : Cells) → c .left ≡ 0 → cellsIn s c ≡ []
-unfolding cellsIn parts
-none-left s c h = rw h
-
-pub cells-used : (s : List ℕ) (c₀ c : Cells) (i n : ℕ) → i ≤ n → c .left ≡ 0 → cellsIn s c ≡ drop i (cellsIn s c₀) → cellsIn s c ≡ drop n (cellsIn s c₀)
-cells-used s c₀ c i n h l e = none-left s c l ∙ sym (drop-none i n (cellsIn s c₀) h (sym e ∙ none-left s c l))
-
-pub cells-on : (s : List ℕ) (c₀ c r : Cells) (i : ℕ) → cellsIn s c ≡ drop i (cellsIn s c₀) → CellsNext s c r → cellsIn s r ≡ drop (i + 1) (cellsIn s c₀)
-cells-on s c₀ c r i e n = n .cells ∙ ap (drop 1) e ∙ drop-drop 1 i (cellsIn s c₀)
-
-pub cells-done : (s : List ℕ) (c₀ c : Cells) (i n : ℕ) → i ≤ n → n ≤ i → cellsIn s c ≡ drop i (cellsIn s c₀) → cellsIn s c ≡ drop n (cellsIn s c₀)
-cells-done s c₀ c i n h k e = let z : i ≡ n = omega arith in rw z at e
-
 -- ---- a row's cells, column by column
 
 -- before visible column i, `passed` cells of xs are passed
@@ -109,7 +85,8 @@ pub record Passing (s : List ℕ) (view : View) (xs : List Cell) (left : Cells) 
 pub passing-begins : (s : List ℕ) (view : View) (c : Cells) → cellsEnd s c ≤ length s → Passing s view (cellsIn s c) c 0 0
 passing-begins s view c h = record { within = omega arith; cells = refl; ends = h; order = λ k x y. omega arith }
 
-module _ (s : List ℕ) (view : View) (xs : List Cell) (left : Cells) (passed i : ℕ) (P : Passing s view xs left passed i) (h : i < view .count) (next : Cells) (e : cellsIn s next ≡ drop (visibleAt view i .number - passed) (cellsIn s left)) where
+module _ (s : List ℕ) (view : View) (xs : List Cell) (left : Cells) (passed i : ℕ) (P : Passing s view xs left passed i) (h : i < view .count)
+    (next : Cells) (e : cellsIn s next ≡ drop (visibleAt view i .number - passed) (cellsIn s left)) where
   cells-here : cellsIn s next ≡ drop (visibleAt view i .number) xs
   cells-here =
       let n = visibleAt view i .number in
@@ -134,13 +111,17 @@ pub record Opening (s : List ℕ) (view : View) (xs : List Cell) (ts : List Pend
   pub done : (k : ℕ) → k < i → OpenedAt s (getD xs (visibleAt view k .number) noCell) (visibleAt view k) (pendingAt ts k)
   pub found : more ≡ anyFound ts i
 
-pub opening-begins : (s : List ℕ) (view : View) (c : Cells) (ts : List Pending) → length ts ≡ mostColumns → cellsEnd s c ≤ length s → Opening s view (cellsIn s c) ts c 0 false 0
+pub opening-begins : (s : List ℕ) (view : View) (c : Cells) (ts : List Pending) → length ts ≡ mostColumns → cellsEnd s c ≤ length s → Opening s view
+    (cellsIn s c) ts c 0 false 0
 unfolding anyFound
 opening-begins s view c ts l h = record { passing = passing-begins s view c h; size = l; done = λ k x. absurd (omega arith); found = refl }
 
-module _ (s : List ℕ) (view : View) (R : Rising view) (xs : List Cell) (ts : List Pending) (left : Cells) (passed : ℕ) (more : Bool) (i : ℕ) (O : Opening s view xs ts left passed more i) (h : i < view .count) where
-  pub opening-on : (next : Cells) (t : Pending) (m : Bool) → cellsIn s next ≡ drop (visibleAt view i .number - passed) (cellsIn s left) → cellsEnd s next ≡ cellsEnd s left
-      → OpenedAt s (firstCell s next) (visibleAt view i) t → m ≡ (more || t .line .found) → Opening s view xs (set ts i t) next (visibleAt view i .number) m (i + 1)
+module _ (s : List ℕ) (view : View) (R : Rising view) (xs : List Cell) (ts : List Pending) (left : Cells) (passed : ℕ) (more : Bool) (i : ℕ)
+    (O : Opening s view xs ts left passed more i) (h : i < view .count) where
+  pub opening-on : (next : Cells) (t : Pending) (m : Bool) → cellsIn s next ≡ drop (visibleAt view i .number - passed) (cellsIn s left) → cellsEnd s
+      next ≡ cellsEnd s left
+      → OpenedAt s (firstCell s next) (visibleAt view i) t → m ≡ (more || t .line .found) → Opening s view xs (set ts i t) next
+          (visibleAt view i .number) m (i + 1)
   unfolding anyFound
   opening-on next t m e f o x =
       let k : i < length ts = omega (arith, O .size, R .most) in
@@ -156,7 +137,8 @@ module _ (s : List ℕ) (view : View) (R : Rising view) (xs : List Cell) (ts : L
         found = rw (add-one i) (x ∙ rw (O .found, same-below ts i i t (omega arith), getD-set-same ts i t noPending k));
       }
 
-pub opening-done : (s : List ℕ) (view : View) (xs : List Cell) (ts : List Pending) (left : Cells) (passed : ℕ) (more : Bool) (i : ℕ) → Opening s view xs ts left passed more i → view .count ≤ i
+pub opening-done : (s : List ℕ) (view : View) (xs : List Cell) (ts : List Pending) (left : Cells) (passed : ℕ) (more : Bool) (i : ℕ) → Opening s view
+    xs ts left passed more i → view .count ≤ i
     → OpenedRow s xs view ts × (more ≡ anyFound ts (view .count))
 opening-done s view xs ts left passed more i O h =
     let w = O .passing .within in

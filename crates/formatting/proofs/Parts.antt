@@ -28,7 +28,8 @@ part-none b =
     }
 
 -- one line that fits
-pub part-line : (l b a : List ℕ) → length l + 1 ≤ length b → a ≡ over (l ++ (10 ∷ [])) b → PartIs (l ∷ []) b a (record { lines = 1; bytes = length l + 1; whole = true })
+pub part-line : (l b a : List ℕ) → length l + 1 ≤ length b → a ≡ over (l ++ (10 ∷ [])) b → PartIs (l ∷ []) b a
+    (record { lines = 1; bytes = length l + 1; whole = true })
 part-line l b a h e =
     let f : fitting (length b) (l ∷ []) ≡ l ∷ [] = fitting-more (length b) l [] h ∙ ap (λ ls. l ∷ ls) (fitting-none (length b - (length l + 1))) in
     record {
@@ -39,7 +40,8 @@ part-line l b a h e =
     }
 
 -- no room for the first
-pub part-full : (l : List ℕ) (ls : List (List ℕ)) (b : List ℕ) → length b < length l + 1 → PartIs (l ∷ ls) b b (record { lines = 0; bytes = 0; whole = false })
+pub part-full : (l : List ℕ) (ls : List (List ℕ)) (b : List ℕ) → length b < length l + 1 → PartIs (l ∷ ls) b b
+    (record { lines = 0; bytes = 0; whole = false })
 part-full l ls b h =
     let f = fitting-stops (length b) l ls h in
     record {
@@ -68,8 +70,10 @@ leb-add a b c = go (leb b c) refl
     go false e = e ∙ sym (lt-leb (a + b) (a + c) (omega (arith, leb-false b c e)))
 
 -- a whole part, and another in what is left of the buffer
-pub part-join : (ls ms : List (List ℕ)) (b a c ys : List ℕ) (r q : Part) → PartIs ls b a r → r .whole ≡ true → PartIs ms (take (length a - r .bytes) (drop (r .bytes) a)) ys q
-    → c ≡ putMid (r .bytes) (length a - r .bytes) a ys → PartIs (ls ++ ms) b c (record { lines = r .lines + q .lines; bytes = r .bytes + q .bytes; whole = q .whole })
+pub part-join : (ls ms : List (List ℕ)) (b a c ys : List ℕ) (r q : Part) → PartIs ls b a r → r .whole ≡ true → PartIs ms
+    (take (length a - r .bytes) (drop (r .bytes) a)) ys q
+    → c ≡ putMid (r .bytes) (length a - r .bytes) a ys → PartIs (ls ++ ms) b c
+        (record { lines = r .lines + q .lines; bytes = r .bytes + q .bytes; whole = q .whole })
 part-join ls ms b a c ys r q P w Q e =
     let n = length b in
     let all = part-whole ls b a r P w in
@@ -87,7 +91,8 @@ part-join ls ms b a c ys r q P w Q e =
     let over-ls : a ≡ over (closed ls) b = P .page ∙ ap (λ l. over (closed l) b) (past .0) in
     record {
       lines = omega (arith, lines, P .lines, all, ap length (past .1), length-append ls (fitting (length b - length (closed ls)) ms));
-      bytes = omega (arith, bytes, at, ap (λ l. length (closed l)) (past .1), ap length both, length-append (closed ls) (closed (fitting (length b - length (closed ls)) ms)));
+      bytes = omega (arith, bytes, at, ap (λ l. length (closed l)) (past .1), ap length both, length-append (closed ls)
+          (closed (fitting (length b - length (closed ls)) ms)));
       page = e ∙ lent-back a (r .bytes) (closed (fitting (length b - length (closed ls)) ms)) ys room text
           ∙ ap (λ d. putAt d (r .bytes) (closed (fitting (length b - length (closed ls)) ms))) over-ls
           ∙ over-put (closed ls) b (closed (fitting (length b - length (closed ls)) ms)) (r .bytes) (sym at)

@@ -52,7 +52,8 @@ second-true false b e = let z : _≡_ {A = ℕ} 0 1 = cc in absurd (omega arith)
 -- ---- a row entered
 
 module _ (s : List ℕ) (view : View) (r : Row) (W : Views (tableOf s) (contents (tableOf s)) view) where
-  pub enters-first : (ts : List Pending) (more : Bool) → OpenedRow s (r .cells) view ts → more ≡ anyFound ts (view .count) → StandsAt s view r 0 more ts
+  pub enters-first : (ts : List Pending) (more : Bool) → OpenedRow s (r .cells) view ts → more ≡ anyFound ts (view .count) → StandsAt s view r 0 more
+      ts
   enters-first ts more o e =
       let R = opened-stands s (tableOf s) (contents (tableOf s)) r view ts W o in
       record { has = e ∙ sym (height-has s (tableOf s) (contents (tableOf s)) r view W 0 ts R ∙ rw (in-limit-0 (r .limit))); stands = λ _. R }
@@ -69,7 +70,8 @@ module _ (s : List ℕ) (view : View) (r : Row) (W : Views (tableOf s) (contents
         (sym (height-has s (tableOf s) (contents (tableOf s)) r view W j ts (S .stands e)) ∙ sym (S .has) ∙ e)
 
     -- the row goes on
-    pub stands-more : (limit : ℕ) → limit ≡ r .limit → (us : List Pending) (found m : Bool) → AfterAll s view ts us → found ≡ anyFound us (view .count)
+    pub stands-more : (limit : ℕ) → limit ≡ r .limit → (us : List Pending) (found m : Bool) → AfterAll s view ts us → found ≡ anyFound us
+        (view .count)
         → m ≡ (inLimit limit (j + 1) && found) → StandsAt s view r (j + 1) m us
     stands-more limit l us found m a f g =
         let R = stands-after s (tableOf s) (contents (tableOf s)) r view j ts us (S .stands e) a in
@@ -96,7 +98,8 @@ skipping-done s view r n ts false j b S e f =
 -- ---- lines drawn
 
 -- the lines from `first` up to `line` are written, and line `line` is pending, if the row has it
-pub record Running (s : List ℕ) (view : View) (y : TextStyle) (r : Row) (first : ℕ) (b page : List ℕ) (ts : List Pending) (more : Bool) (at line : ℕ) : Type 0 where
+pub record Running (s : List ℕ) (view : View) (y : TextStyle) (r : Row) (first : ℕ) (b page : List ℕ) (ts : List Pending) (more : Bool)
+    (at line : ℕ) : Type 0 where
   pub onward : first ≤ line
   pub stands : StandsAt s view r line more ts
   pub part : PartIs (take (line - first) (drop first (rowLines s y r))) b page (record { lines = line - first; bytes = at; whole = true })
@@ -128,30 +131,35 @@ module _ (s : List ℕ) (view : View) (y : TextStyle) (r : Row) (first : ℕ) (W
         pub line-here : lineBytes s view (take (i .count) (i .characters)) y ts last ≡ getD (rowLines s y r) line [] ++ (10 ∷ [])
         line-here =
             rw (M .are, ea, el)
-            (line-styled s (tableOf s) (contents (tableOf s)) r view W line ts (G .stands .stands e) y (stands-within s view r W line more ts (G .stands) e)
+            (line-styled s (tableOf s) (contents (tableOf s)) r view W line ts (G .stands .stands e) y
+                (stands-within s view r W line more ts (G .stands) e)
             ∙ ap (λ l. l ++ (10 ∷ [])) (sym (line-of s y r line less)))
 
         pub line-size : (size : ℕ) → Sized s y r size → length (lineBytes s view (take (i .count) (i .characters)) y ts last) ≡ size
         line-size size Z = ap length line-here ∙ length-append (getD (rowLines s y r) line []) (10 ∷ []) ∙ Z .each line less
 
         pub running-on : (size : ℕ) → Sized s y r size → size ≤ length page - at → (c ys : List ℕ) (us : List Pending) (found m : Bool) (n : ℕ)
-            → ys ≡ over (lineBytes s view (take (i .count) (i .characters)) y ts last) (take (length page - at) (drop at page)) → c ≡ putMid at (length page - at) page ys
+            → ys ≡ over (lineBytes s view (take (i .count) (i .characters)) y ts last) (take (length page - at) (drop at page)) → c ≡ putMid at
+                (length page - at) page ys
             → n ≡ length (lineBytes s view (take (i .count) (i .characters)) y ts last) → AfterAll s view ts us → found ≡ anyFound us (view .count)
             → m ≡ (inLimit limit (line + 1) && found) → Running s view y r first b c us m (at + n) (line + 1)
         running-on size Z room c ys us found m n o p q a f g =
             let l = getD (rowLines s y r) line [] in
             let lines = drop first (rowLines s y r) in
-            let wide : n ≡ length (getD (rowLines s y r) line []) + 1 = q ∙ ap length line-here ∙ length-append (getD (rowLines s y r) line []) (10 ∷ []) in
+            let wide : n ≡ length (getD (rowLines s y r) line []) + 1 = q ∙ ap length line-here ∙ length-append (getD (rowLines s y r) line [])
+                  (10 ∷ []) in
             let fits : length (getD (rowLines s y r) line []) + 1 ≤ length (take (length page - at) (drop at page)) =
             omega (arith, room, Z .each line less, ap length (lent page at), length-drop at page) in
             let one = part-line (getD (rowLines s y r) line []) (take (length page - at) (drop at page)) ys fits
             (o ∙ ap (λ t. over t (take (length page - at) (drop at page))) line-here) in
             let so-far = take (line - first) (drop first (rowLines s y r)) in
             let both = part-join (take (line - first) (drop first (rowLines s y r))) (getD (rowLines s y r) line [] ∷ []) b page c ys
-            (record { lines = line - first; bytes = at; whole = true }) (record { lines = 1; bytes = length (getD (rowLines s y r) line []) + 1; whole = true })
+            (record { lines = line - first; bytes = at; whole = true })
+                (record { lines = 1; bytes = length (getD (rowLines s y r) line []) + 1; whole = true })
             (G .part) refl one p in
             let k : line + 1 - first ≡ suc (line - first) = omega (arith, G .onward) in
-            let grown : take (line + 1 - first) (drop first (rowLines s y r)) ≡ take (line - first) (drop first (rowLines s y r)) ++ (getD (rowLines s y r) line [] ∷ []) =
+            let grown : take (line + 1 - first) (drop first (rowLines s y r)) ≡ take (line - first) (drop first (rowLines s y r)) ++
+                  (getD (rowLines s y r) line [] ∷ []) =
             ap (λ j. take j (drop first (rowLines s y r))) k ∙ take-suc (drop first (rowLines s y r)) (line - first) [] left ∙ rw here-at in
             let count : line + 1 - first ≡ line - first + 1 = omega (arith, G .onward) in
             record {
@@ -174,15 +182,20 @@ module _ (s : List ℕ) (view : View) (y : TextStyle) (r : Row) (first : ℕ) (W
     running-full e size Z h =
         let lines = drop first (rowLines s y r) in
         let rest = drop (suc (line - first)) (drop first (rowLines s y r)) in
-        let next : drop (line - first) (drop first (rowLines s y r)) ≡ getD (rowLines s y r) line [] ∷ drop (suc (line - first)) (drop first (rowLines s y r)) =
+        let next : drop (line - first) (drop first (rowLines s y r)) ≡ getD (rowLines s y r) line [] ∷ drop (suc (line - first))
+              (drop first (rowLines s y r)) =
         drop-cons (drop first (rowLines s y r)) (line - first) [] (left e) ∙ rw (here-at e) in
         let whole : drop first (rowLines s y r)
-        ≡ take (line - first) (drop first (rowLines s y r)) ++ (getD (rowLines s y r) line [] ∷ drop (suc (line - first)) (drop first (rowLines s y r))) =
+        ≡ take (line - first) (drop first (rowLines s y r)) ++ (getD (rowLines s y r) line [] ∷ drop (suc (line - first))
+            (drop first (rowLines s y r))) =
         sym (take-append-drop (line - first) (drop first (rowLines s y r))) ∙ rw next in
-        let none = part-full (getD (rowLines s y r) line []) (drop (suc (line - first)) (drop first (rowLines s y r))) (take (length page - at) (drop at page))
+        let none = part-full (getD (rowLines s y r) line []) (drop (suc (line - first)) (drop first (rowLines s y r)))
+              (take (length page - at) (drop at page))
         (omega (arith, Z .each line (less e), ap length (lent page at), length-drop at page)) in
-        let both = part-join (take (line - first) (drop first (rowLines s y r))) (getD (rowLines s y r) line [] ∷ drop (suc (line - first)) (drop first (rowLines s y r)))
-        b page page (take (length page - at) (drop at page)) (record { lines = line - first; bytes = at; whole = true }) (record { lines = 0; bytes = 0; whole = false })
+        let both = part-join (take (line - first) (drop first (rowLines s y r)))
+              (getD (rowLines s y r) line [] ∷ drop (suc (line - first)) (drop first (rowLines s y r)))
+        b page page (take (length page - at) (drop at page)) (record { lines = line - first; bytes = at; whole = true })
+            (record { lines = 0; bytes = 0; whole = false })
         (G .part) refl none (sym (lent-same page at running-room)) in
         let z : at + 0 ≡ at = omega arith in
         let w : line - first + 0 ≡ line - first = omega arith in

@@ -92,11 +92,13 @@ module _ (s : List ℕ) (v : VisibleColumn) (ls : List (List ℕ)) (j : ℕ) (t 
 
       go : (b : Bool) → t .line .found ≡ b → ltb 0 n ≡ ltb (j + 1) (length ls)
       go true e = by (ltb 0 n) refl (omega (arith, length-drop j ls, ap length (remains-found e)))
-      go false e = le-ltb 0 n (omega (arith, ap length (S .none e .0))) ∙ sym (le-ltb (j + 1) (length ls) (omega (arith, length-drop j ls, ap length (remains-none e))))
+      go false e = le-ltb 0 n (omega (arith, ap length (S .none e .0))) ∙ sym
+          (le-ltb (j + 1) (length ls) (omega (arith, length-drop j ls, ap length (remains-none e))))
 
   -- the next line
   pub stands-on : (r : Pending) → After s (v .width) t r → Stands s v ls (j + 1) r
-  stands-on r a = stands-next s v ls (j + 1) (t .delimiter) (following s (v .width) t) r (S .ready .wide) (by (t .line .found) refl) (a .line) (a .delimiter)
+  stands-on r a = stands-next s v ls (j + 1) (t .delimiter) (following s (v .width) t) r (S .ready .wide) (by (t .line .found) refl) (a .line)
+      (a .delimiter)
     where
       by : (b : Bool) → t .line .found ≡ b → following s (v .width) t ≡ drop (j + 1) ls
       by true e = sym (rw (← drop-drop 1 j ls, remains-found e))
@@ -115,7 +117,8 @@ cut-at w ind (suc h) j ls e = go (ltb (suc h) (length ls)) refl (eqb (j + 1) (su
     below = ltb-true j (suc h) e
 
     go : (x : Bool) → ltb (suc h) (length ls) ≡ x → (y : Bool) → eqb (j + 1) (suc h) ≡ y
-        → getD {A = List ℕ} (elim x as (λ z. List (List ℕ)) [ true ↦ take (suc h - 1) ls ++ (cutLine w ind (getD ls (suc h - 1) []) ∷ []) | false ↦ ls ]) j []
+        → getD {A = List ℕ} (elim x as (λ z. List (List ℕ)) [ true ↦ take (suc h - 1) ls ++ (cutLine w ind (getD ls (suc h - 1) []) ∷ []) | false ↦ ls
+            ]) j []
         ≡ elim (y && ltb (j + 1) (length ls)) as (λ z. List ℕ) [ true ↦ cutLine w ind (getD ls j []) | false ↦ getD ls j [] ]
     go true f true g =
         let q = eqb-true (j + 1) (suc h) g in
@@ -127,7 +130,8 @@ cut-at w ind (suc h) j ls e = go (ltb (suc h) (length ls)) refl (eqb (j + 1) (su
         let q = eqb-false (j + 1) (suc h) g in
         let l = ltb-true (suc h) (length ls) f in
         let m : j < suc h - 1 = omega (arith, q, below) in
-        List·getD-append (take (suc h - 1) ls) (cutLine w ind (getD ls (suc h - 1) []) ∷ []) [] j (omega (arith, length-take-le (suc h - 1) ls (omega arith)))
+        List·getD-append (take (suc h - 1) ls) (cutLine w ind (getD ls (suc h - 1) []) ∷ []) [] j
+            (omega (arith, length-take-le (suc h - 1) ls (omega arith)))
         ∙ getD-take (suc h - 1) ls j [] m
     go false f true g =
         let q = eqb-true (j + 1) (suc h) g in
@@ -143,11 +147,13 @@ cut-has w ind zero j ls = refl
 cut-has w ind (suc h) j ls = go (ltb (suc h) (length ls)) refl (ltb j (suc h)) refl
   where
     go : (x : Bool) → ltb (suc h) (length ls) ≡ x → (y : Bool) → ltb j (suc h) ≡ y
-        → ltb j (length {A = List ℕ} (elim x as (λ z. List (List ℕ)) [ true ↦ take (suc h - 1) ls ++ (cutLine w ind (getD ls (suc h - 1) []) ∷ []) | false ↦ ls ])) ≡ (y && ltb j (length ls))
+        → ltb j (length {A = List ℕ} (elim x as (λ z. List (List ℕ))
+            [ true ↦ take (suc h - 1) ls ++ (cutLine w ind (getD ls (suc h - 1) []) ∷ []) | false ↦ ls ])) ≡ (y && ltb j (length ls))
     go true f y g =
         let l = ltb-true (suc h) (length ls) f in
         let n : length (take (suc h - 1) ls ++ (cutLine w ind (getD ls (suc h - 1) []) ∷ [])) ≡ suc h =
-        length-append (take (suc h - 1) ls) (cutLine w ind (getD ls (suc h - 1) []) ∷ []) ∙ omega (arith, length-take-le (suc h - 1) ls (omega arith)) in
+        length-append (take (suc h - 1) ls) (cutLine w ind (getD ls (suc h - 1) []) ∷ []) ∙ omega (arith, length-take-le (suc h - 1) ls (omega arith))
+            in
         rw n (more y g l)
       where
         more : (y : Bool) → ltb j (suc h) ≡ y → suc h < length ls → ltb j (suc h) ≡ (y && ltb j (length ls))
@@ -206,11 +212,14 @@ module _ (s : List ℕ) (t : Table) (ws : List ℕ) (r : Row) (view : View) (W :
       let w : v .width ≡ getD ws (numberOf t i) 0 = ap (λ (u : VisibleColumn). u .width) x ∙ shown-wide t ws (numberOf t i) in
       let f = stands-follows s v ls j st (C .stands) in
       let l = stands-line s v ls j st (C .stands) in
-      let y : shownText s (v .width) (t .indicator) (lastOf (r .limit) j && ltb 0 (length (following s (v .width) st))) st ≡ getD (cut (v .width) (t .indicator) (r .limit) ls) j [] =
+      let y : shownText s (v .width) (t .indicator) (lastOf (r .limit) j && ltb 0 (length (following s (v .width) st))) st ≡ getD
+            (cut (v .width) (t .indicator) (r .limit) ls) j [] =
       ap (λ b. shownText s (v .width) (t .indicator) (lastOf (r .limit) j && b) st) f
       ∙ text-shown s (v .width) (t .indicator) (lastOf (r .limit) j && ltb (j + 1) (length ls)) st (getD ls j []) l
       ∙ sym (cut-at (v .width) (t .indicator) (r .limit) j ls e) in
       ap (areaIn v (st .alignment)) y
       ∙ rw (C .alignment, w)
-      (ap (λ u. areaIn u (alignmentOf (columnAt t (numberOf t i)) (cellAt r (numberOf t i))) (getD (cut (getD ws (numberOf t i) 0) (t .indicator) (r .limit) ls) j [])) x
-      ∙ area-in t ws (numberOf t i) (alignmentOf (columnAt t (numberOf t i)) (cellAt r (numberOf t i))) (getD (cut (getD ws (numberOf t i) 0) (t .indicator) (r .limit) ls) j []))
+      (ap (λ u. areaIn u (alignmentOf (columnAt t (numberOf t i)) (cellAt r (numberOf t i)))
+          (getD (cut (getD ws (numberOf t i) 0) (t .indicator) (r .limit) ls) j [])) x
+      ∙ area-in t ws (numberOf t i) (alignmentOf (columnAt t (numberOf t i)) (cellAt r (numberOf t i)))
+          (getD (cut (getD ws (numberOf t i) 0) (t .indicator) (r .limit) ls) j []))

@@ -33,7 +33,8 @@ unfolding joinedMore
 more-snoc j [] p = rw append-nil
 more-snoc j (q ∷ ps) p = rw (more-snoc j ps p) (simp append-assoc)
 
-joined-snoc : (b : Bool) (c : ℕ) (ps : List (List ℕ)) (p : List ℕ) → joined (edge b c) (ps ++ (p ∷ [])) ≡ joined (edge b c) ps ++ (edge (lead (length ps) b) c ++ p)
+joined-snoc : (b : Bool) (c : ℕ) (ps : List (List ℕ)) (p : List ℕ) → joined (edge b c) (ps ++ (p ∷ [])) ≡ joined (edge b c) ps ++
+    (edge (lead (length ps) b) c ++ p)
 unfolding joined joinedMore
 joined-snoc b c [] p = rw append-nil
 joined-snoc b c (q ∷ ps) p = rw (more-snoc (edge b c) ps p) (simp append-assoc)
@@ -53,9 +54,11 @@ pub build-joined : (b : Bool) (c : ℕ) (f : ℕ → List ℕ) (n : ℕ) → bui
 build-joined b c f zero = none-joined b c f
 build-joined b c f (suc n) =
     let z : 0 + n ≡ n = omega arith in
-    let e : map f (upFrom 0 (suc n)) ≡ map f (upFrom 0 n) ++ (f n ∷ []) = ap (map f) (upFrom-last 0 n ∙ ap (λ m. upFrom 0 n ++ (m ∷ [])) z) ∙ map-snoc f (upFrom 0 n) n in
+    let e : map f (upFrom 0 (suc n)) ≡ map f (upFrom 0 n) ++ (f n ∷ []) = ap (map f) (upFrom-last 0 n ∙ ap (λ m. upFrom 0 n ++ (m ∷ [])) z) ∙ map-snoc
+          f (upFrom 0 n) n in
     ap (λ l. l ++ (edge (lead n b) c ++ f n)) (build-joined b c f n)
-    ∙ sym (joined-snoc b c (map f (upFrom 0 n)) (f n) ∙ ap (λ m. joined (edge b c) (map f (upFrom 0 n)) ++ (edge (lead m b) c ++ f n)) (length-up n f))
+    ∙ sym (joined-snoc b c (map f (upFrom 0 n)) (f n) ∙ ap (λ m. joined (edge b c) (map f (upFrom 0 n)) ++ (edge (lead m b) c ++ f n))
+        (length-up n f))
     ∙ ap (joined (edge b c)) (sym e)
 
 map-map : {A B C : Type 0} (f : A → B) (g : B → C) (xs : List A) → map g (map f xs) ≡ map (λ x. g (f x)) xs
@@ -63,7 +66,8 @@ map-map f g [] = refl
 map-map f g (x ∷ xs) = ap (λ l. g (f x) ∷ l) (map-map f g xs)
 
 -- a list by its entries' numbers
-from : {A B : Type 0} (f : A → B) (d : A) (ys xs : List A) (i : ℕ) → ((k : ℕ) → getD ys (i + k) d ≡ getD xs k d) → map f xs ≡ map (λ k. f (getD ys k d)) (upFrom i (length xs))
+from : {A B : Type 0} (f : A → B) (d : A) (ys xs : List A) (i : ℕ) → ((k : ℕ) → getD ys (i + k) d ≡ getD xs k d) → map f xs ≡ map
+    (λ k. f (getD ys k d)) (upFrom i (length xs))
 unfolding upFrom
 from f d ys [] i h = refl
 from f d ys (x ∷ xs) i h =
@@ -88,18 +92,23 @@ edge-same false c = refl
 -- a line drawn by the characters at k is the document's
 pub styled-text : (S : List ℕ) (k : ℕ) (ps : List (List ℕ)) → styled (textStyleOf S k) ps ≡ textLine S k ps
 unfolding styled textStyleOf textLine
-styled-text S k ps = rw (edge-same (anyLeft S) (glyphAt S k), edge-same (anyJunction S) (glyphAt S (k + 1)), edge-same (anyRight S) (glyphAt S (k + 2)))
+styled-text S k ps = rw (edge-same (anyLeft S) (glyphAt S k), edge-same (anyJunction S) (glyphAt S (k + 1)), edge-same (anyRight S)
+    (glyphAt S (k + 2)))
 
-module _ (s : List ℕ) (t : Table) (ws : List ℕ) (r : Row) (view : View) (W : Views t ws view) (j : ℕ) (ts : List Pending) (R : StandsRow s t ws r view j ts) where
+module _ (s : List ℕ) (t : Table) (ws : List ℕ) (r : Row) (view : View) (W : Views t ws view) (j : ℕ) (ts : List Pending)
+    (R : StandsRow s t ws r view j ts) where
   pub line-styled : (y : TextStyle) → inLimit (r .limit) j ≡ true
       → lineBytes s view (t .indicator) y ts (lastOf (r .limit) j) ≡ styled y (map (areaAt t ws r j) (visible t)) ++ (10 ∷ [])
   unfolding lineBytes linePiece styled lineOf
   line-styled y e =
       let g : ℕ → List ℕ = λ i. areaAt t ws r j (numberOf t i) in
-      let p : build (λ i. edge (lead i (y .joined)) (y .junction) ++ columnPiece s (visibleAt view i) (pendingAt ts i) (t .indicator) (lastOf (r .limit) j)) (view .count)
+      let p : build (λ i. edge (lead i (y .joined)) (y .junction) ++ columnPiece s (visibleAt view i) (pendingAt ts i) (t .indicator)
+            (lastOf (r .limit) j)) (view .count)
       ≡ build (λ i. edge (lead i (y .joined)) (y .junction) ++ g i) (view .count) =
-      build-same _ _ (view .count) (λ i h. ap (λ l. edge (lead i (y .joined)) (y .junction) ++ l) (piece-area s t ws r view W j i (pendingAt ts i) h (R .each i h) e)) in
-      let q : map (areaAt t ws r j) (visible t) ≡ map g (upFrom 0 (view .count)) = map-numbered (areaAt t ws r j) 0 (visible t) ∙ ap (λ n. map g (upFrom 0 n)) (sym (W .count)) in
+      build-same _ _ (view .count) (λ i h. ap (λ l. edge (lead i (y .joined)) (y .junction) ++ l)
+          (piece-area s t ws r view W j i (pendingAt ts i) h (R .each i h) e)) in
+      let q : map (areaAt t ws r j) (visible t) ≡ map g (upFrom 0 (view .count)) = map-numbered (areaAt t ws r j) 0 (visible t) ∙ ap
+            (λ n. map g (upFrom 0 n)) (sym (W .count)) in
       rw (p, build-joined (y .joined) (y .junction) g (view .count), q) (simp append-assoc)
 
   pub line-drawn : (S : List ℕ) (k : ℕ) → inLimit (r .limit) j ≡ true
@@ -121,11 +130,15 @@ rule-drawn t ws view W S always k =
     let b = always || anyJunction S in
     let f = glyph (glyphAt S (k + 1)) in
     let g : ℕ → List ℕ = λ i. replicate (visibleWidth t ws (numberOf t i)) f in
-    let p : build (λ i. edge (lead i b) (glyph (glyphAt S (k + 2))) ++ ruleArea (visibleAt view i) f) (view .count) ≡ build (λ i. edge (lead i b) (glyph (glyphAt S (k + 2))) ++ g i) (view .count) =
-    build-same _ _ (view .count) (λ i h. ap (λ l. edge (lead i b) (glyph (glyphAt S (k + 2))) ++ l) (area-fill t ws (numberOf t i) f (visibleAt view i) (W .each i h))) in
+    let p : build (λ i. edge (lead i b) (glyph (glyphAt S (k + 2))) ++ ruleArea (visibleAt view i) f) (view .count) ≡ build
+          (λ i. edge (lead i b) (glyph (glyphAt S (k + 2))) ++ g i) (view .count) =
+    build-same _ _ (view .count) (λ i h. ap (λ l. edge (lead i b) (glyph (glyphAt S (k + 2))) ++ l)
+        (area-fill t ws (numberOf t i) f (visibleAt view i) (W .each i h))) in
     let q : map (λ v. replicate v f) (map (visibleWidth t ws) (visible t)) ≡ map g (upFrom 0 (view .count)) =
-    map-map (visibleWidth t ws) (λ v. replicate v f) (visible t) ∙ map-numbered (λ j. replicate (visibleWidth t ws j) f) 0 (visible t) ∙ ap (λ n. map g (upFrom 0 n)) (sym (W .count)) in
-    rw (p, build-joined b (glyph (glyphAt S (k + 2))) g (view .count), q, edge-same (anyLeft S) (glyphAt S k), edge-same b (glyphAt S (k + 2)), edge-same (anyRight S) (glyphAt S (k + 3)))
+    map-map (visibleWidth t ws) (λ v. replicate v f) (visible t) ∙ map-numbered (λ j. replicate (visibleWidth t ws j) f) 0 (visible t) ∙ ap
+        (λ n. map g (upFrom 0 n)) (sym (W .count)) in
+    rw (p, build-joined b (glyph (glyphAt S (k + 2))) g (view .count), q, edge-same (anyLeft S) (glyphAt S k), edge-same b (glyphAt S (k + 2)),
+        edge-same (anyRight S) (glyphAt S (k + 3)))
 
 -- ---- a row's height
 
@@ -156,12 +169,15 @@ map-up f n =
     ap (map f) (upFrom-last 0 n ∙ ap (λ m. upFrom 0 n ++ (m ∷ [])) z) ∙ map-snoc f (upFrom 0 n) n
 
 -- a row's height by the numbers of its visible columns
-pub height-numbered : (t : Table) (ws : List ℕ) (r : Row) (view : View) → Views t ws view → height t ws r ≡ greatest (map (λ i. length (cellLines t ws r (numberOf t i))) (upFrom 0 (view .count)))
+pub height-numbered : (t : Table) (ws : List ℕ) (r : Row) (view : View) → Views t ws view → height t ws r ≡ greatest
+    (map (λ i. length (cellLines t ws r (numberOf t i))) (upFrom 0 (view .count)))
 unfolding height
 height-numbered t ws r view W =
-    ap greatest (map-numbered (λ c. length (cellLines t ws r c)) 0 (visible t) ∙ ap (λ n. map (λ i. length (cellLines t ws r (numberOf t i))) (upFrom 0 n)) (sym (W .count)))
+    ap greatest (map-numbered (λ c. length (cellLines t ws r c)) 0 (visible t) ∙ ap
+        (λ n. map (λ i. length (cellLines t ws r (numberOf t i))) (upFrom 0 n)) (sym (W .count)))
 
-module _ (s : List ℕ) (t : Table) (ws : List ℕ) (r : Row) (view : View) (W : Views t ws view) (j : ℕ) (ts : List Pending) (R : StandsRow s t ws r view j ts) where
+module _ (s : List ℕ) (t : Table) (ws : List ℕ) (r : Row) (view : View) (W : Views t ws view) (j : ℕ) (ts : List Pending)
+    (R : StandsRow s t ws r view j ts) where
   lines-of : ℕ → ℕ
   lines-of i = length (cellLines t ws r (numberOf t i))
 
@@ -169,7 +185,8 @@ module _ (s : List ℕ) (t : Table) (ws : List ℕ) (r : Row) (view : View) (W :
   unfolding lines-of cellLines
   column-has i h =
       cut-has (getD ws (numberOf t i) 0) (t .indicator) (r .limit) j (wrapped t ws r (numberOf t i))
-      ∙ ap (λ b. inLimit (r .limit) j && b) (sym (stands-found s (visibleAt view i) (wrapped t ws r (numberOf t i)) j (pendingAt ts i) (R .each i h .stands)))
+      ∙ ap (λ b. inLimit (r .limit) j && b) (sym (stands-found s (visibleAt view i) (wrapped t ws r (numberOf t i)) j (pendingAt ts i)
+          (R .each i h .stands)))
 
   up-to : (n : ℕ) → n ≤ view .count → ltb j (greatest (map lines-of (upFrom 0 n))) ≡ (inLimit (r .limit) j && anyFound ts n)
   unfolding anyFound
@@ -190,7 +207,8 @@ module _ (s : List ℕ) (t : Table) (ws : List ℕ) (r : Row) (view : View) (W :
 
 -- ---- a row opened
 
-opened-cell : (s : List ℕ) (t : Table) (ws : List ℕ) (r : Row) (i : ℕ) (v : VisibleColumn) (st : Pending) → v ≡ shownOf t ws (numberOf t i) → OpenedAt s (getD (r .cells) (v .number) noCell) v st
+opened-cell : (s : List ℕ) (t : Table) (ws : List ℕ) (r : Row) (i : ℕ) (v : VisibleColumn) (st : Pending) → v ≡ shownOf t ws (numberOf t i) → OpenedAt
+    s (getD (r .cells) (v .number) noCell) v st
     → StandsCell s t ws r v i 0 st
 unfolding shownOf wrapped
 opened-cell s t ws r i v st e o =
@@ -206,11 +224,14 @@ opened-cell s t ws r i v st e o =
       alignment = o .alignment ∙ rw (a, y);
     }
 
-pub opened-stands : (s : List ℕ) (t : Table) (ws : List ℕ) (r : Row) (view : View) (ts : List Pending) → Views t ws view → OpenedRow s (r .cells) view ts → StandsRow s t ws r view 0 ts
-opened-stands s t ws r view ts W o = record { size = o .size; each = λ i h. opened-cell s t ws r i (visibleAt view i) (pendingAt ts i) (W .each i h) (o .each i h) }
+pub opened-stands : (s : List ℕ) (t : Table) (ws : List ℕ) (r : Row) (view : View) (ts : List Pending) → Views t ws view → OpenedRow s (r .cells) view
+    ts → StandsRow s t ws r view 0 ts
+opened-stands s t ws r view ts W o = record { size = o .size; each = λ i h. opened-cell s t ws r i (visibleAt view i) (pendingAt ts i) (W .each i h)
+    (o .each i h) }
 
 -- the next line of a row
-pub stands-after : (s : List ℕ) (t : Table) (ws : List ℕ) (r : Row) (view : View) (j : ℕ) (ts us : List Pending) → StandsRow s t ws r view j ts → AfterAll s view ts us → StandsRow s t ws r view (j + 1) us
+pub stands-after : (s : List ℕ) (t : Table) (ws : List ℕ) (r : Row) (view : View) (j : ℕ) (ts us : List Pending) → StandsRow s t ws r view j ts →
+    AfterAll s view ts us → StandsRow s t ws r view (j + 1) us
 stands-after s t ws r view j ts us R A = record {
   size = A .size;
   each = λ i h.
@@ -224,5 +245,6 @@ stands-after s t ws r view j ts us R A = record {
 }
 
 -- what is pending can be drawn
-pub stands-ready : (s : List ℕ) (t : Table) (ws : List ℕ) (r : Row) (view : View) (j : ℕ) (ts : List Pending) → Views t ws view → StandsRow s t ws r view j ts → ReadyAll s view ts
+pub stands-ready : (s : List ℕ) (t : Table) (ws : List ℕ) (r : Row) (view : View) (j : ℕ) (ts : List Pending) → Views t ws view → StandsRow s t ws r
+    view j ts → ReadyAll s view ts
 stands-ready s t ws r view j ts W R = record { size = R .size; most = W .most; each = λ i h. R .each i h .stands .ready }

@@ -1,6 +1,7 @@
 -- A row's text lines, by what they are drawn with. Assumes nothing.
 use Prim.Native.Nat.{ℕ, _+_, _≤_, _<_}
 use mathlib.Core.Path.{_≡_}
+use Rattle.rules.specs.Limits.{mostLines}
 use mathlib.Core.List.{List, [], map}
 use mathlib.Core.Bool.{Bool, true}
 use lib.ListN.{length, take, getD}
@@ -47,7 +48,7 @@ pub record Marks (s : List ℕ) (i : Indicator) : Type 0 where
 -- each of a row's lines takes n bytes, its 0A included
 pub record Sized (s : List ℕ) (y : TextStyle) (r : Row) (n : ℕ) : Type 0 where
   pub each : (k : ℕ) → k < rowHeight s r → length (getD (rowLines s y r) k []) + 1 ≡ n
-  pub few : rowHeight s r ≤ 1000000
+  pub few : rowHeight s r ≤ mostLines
 
 -- whether a row has line j, which is then pending
 pub record StandsAt (s : List ℕ) (view : View) (r : Row) (j : ℕ) (more : Bool) (ts : List Pending) : Type 0 where

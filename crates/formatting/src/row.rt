@@ -57,23 +57,6 @@ fn open_cell(sheet: &[u8], cells: Cells, v: VisibleColumn) -> Pending
     }
 }
 
-// The cells after the first n.
-fn skip_cells(sheet: &[u8], cells: Cells, n: usize) -> Cells
-    requires { ⌜ cellsEnd (now sheet) cells ≤ length (now sheet) ⌝ }
-    ensures { λ r. ⌜ (cellsIn (now (sheet .entry)) r ≡ drop n (cellsIn (now (sheet .entry)) cells)) × (cellsEnd (now (sheet .entry)) r ≡ cellsEnd (now (sheet .entry)) cells) ⌝ }
-{
-    let mut c = cells;
-    let mut i: usize = 0;
-    while i < n {
-        if c.left == 0 {
-            return c;
-        }
-        c = walk::next_cell(sheet, c);
-        i += 1;
-    }
-    c
-}
-
 // Every visible column's cell of a row at its first line; whether there is one.
 pub fn format_row(
     sheet: &[u8],
@@ -94,7 +77,7 @@ pub fn format_row(
         let y = columns[i];
         let v = packed::column_from(y);
         let number = v.number;
-        left = skip_cells(sheet, left, number - passed);
+        left = walk::skip_cells(sheet, left, number - passed);
         passed = number;
         let t = open_cell(sheet, left, v);
         let line = t.line;
@@ -138,7 +121,7 @@ pub fn row_height(
         let y = columns[i];
         let v = packed::column_from(y);
         let number = v.number;
-        left = skip_cells(sheet, left, number - passed);
+        left = walk::skip_cells(sheet, left, number - passed);
         passed = number;
         let lines = open_height(sheet, left, v);
         most = numbers::greater(most, lines);

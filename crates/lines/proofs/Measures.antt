@@ -34,11 +34,13 @@ pub width-none : (view : View) → 0 ≡ widthUpTo view 0
 unfolding widthUpTo
 width-none view = refl
 
-pub width-on : (cols : List (List ℕ)) (m i n : ℕ) (v : VisibleColumn) → v ≡ columnFrom (getD cols i []) → n ≡ widthUpTo (viewOf cols m) i → n + (v .left + (v .width + v .right)) ≡ widthUpTo (viewOf cols m) (i + 1)
+pub width-on : (cols : List (List ℕ)) (m i n : ℕ) (v : VisibleColumn) → v ≡ columnFrom (getD cols i []) → n ≡ widthUpTo (viewOf cols m) i → n +
+    (v .left + (v .width + v .right)) ≡ widthUpTo (viewOf cols m) (i + 1)
 unfolding widthUpTo
 width-on cols m i n v f e = rw (add-one i, f, ← column-at cols m i) (omega arith)
 
-pub column-narrow : (cols : List (List ℕ)) (m : ℕ) → NarrowAll (viewOf cols m) → (i : ℕ) → i < m → (v : VisibleColumn) → v ≡ columnFrom (getD cols i []) → v .left + (v .width + v .right) < 65536
+pub column-narrow : (cols : List (List ℕ)) (m : ℕ) → NarrowAll (viewOf cols m) → (i : ℕ) → i < m → (v : VisibleColumn) → v ≡ columnFrom
+    (getD cols i []) → v .left + (v .width + v .right) < 65536
 column-narrow cols m N i h v f = rw (f, ← column-at cols m i) (N .each i h)
 
 pub width-done : (view : View) (i n m : ℕ) → i ≤ n → n ≤ i → m ≡ widthUpTo view i → m ≡ widthUpTo view n
@@ -69,20 +71,24 @@ module _ (t : Table) (ws : List ℕ) (view : View) (W : Views t ws view) where
       none = sym (no-sum here)
   up-to (suc n) h =
       let z : 0 + n ≡ n = omega arith in
-      let e : map here (upFrom 0 (suc n)) ≡ map here (upFrom 0 n) ++ (here n ∷ []) = ap (map here) (upFrom-last 0 n ∙ ap (λ m. upFrom 0 n ++ (m ∷ [])) z) ∙ map-append here (upFrom 0 n) (n ∷ []) in
+      let e : map here (upFrom 0 (suc n)) ≡ map here (upFrom 0 n) ++ (here n ∷ []) = ap (map here)
+            (upFrom-last 0 n ∙ ap (λ m. upFrom 0 n ++ (m ∷ [])) z) ∙ map-append here (upFrom 0 n) (n ∷ []) in
       omega (arith, up-to n (omega arith), shown-here n (omega arith), ap sum e, sum-snoc (map here (upFrom 0 n)) (here n))
 
   pub width-sum : widthUpTo view (view .count) ≡ sum (visibleWidths t ws)
   unfolding visibleWidths here
-  width-sum = up-to (view .count) (omega arith) ∙ sym (ap sum (map-numbered (visibleWidth t ws) 0 (visible t) ∙ ap (λ n. map here (upFrom 0 n)) (sym (W .count))))
+  width-sum = up-to (view .count) (omega arith) ∙ sym (ap sum (map-numbered (visibleWidth t ws) 0 (visible t) ∙ ap (λ n. map here (upFrom 0 n))
+      (sym (W .count))))
 
 one-if : (b : Bool) → cond b 1 0 ≡ oneIf b
 one-if true = refl
 one-if false = refl
 
 -- the lengths from their parts
-pub lengths-are : (s : List ℕ) (cols : List (List ℕ)) (p : Page) → Opened s cols p → (a b i j n : ℕ) → a ≡ cond (p .styles .body .rule .opens) 1 0 → b ≡ cond (p .styles .body .rule .closes) 1 0
-    → i ≡ p .count - 1 → j ≡ cond (p .styles .body .rule .joined) i 0 → n ≡ widthUpTo (viewOf cols (p .count)) (p .count) → LengthsAre s (record { line = a + b + j + n; border = a + b + i + n })
+pub lengths-are : (s : List ℕ) (cols : List (List ℕ)) (p : Page) → Opened s cols p → (a b i j n : ℕ) → a ≡ cond (p .styles .body .rule .opens) 1 0 → b
+    ≡ cond (p .styles .body .rule .closes) 1 0
+    → i ≡ p .count - 1 → j ≡ cond (p .styles .body .rule .joined) i 0 → n ≡ widthUpTo (viewOf cols (p .count)) (p .count) → LengthsAre s
+        (record { line = a + b + j + n; border = a + b + i + n })
 unfolding lineLength borderLength borders bordersOf stylesOf ruleStyleOf
 lengths-are s cols p O a b i j n ea eb ei ej en =
     let S = tableOf s .style in
@@ -91,7 +97,8 @@ lengths-are s cols p O a b i j n ea eb ei ej en =
     let x : a ≡ oneIf (anyLeft S) = ea ∙ ap (λ (l : LineStyles). cond (l .body .rule .opens) 1 0) (O .styles) ∙ one-if (anyLeft S) in
     let y : b ≡ oneIf (anyRight S) = eb ∙ ap (λ (l : LineStyles). cond (l .body .rule .closes) 1 0) (O .styles) ∙ one-if (anyRight S) in
     let v : i ≡ length (visible (tableOf s)) - 1 = ei ∙ ap (λ k. k - 1) (O .views .count) in
-    let u : j ≡ cond (anyJunction S) (length (visible (tableOf s)) - 1) 0 = ej ∙ ap (λ (l : LineStyles). cond (l .body .rule .joined) i 0) (O .styles) ∙ ap (λ k. cond (anyJunction S) k 0) v in
+    let u : j ≡ cond (anyJunction S) (length (visible (tableOf s)) - 1) 0 = ej ∙ ap (λ (l : LineStyles). cond (l .body .rule .joined) i 0) (O .styles)
+          ∙ ap (λ k. cond (anyJunction S) k 0) v in
     let e : a + b + j + n ≡ lineLength (tableOf s) (widthsIn s) = rw (x, y, u, w) in
     let f : a + b + i + n ≡ borderLength (tableOf s) (widthsIn s) = rw (x, y, v, w) in
     record {

@@ -57,7 +57,8 @@ row-height-few s c A h = go (rowsIn s c) (rows-number s c) (A .sound)
     go (r ∷ rs) e a = height-bound (tableOf s) (widthsIn s) r (a .0 .each)
 
 -- the first row, and those after it
-pub first-then : (text : Row → List (List ℕ)) (rule : List (List ℕ)) (rs : List Row) → ruledRows text rule rs ≡ firstRuled text rule rs ++ ruledRows text rule (drop 1 rs)
+pub first-then : (text : Row → List (List ℕ)) (rule : List (List ℕ)) (rs : List Row) → ruledRows text rule rs ≡ firstRuled text rule rs ++ ruledRows
+    text rule (drop 1 rs)
 unfolding ruledRows ruledMore firstRuled
 first-then text rule [] = refl
 first-then text rule (r ∷ []) = refl
@@ -96,7 +97,8 @@ body-ahead s p here =
     let text = textLines s contentLines in
     let rule = ruleLines s false rowRule in
     sym (ap (λ ls. ls ++ ruleLines s true bottomBorder) (first-then (textLines s contentLines) (ruleLines s false rowRule) (rowsIn s here))
-    ∙ append-assoc (firstRuled (textLines s contentLines) (ruleLines s false rowRule) (rowsIn s here)) (ruledRows (textLines s contentLines) (ruleLines s false rowRule) (drop 1 (rowsIn s here))) (ruleLines s true bottomBorder))
+    ∙ append-assoc (firstRuled (textLines s contentLines) (ruleLines s false rowRule) (rowsIn s here))
+        (ruledRows (textLines s contentLines) (ruleLines s false rowRule) (drop 1 (rowsIn s here))) (ruleLines s true bottomBorder))
 
 last-ahead : (s : List ℕ) (p : Page) (here : Rows) → ahead s p (record { stage = Bottom; here = here; line = 0 }) ≡ ruleLines s true bottomBorder
 unfolding ahead partLines restLines
@@ -146,7 +148,8 @@ module _ (s : List ℕ) (p : Page) (c : Cursor) (A : RowsAt s (c .here)) where
 
   pub next-end : c .stage ≡ End → Next s p c (record { stage = End; here = c .here; line = 0 })
   unfolding ahead partLines restLines
-  next-end e = record { lines = rw e; at = at-start s p _ A refl; start = refl; fewer = λ f. let g = sym (ap isEnd e) ∙ f in let z : _≡_ {A = ℕ} 0 1 = cc in absurd (omega arith) }
+  next-end e = record { lines = rw e; at = at-start s p _ A refl; start = refl; fewer = λ f. let g = sym (ap isEnd e) ∙ f in
+      let z : _≡_ {A = ℕ} 0 1 = cc in absurd (omega arith) }
 
 -- the end has no line before it
 pub end-ahead : (s : List ℕ) (p : Page) (c : Cursor) → isEnd (c .stage) ≡ true → ahead s p c ≡ []
@@ -168,7 +171,8 @@ pub border-few : (s : List ℕ) (k : ℕ) → length (ruleLines s true k) ≤ 1
 unfolding ruleLines shown
 border-few s k = go (isVisible (tableOf s .style) k)
   where
-    go : (b : Bool) → length {A = List ℕ} (elim b as (λ x. List (List ℕ)) [ true ↦ ruled (tableOf s .style) true k (visibleWidths (tableOf s) (widthsIn s)) ∷ [] | false ↦ [] ]) ≤ 1
+    go : (b : Bool) → length {A = List ℕ} (elim b as (λ x. List (List ℕ))
+        [ true ↦ ruled (tableOf s .style) true k (visibleWidths (tableOf s) (widthsIn s)) ∷ [] | false ↦ [] ]) ≤ 1
     go true = omega arith
     go false = omega arith
 
@@ -180,10 +184,12 @@ same-map f g h (x ∷ xs) = let a = h x in let b = same-map f g h xs in cc
 
 text-styled : (s : List ℕ) (k : ℕ) (r : Row) → rowLines s (textStyleOf (tableOf s .style) k) r ≡ textLines s k r
 unfolding rowLines rowText
-text-styled s k r = same-map (styled (textStyleOf (tableOf s .style) k)) (textLine (tableOf s .style) k) (styled-text (tableOf s .style) k) (areas (tableOf s) (widthsIn s) r)
+text-styled s k r = same-map (styled (textStyleOf (tableOf s .style) k)) (textLine (tableOf s .style) k) (styled-text (tableOf s .style) k)
+    (areas (tableOf s) (widthsIn s) r)
 
 module _ (s : List ℕ) (cols : List (List ℕ)) (p : Page) (O : Opened s cols p) where
-  border-styled : (k : ℕ) → cond (isVisible (tableOf s .style) k) (ruleText (viewOf cols (p .count)) (ruleStyleOf (tableOf s .style) true k) ∷ []) [] ≡ ruleLines s true k
+  border-styled : (k : ℕ) → cond (isVisible (tableOf s .style) k) (ruleText (viewOf cols (p .count)) (ruleStyleOf (tableOf s .style) true k) ∷ []) []
+      ≡ ruleLines s true k
   unfolding ruleLines shown
   border-styled k = go (isVisible (tableOf s .style) k)
     where
@@ -192,7 +198,8 @@ module _ (s : List ℕ) (cols : List (List ℕ)) (p : Page) (O : Opened s cols p
       go true = ap (λ l. l ∷ []) (rule-drawn (tableOf s) (widthsIn s) (viewOf cols (p .count)) (O .views) (tableOf s .style) true k)
       go false = refl
 
-  rule-styled : (k : ℕ) → cond (isVisible (tableOf s .style) k) (ruleText (viewOf cols (p .count)) (ruleStyleOf (tableOf s .style) (anyJunction (tableOf s .style)) k) ∷ []) [] ≡ ruleLines s false k
+  rule-styled : (k : ℕ) → cond (isVisible (tableOf s .style) k) (ruleText (viewOf cols (p .count))
+      (ruleStyleOf (tableOf s .style) (anyJunction (tableOf s .style)) k) ∷ []) [] ≡ ruleLines s false k
   unfolding ruleLines shown
   rule-styled k = go (isVisible (tableOf s .style) k)
     where
@@ -221,10 +228,12 @@ module _ (s : List ℕ) (cols : List (List ℕ)) (p : Page) (O : Opened s cols p
       go (r ∷ q ∷ rs) h = absurd (omega arith)
 
   -- a row with the rule after it
-  pub body-drawn : (here : Rows) (y : RowStyle) → y ≡ bodyStyle (p .styles .body) (here .left) → bandLines s (viewOf cols (p .count)) y (rowsIn s here) ≡ bodyLines s (rowsIn s here)
+  pub body-drawn : (here : Rows) (y : RowStyle) → y ≡ bodyStyle (p .styles .body) (here .left) → bandLines s (viewOf cols (p .count)) y
+      (rowsIn s here) ≡ bodyLines s (rowsIn s here)
   unfolding stylesOf bandLines bodyLines firstRuled
   body-drawn here y e =
-      rw (e, O .styles) (ap (λ n. bandLines s (viewOf cols (p .count)) (bodyStyle (stylesOf (tableOf s .style) .body) n) (rowsIn s here)) (sym (rows-number s here)) ∙ go (rowsIn s here))
+      rw (e, O .styles) (ap (λ n. bandLines s (viewOf cols (p .count)) (bodyStyle (stylesOf (tableOf s .style) .body) n) (rowsIn s here))
+          (sym (rows-number s here)) ∙ go (rowsIn s here))
     where
       out : (b : Bool) (x : List (List ℕ)) → cond (b && false) x [] ≡ []
       out true x = refl
@@ -245,7 +254,8 @@ module _ (s : List ℕ) (cols : List (List ℕ)) (p : Page) (O : Opened s cols p
   unfolding ruleLines shown
   rule-count k always = go (isVisible (tableOf s .style) k)
     where
-      go : (b : Bool) → cond b 1 0 ≡ length {A = List ℕ} (elim b as (λ x. List (List ℕ)) [ true ↦ ruled (tableOf s .style) always k (visibleWidths (tableOf s) (widthsIn s)) ∷ [] | false ↦ [] ])
+      go : (b : Bool) → cond b 1 0 ≡ length {A = List ℕ} (elim b as (λ x. List (List ℕ))
+          [ true ↦ ruled (tableOf s .style) always k (visibleWidths (tableOf s) (widthsIn s)) ∷ [] | false ↦ [] ])
       go true = refl
       go false = refl
 
@@ -265,17 +275,20 @@ module _ (s : List ℕ) (cols : List (List ℕ)) (p : Page) (O : Opened s cols p
   band-count : (y : RowStyle) (rs : List Row) → bandCount s (y .ruled) rs ≡ length (bandLines s (viewOf cols (p .count)) y rs)
   unfolding bandCount bandLines
   band-count y [] = refl
-  band-count y (r ∷ rs) = sym (length-append (rowLines s (y .lines) r) (cond (y .ruled) (ruleText (viewOf cols (p .count)) (y .rule) ∷ []) []) ∙ rw (lines-count s (y .lines) r, one (y .ruled)))
+  band-count y (r ∷ rs) = sym (length-append (rowLines s (y .lines) r) (cond (y .ruled) (ruleText (viewOf cols (p .count)) (y .rule) ∷ []) []) ∙ rw
+      (lines-count s (y .lines) r, one (y .ruled)))
     where
       one : (b : Bool) → length (cond b (ruleText (viewOf cols (p .count)) (y .rule) ∷ []) []) ≡ cond b 1 0
       one true = refl
       one false = refl
 
-  pub header-count : (c : Cursor) (n : ℕ) → c .stage ≡ Header → n ≡ bandCount s (p .styles .header .ruled) (rowsIn s (p .header)) → n ≡ length (partLines s p c)
+  pub header-count : (c : Cursor) (n : ℕ) → c .stage ≡ Header → n ≡ bandCount s (p .styles .header .ruled) (rowsIn s (p .header)) → n ≡ length
+      (partLines s p c)
   unfolding partLines
   header-count c n e f = f ∙ band-count (p .styles .header) (rowsIn s (p .header)) ∙ rw (header-drawn, e)
 
-  pub body-count : (c : Cursor) (n : ℕ) (b : Bool) → c .stage ≡ Body → b ≡ (p .styles .body .ruled && ltb 1 (c .here .left)) → n ≡ bandCount s b (rowsIn s (c .here)) → n ≡ length (partLines s p c)
+  pub body-count : (c : Cursor) (n : ℕ) (b : Bool) → c .stage ≡ Body → b ≡ (p .styles .body .ruled && ltb 1 (c .here .left)) → n ≡ bandCount s b
+      (rowsIn s (c .here)) → n ≡ length (partLines s p c)
   unfolding partLines
   body-count c n b e f g =
       let y = bodyStyle (p .styles .body) (c .here .left) in
@@ -289,17 +302,21 @@ module _ (s : List ℕ) (cols : List (List ℕ)) (p : Page) (O : Opened s cols p
     unfolding rowText
     text-sized k here A h = record {
       each = λ j i.
-          let e = getD-map (textLine (tableOf s .style) k) (areas (tableOf s) (widthsIn s) (firstRow s here)) j [] [] (omega (arith, length-areas (tableOf s) (widthsIn s) (firstRow s here)))
+          let e = getD-map (textLine (tableOf s .style) k) (areas (tableOf s) (widthsIn s) (firstRow s here)) j [] []
+                (omega (arith, length-areas (tableOf s) (widthsIn s) (firstRow s here)))
           ∙ ap (textLine (tableOf s .style) k) (line-at (tableOf s) (widthsIn s) (firstRow s here) j i) in
           rw (text-styled s k (firstRow s here), e, text-length (tableOf s) (widthsIn s) (firstRow s here) k j, L .line);
       few = omega (arith, row-height-few s here A h);
     }
 
-    rule-sized : (k : ℕ) → l .line + 1 ≡ length (ruleText (viewOf cols (p .count)) (ruleStyleOf (tableOf s .style) (anyJunction (tableOf s .style)) k)) + 1
-    rule-sized k = rw (rule-drawn (tableOf s) (widthsIn s) (viewOf cols (p .count)) (O .views) (tableOf s .style) false k, rule-length (tableOf s) (widthsIn s) k, L .line)
+    rule-sized : (k : ℕ) → l .line + 1 ≡ length (ruleText (viewOf cols (p .count))
+        (ruleStyleOf (tableOf s .style) (anyJunction (tableOf s .style)) k)) + 1
+    rule-sized k = rw (rule-drawn (tableOf s) (widthsIn s) (viewOf cols (p .count)) (O .views) (tableOf s .style) false k, rule-length (tableOf s)
+        (widthsIn s) k, L .line)
 
     pub border-sized : (k : ℕ) → l .border + 1 ≡ length (ruleText (viewOf cols (p .count)) (ruleStyleOf (tableOf s .style) true k)) + 1
-    border-sized k = rw (rule-drawn (tableOf s) (widthsIn s) (viewOf cols (p .count)) (O .views) (tableOf s .style) true k, border-length (tableOf s) (widthsIn s) k, L .border)
+    border-sized k = rw (rule-drawn (tableOf s) (widthsIn s) (viewOf cols (p .count)) (O .views) (tableOf s .style) true k, border-length (tableOf s)
+        (widthsIn s) k, L .border)
 
     pub top-sized : l .border + 1 ≡ length (ruleText (viewOf cols (p .count)) (p .styles .top)) + 1
     unfolding stylesOf
@@ -311,19 +328,24 @@ module _ (s : List ℕ) (cols : List (List ℕ)) (p : Page) (O : Opened s cols p
 
     pub header-sized : SizedBand s (viewOf cols (p .count)) (p .styles .header) (rowsIn s (p .header)) (l .line + 1)
     unfolding stylesOf
-    header-sized = rw (O .styles) (record { text = λ h. text-sized headerLines (p .header) (O .header-at) (omega (arith, rows-number s (p .header))); rule = rule-sized headerRule })
+    header-sized = rw (O .styles) (record { text = λ h. text-sized headerLines (p .header) (O .header-at) (omega (arith, rows-number s (p .header)));
+        rule = rule-sized headerRule })
 
-    pub body-sized : (here : Rows) (y : RowStyle) → RowsAt s here → y ≡ bodyStyle (p .styles .body) (here .left) → SizedBand s (viewOf cols (p .count)) y (rowsIn s here) (l .line + 1)
+    pub body-sized : (here : Rows) (y : RowStyle) → RowsAt s here → y ≡ bodyStyle (p .styles .body) (here .left) → SizedBand s
+        (viewOf cols (p .count)) y (rowsIn s here) (l .line + 1)
     unfolding stylesOf
-    body-sized here y A e = rw (e, O .styles) (record { text = λ h. text-sized contentLines here A (omega (arith, rows-number s here)); rule = rule-sized rowRule })
+    body-sized here y A e = rw (e, O .styles) (record { text = λ h. text-sized contentLines here A (omega (arith, rows-number s here)); rule =
+        rule-sized rowRule })
 
 -- each line of a part has the part's length
 module _ (s : List ℕ) where
-  rule-lengths : (always : Bool) (k n : ℕ) → length (ruled (tableOf s .style) always k (visibleWidths (tableOf s) (widthsIn s))) ≡ n → All (λ l. length l + 1 ≡ n + 1) (ruleLines s always k)
+  rule-lengths : (always : Bool) (k n : ℕ) → length (ruled (tableOf s .style) always k (visibleWidths (tableOf s) (widthsIn s))) ≡ n → All
+      (λ l. length l + 1 ≡ n + 1) (ruleLines s always k)
   unfolding ruleLines shown
   rule-lengths always k n e = go (isVisible (tableOf s .style) k)
     where
-      go : (b : Bool) → All {A = List ℕ} (λ l. length l + 1 ≡ n + 1) (elim b as (λ x. List (List ℕ)) [ true ↦ ruled (tableOf s .style) always k (visibleWidths (tableOf s) (widthsIn s)) ∷ [] | false ↦ [] ])
+      go : (b : Bool) → All {A = List ℕ} (λ l. length l + 1 ≡ n + 1)
+          (elim b as (λ x. List (List ℕ)) [ true ↦ ruled (tableOf s .style) always k (visibleWidths (tableOf s) (widthsIn s)) ∷ [] | false ↦ [] ])
       go true = (rw e, tt)
       go false = tt
 
@@ -332,8 +354,10 @@ module _ (s : List ℕ) where
   text-lengths k r =
       let t = tableOf s in
       let n = lineLength t (widthsIn s) in
-      all-map-imp (λ x. length (textLine (t .style) k x) + 1 ≡ n + 1) (λ l. length l + 1 ≡ n + 1) (textLine (t .style) k) (λ x h. h) (areas t (widthsIn s) r)
-      (all-map (λ x. length (textLine (t .style) k x) + 1 ≡ n + 1) (λ i. map (areaAt t (widthsIn s) r i) (visible t)) (λ i. rw (text-length t (widthsIn s) r k i)) (upFrom 0 (height t (widthsIn s) r)))
+      all-map-imp (λ x. length (textLine (t .style) k x) + 1 ≡ n + 1) (λ l. length l + 1 ≡ n + 1) (textLine (t .style) k) (λ x h. h)
+          (areas t (widthsIn s) r)
+      (all-map (λ x. length (textLine (t .style) k x) + 1 ≡ n + 1) (λ i. map (areaAt t (widthsIn s) r i) (visible t))
+          (λ i. rw (text-length t (widthsIn s) r k i)) (upFrom 0 (height t (widthsIn s) r)))
 
   each-text : (k : ℕ) (rs : List Row) → All (λ r. All (λ l. length l + 1 ≡ lineLength (tableOf s) (widthsIn s) + 1) (textLines s k r)) rs
   each-text k [] = tt
@@ -344,23 +368,27 @@ module _ (s : List ℕ) where
   first-lengths [] = tt
   first-lengths (r ∷ []) = text-lengths contentLines r
   first-lengths (r ∷ q ∷ rs) =
-      all-append (λ l. length l + 1 ≡ lineLength (tableOf s) (widthsIn s) + 1) (textLines s contentLines r) (ruleLines s false rowRule) (text-lengths contentLines r)
+      all-append (λ l. length l + 1 ≡ lineLength (tableOf s) (widthsIn s) + 1) (textLines s contentLines r) (ruleLines s false rowRule)
+          (text-lengths contentLines r)
       (rule-lengths false rowRule (lineLength (tableOf s) (widthsIn s)) (rule-length (tableOf s) (widthsIn s) rowRule))
 
   header-lengths : (rs : List Row) → All (λ l. length l + 1 ≡ lineLength (tableOf s) (widthsIn s) + 1) (headerLinesOf s rs)
   unfolding headerLinesOf
   header-lengths rs =
       all-headed (λ l. length l + 1 ≡ lineLength (tableOf s) (widthsIn s) + 1) (textLines s headerLines) (ruleLines s false headerRule)
-      (rule-lengths false headerRule (lineLength (tableOf s) (widthsIn s)) (rule-length (tableOf s) (widthsIn s) headerRule)) rs (each-text headerLines rs)
+      (rule-lengths false headerRule (lineLength (tableOf s) (widthsIn s)) (rule-length (tableOf s) (widthsIn s) headerRule)) rs
+          (each-text headerLines rs)
 
   module _ (p : Page) (l : Lengths) (L : LengthsAre s l) (c : Cursor) where
     pub top-size : c .stage ≡ Top → SizeIs s p c (l .border + 1)
     unfolding partLines
-    top-size e = record { each = rw (e, L .border) (rule-lengths true topBorder _ (border-length (tableOf s) (widthsIn s) topBorder)); small = omega (arith, L .border-small) }
+    top-size e = record { each = rw (e, L .border) (rule-lengths true topBorder _ (border-length (tableOf s) (widthsIn s) topBorder)); small = omega
+        (arith, L .border-small) }
 
     pub bottom-size : c .stage ≡ Bottom → SizeIs s p c (l .border + 1)
     unfolding partLines
-    bottom-size e = record { each = rw (e, L .border) (rule-lengths true bottomBorder _ (border-length (tableOf s) (widthsIn s) bottomBorder)); small = omega (arith, L .border-small) }
+    bottom-size e = record { each = rw (e, L .border) (rule-lengths true bottomBorder _ (border-length (tableOf s) (widthsIn s) bottomBorder));
+        small = omega (arith, L .border-small) }
 
     pub header-size : c .stage ≡ Header → SizeIs s p c (l .line + 1)
     unfolding partLines

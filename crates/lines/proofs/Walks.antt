@@ -14,7 +14,7 @@ use Rattle.rules.specs.Text.{All}
 use Rattle.rules.specs.Sheet.{Row, noRow}
 use Rattle.rules.specs.Style.{topBorder, bottomBorder}
 use Rattle.rules.specs.Page.{closed, fitting}
-use Rattle.rules.specs.Limits.{longestLine, RowLimits}
+use Rattle.rules.specs.Limits.{longestLine, RowLimits, mostLines}
 use Rattle.rules.proofs.Counts.{height-bound, framed-count, framed-byte-bound}
 use Rattle.rules.proofs.Fitting.{fitting-few}
 use Rattle.rules.proofs.Lists.{all-getD}
@@ -86,7 +86,8 @@ unfolding limited
 limited-some zero n h = absurd (h refl)
 limited-some (suc l) n h = refl
 
-pub row-lines-are : (s : List ℕ) (view : View) (here : Rows) (r : records.Row) (n m : ℕ) → Drawable s view here → RowIs s here r → n ≡ heightUpTo (cellsIn s (r .cells)) view (view .count)
+pub row-lines-are : (s : List ℕ) (view : View) (here : Rows) (r : records.Row) (n m : ℕ) → Drawable s view here → RowIs s here r → n ≡ heightUpTo
+    (cellsIn s (r .cells)) view (view .count)
     → m ≡ limited (r .limit) n → m ≡ rowHeight s (firstRow s here)
 row-lines-are s view here r n m D R e f = f ∙ rw (e, R .limit, R .cells) (limited-height (tableOf s) (widthsIn s) (firstRow s here) view (D .views))
 
@@ -98,7 +99,8 @@ band-none s b here e = go (rowsIn s here) (rows-number s here)
     go [] f = refl
     go (r ∷ rs) f = absurd (omega arith)
 
-pub band-some : (s : List ℕ) (b : Bool) (here : Rows) (n m : ℕ) → (here .left ≡ 0 → ⊥) → n ≡ rowHeight s (firstRow s here) → m ≡ cond b 1 0 → n + m ≡ bandCount s b (rowsIn s here)
+pub band-some : (s : List ℕ) (b : Bool) (here : Rows) (n m : ℕ) → (here .left ≡ 0 → ⊥) → n ≡ rowHeight s (firstRow s here) → m ≡ cond b 1 0 → n + m ≡
+    bandCount s b (rowsIn s here)
 unfolding bandCount
 band-some s b here n m h e f = go (rowsIn s here) (rows-number s here) e
   where
@@ -109,7 +111,8 @@ band-some s b here n m h e f = go (rowsIn s here) (rows-number s here) e
 -- ---- a border or a rule
 
 module _ (view : View) (y : RuleStyle) (b : List ℕ) where
-  pub rule-none : (visible : Bool) → not visible ≡ true → PartIs (cond visible (ruleText view y ∷ []) []) b b (record { lines = 0; bytes = 0; whole = true })
+  pub rule-none : (visible : Bool) → not visible ≡ true → PartIs (cond visible (ruleText view y ∷ []) []) b b
+      (record { lines = 0; bytes = 0; whole = true })
   rule-none true e = let z : _≡_ {A = ℕ} 0 1 = cc in absurd (omega arith)
   rule-none false e = part-none b
 
@@ -124,7 +127,8 @@ module _ (view : View) (y : RuleStyle) (b : List ℕ) where
   pub rule-room : (size : ℕ) → size ≡ length (ruleText view y) + 1 → size ≤ length b → length (ruleBytes view y) ≤ length b
   rule-room size e h = omega (arith, rule-size)
 
-  pub rule-one : (visible : Bool) (size n : ℕ) (a : List ℕ) → not visible ≡ false → size ≡ length (ruleText view y) + 1 → size ≤ length b → n ≡ length (ruleBytes view y) → a ≡ over (ruleBytes view y) b
+  pub rule-one : (visible : Bool) (size n : ℕ) (a : List ℕ) → not visible ≡ false → size ≡ length (ruleText view y) + 1 → size ≤ length b → n ≡ length
+      (ruleBytes view y) → a ≡ over (ruleBytes view y) b
       → PartIs (cond visible (ruleText view y ∷ []) []) b a (record { lines = 1; bytes = n; whole = true })
   rule-one true size n a e f h i j = rw (i, rule-size) (part-line (ruleText view y) b a (omega arith) (j ∙ ap (λ l. over l b) (rule-text view y)))
   rule-one false size n a e f h i j = let z : _≡_ {A = ℕ} 0 1 = cc in absurd (omega arith)
@@ -144,10 +148,12 @@ band-empty s view y here first b e = go (rowsIn s here) (rows-number s here)
     go [] f = rw (none first) (part-none b)
     go (r ∷ rs) f = absurd (omega arith)
 
-pub band-sized : (s : List ℕ) (view : View) (y : RowStyle) (here : Rows) (n : ℕ) → SizedBand s view y (rowsIn s here) n → 0 < here .left → Sized s (y .lines) (firstRow s here) n
+pub band-sized : (s : List ℕ) (view : View) (y : RowStyle) (here : Rows) (n : ℕ) → SizedBand s view y (rowsIn s here) n → 0 < here .left → Sized s
+    (y .lines) (firstRow s here) n
 band-sized s view y here n B h = B .text (omega (arith, rows-number s here))
 
-module _ (s : List ℕ) (view : View) (y : RowStyle) (here : Rows) (first : ℕ) (some : 0 < here .left) (within : first ≤ length (bandLines s view y (rowsIn s here)) - 1) where
+module _ (s : List ℕ) (view : View) (y : RowStyle) (here : Rows) (first : ℕ) (some : 0 < here .left)
+    (within : first ≤ length (bandLines s view y (rowsIn s here)) - 1) where
   rule : List (List ℕ)
   rule = cond (y .ruled) (ruleText view (y .rule) ∷ []) []
 
@@ -155,7 +161,8 @@ module _ (s : List ℕ) (view : View) (y : RowStyle) (here : Rows) (first : ℕ)
   unfolding bandLines
   band-is = go (rowsIn s here) (rows-number s here)
     where
-      go : (rs : List Row) → length rs ≡ here .left → bandLines s view y rs ≡ rowLines s (y .lines) (getD rs 0 noRow) ++ cond (y .ruled) (ruleText view (y .rule) ∷ []) []
+      go : (rs : List Row) → length rs ≡ here .left → bandLines s view y rs ≡ rowLines s (y .lines) (getD rs 0 noRow) ++ cond (y .ruled)
+          (ruleText view (y .rule) ∷ []) []
       go [] e = absurd (omega arith)
       go (r ∷ rs) e = refl
 
@@ -163,18 +170,23 @@ module _ (s : List ℕ) (view : View) (y : RowStyle) (here : Rows) (first : ℕ)
   few true = omega arith
   few false = omega arith
 
-  pub band-split : drop first (bandLines s view y (rowsIn s here)) ≡ drop first (rowLines s (y .lines) (firstRow s here)) ++ cond (y .ruled) (ruleText view (y .rule) ∷ []) []
+  pub band-split : drop first (bandLines s view y (rowsIn s here)) ≡ drop first (rowLines s (y .lines) (firstRow s here)) ++ cond (y .ruled)
+      (ruleText view (y .rule) ∷ []) []
   band-split =
       let l = rowLines s (y .lines) (firstRow s here) in
       ap (drop first) band-is ∙ drop-append first (rowLines s (y .lines) (firstRow s here)) (cond (y .ruled) (ruleText view (y .rule) ∷ []) [])
-      (omega (arith, within, ap length band-is, length-append (rowLines s (y .lines) (firstRow s here)) (cond (y .ruled) (ruleText view (y .rule) ∷ []) []), few (y .ruled)))
+      (omega (arith, within, ap length band-is, length-append (rowLines s (y .lines) (firstRow s here))
+          (cond (y .ruled) (ruleText view (y .rule) ∷ []) []), few (y .ruled)))
 
-  pub band-cut : (b a : List ℕ) (r : Part) → PartIs (drop first (rowLines s (y .lines) (firstRow s here))) b a r → not (r .whole) ≡ true → PartIs (drop first (bandLines s view y (rowsIn s here))) b a r
+  pub band-cut : (b a : List ℕ) (r : Part) → PartIs (drop first (rowLines s (y .lines) (firstRow s here))) b a r → not (r .whole) ≡ true → PartIs
+      (drop first (bandLines s view y (rowsIn s here))) b a r
   band-cut b a r P e = rw band-split (part-short _ (cond (y .ruled) (ruleText view (y .rule) ∷ []) []) b a r P (not-true (r .whole) e))
 
   pub band-whole : (b a c ys : List ℕ) (r q : Part) → PartIs (drop first (rowLines s (y .lines) (firstRow s here))) b a r → not (r .whole) ≡ false
-      → PartIs (cond (y .ruled) (ruleText view (y .rule) ∷ []) []) (take (length a - r .bytes) (drop (r .bytes) a)) ys q → c ≡ putMid (r .bytes) (length a - r .bytes) a ys
-      → PartIs (drop first (bandLines s view y (rowsIn s here))) b c (record { lines = r .lines + q .lines; bytes = r .bytes + q .bytes; whole = q .whole })
+      → PartIs (cond (y .ruled) (ruleText view (y .rule) ∷ []) []) (take (length a - r .bytes) (drop (r .bytes) a)) ys q → c ≡ putMid (r .bytes)
+          (length a - r .bytes) a ys
+      → PartIs (drop first (bandLines s view y (rowsIn s here))) b c
+          (record { lines = r .lines + q .lines; bytes = r .bytes + q .bytes; whole = q .whole })
   band-whole b a c ys r q P e Q f = rw band-split (part-join _ _ b a c ys r q P (not-false (r .whole) e) Q f)
 
 -- ---- a part drawn
@@ -184,14 +196,16 @@ module _ (s : List ℕ) (cols : List (List ℕ)) (p : Page) (O : Opened s cols p
   unfolding partLines
   header-part e = rw e (sym (header-drawn s cols p O))
 
-  body-part : (y : RowStyle) → c .stage ≡ Body → y ≡ bodyStyle (p .styles .body) (c .here .left) → partLines s p c ≡ bandLines s (viewOf cols (p .count)) y (rowsIn s (c .here))
+  body-part : (y : RowStyle) → c .stage ≡ Body → y ≡ bodyStyle (p .styles .body) (c .here .left) → partLines s p c ≡ bandLines s
+      (viewOf cols (p .count)) y (rowsIn s (c .here))
   unfolding partLines
   body-part y e f = rw e (sym (body-drawn s cols p O (c .here) y f))
 
   pub header-within : c .stage ≡ Header → c .line ≤ length (bandLines s (viewOf cols (p .count)) (p .styles .header) (rowsIn s (p .header))) - 1
   header-within e = rw (← header-part e) (A .within)
 
-  pub body-within : (y : RowStyle) → c .stage ≡ Body → y ≡ bodyStyle (p .styles .body) (c .here .left) → c .line ≤ length (bandLines s (viewOf cols (p .count)) y (rowsIn s (c .here))) - 1
+  pub body-within : (y : RowStyle) → c .stage ≡ Body → y ≡ bodyStyle (p .styles .body) (c .here .left) → c .line ≤ length
+      (bandLines s (viewOf cols (p .count)) y (rowsIn s (c .here))) - 1
   body-within y e f = rw (← body-part y e f) (A .within)
 
   -- a border has one line or none, so the cursor is at its start
@@ -199,19 +213,23 @@ module _ (s : List ℕ) (cols : List (List ℕ)) (p : Page) (O : Opened s cols p
   border-start k e = let z : c .line ≡ 0 = omega (arith, A .within, ap length e, border-few s k) in ap (λ n. drop n (partLines s p c)) z ∙ e
 
   module _ (b a : List ℕ) (r : Part) where
-    pub draw-top : c .stage ≡ Top → PartIs (cond (p .styles .«has_top») (ruleText (viewOf cols (p .count)) (p .styles .top) ∷ []) []) b a r → PartIs (drop (c .line) (partLines s p c)) b a r
+    pub draw-top : c .stage ≡ Top → PartIs (cond (p .styles .«has_top») (ruleText (viewOf cols (p .count)) (p .styles .top) ∷ []) []) b a r → PartIs
+        (drop (c .line) (partLines s p c)) b a r
     unfolding partLines
     draw-top e P = rw (border-start topBorder (rw e), ← top-drawn s cols p O) P
 
-    pub draw-bottom : c .stage ≡ Bottom → PartIs (cond (p .styles .«has_bottom») (ruleText (viewOf cols (p .count)) (p .styles .bottom) ∷ []) []) b a r → PartIs (drop (c .line) (partLines s p c)) b a r
+    pub draw-bottom : c .stage ≡ Bottom → PartIs (cond (p .styles .«has_bottom») (ruleText (viewOf cols (p .count)) (p .styles .bottom) ∷ []) []) b a
+        r → PartIs (drop (c .line) (partLines s p c)) b a r
     unfolding partLines
     draw-bottom e P = rw (border-start bottomBorder (rw e), ← bottom-drawn s cols p O) P
 
-    pub draw-header : c .stage ≡ Header → PartIs (drop (c .line) (bandLines s (viewOf cols (p .count)) (p .styles .header) (rowsIn s (p .header)))) b a r → PartIs (drop (c .line) (partLines s p c)) b a r
+    pub draw-header : c .stage ≡ Header → PartIs (drop (c .line) (bandLines s (viewOf cols (p .count)) (p .styles .header) (rowsIn s (p .header)))) b
+        a r → PartIs (drop (c .line) (partLines s p c)) b a r
     draw-header e P = rw (header-part e) P
 
     pub draw-body : (y : RowStyle) → c .stage ≡ Body → y ≡ bodyStyle (p .styles .body) (c .here .left)
-        → PartIs (drop (c .line) (bandLines s (viewOf cols (p .count)) y (rowsIn s (c .here)))) b a r → PartIs (drop (c .line) (partLines s p c)) b a r
+        → PartIs (drop (c .line) (bandLines s (viewOf cols (p .count)) y (rowsIn s (c .here)))) b a r → PartIs (drop (c .line) (partLines s p c)) b a
+            r
     draw-body y e f P = rw (body-part y e f) P
 
   pub draw-end : (b : List ℕ) → c .stage ≡ End → PartIs (drop (c .line) (partLines s p c)) b b (record { lines = 0; bytes = 0; whole = true })
@@ -232,11 +250,11 @@ module _ (s : List ℕ) (cols : List (List ℕ)) (p : Page) (O : Opened s cols p
   rows-left = omega (arith, rows-number s (p .rows), O .rows-few)
 
   -- a page has at most a million lines, each within the longest
-  pub total-lines : length (linesOf s p) ≤ 1000000
+  pub total-lines : length (linesOf s p) ≤ mostLines
   unfolding linesOf
   total-lines = framed-count (tableOf s) (limits-of s (O .passes)) (widthsIn s) (rowsIn s (p .rows)) rows-left (O .rows-at .sound)
 
-  pub total-bytes : length (closed (linesOf s p)) ≤ 1000000 * (longestLine + 1)
+  pub total-bytes : length (closed (linesOf s p)) ≤ mostLines * (longestLine + 1)
   unfolding linesOf
   total-bytes = framed-byte-bound (tableOf s) (limits-of s (O .passes)) (rowsIn s (p .rows)) rows-left (O .rows-at .sound)
 
@@ -291,13 +309,15 @@ module _ (s : List ℕ) (p : Page) (c : Cursor) (lines bytes : ℕ) (C : Countin
   parts-length = ap length (ahead-start s p c (C .start)) ∙ length-append (partLines s p c) (restLines s p c)
 
   parts-bytes : length (closed (ahead s p c)) ≡ length (closed (partLines s p c)) + length (closed (restLines s p c))
-  parts-bytes = ap (λ ls. length (closed ls)) (ahead-start s p c (C .start)) ∙ ap length (closed-append (partLines s p c) (restLines s p c)) ∙ length-append (closed (partLines s p c)) (closed (restLines s p c))
+  parts-bytes = ap (λ ls. length (closed ls)) (ahead-start s p c (C .start)) ∙ ap length (closed-append (partLines s p c) (restLines s p c)) ∙
+      length-append (closed (partLines s p c)) (closed (restLines s p c))
 
   module _ (n size : ℕ) (en : n ≡ length (partLines s p c)) (Z : SizeIs s p c size) where
     part-bytes : n * size ≡ length (closed (partLines s p c))
     part-bytes = rw en (sym (closed-sized size (partLines s p c) (Z .each)))
 
-    pub counting-room : (lines + n ≤ length (linesOf s p)) × ((n * size ≤ length (closed (linesOf s p))) × (bytes + n * size ≤ length (closed (linesOf s p))))
+    pub counting-room : (lines + n ≤ length (linesOf s p)) × ((n * size ≤ length (closed (linesOf s p))) ×
+        (bytes + n * size ≤ length (closed (linesOf s p))))
     counting-room =
         let a = part-bytes in
         let b = parts-bytes in
@@ -345,9 +365,11 @@ reaching-begins s cols p O k c e =
 
 module _ (s : List ℕ) (p : Page) (k : ℕ) (c : Cursor) (left : ℕ) (R : Reaching s p k c left) where
   here-lines : length (partLines s p c) + length (restLines s p c) ≡ length (linesOf s p) - (k - left)
-  here-lines = sym (ap length (ahead-start s p c (R .start)) ∙ length-append (partLines s p c) (restLines s p c)) ∙ ap length (R .lines) ∙ length-drop (k - left) (linesOf s p)
+  here-lines = sym (ap length (ahead-start s p c (R .start)) ∙ length-append (partLines s p c) (restLines s p c)) ∙ ap length (R .lines) ∙ length-drop
+      (k - left) (linesOf s p)
 
-  pub reaching-found : (n : ℕ) → n ≡ length (partLines s p c) → left < n → (r : Cursor) → r ≡ furtherOn c left → SoughtIs s p k (record { cursor = r; passed = k })
+  pub reaching-found : (n : ℕ) → n ≡ length (partLines s p c) → left < n → (r : Cursor) → r ≡ furtherOn c left → SoughtIs s p k
+      (record { cursor = r; passed = k })
   unfolding ahead partLines restLines
   reaching-found n e h r q =
       let z : 0 + left ≡ left = omega arith in
@@ -355,7 +377,8 @@ module _ (s : List ℕ) (p : Page) (k : ℕ) (c : Cursor) (left : ℕ) (R : Reac
       let line : r .line ≡ left = ap (λ (x : Cursor). x .line) q ∙ omega (arith, R .start) in
       let same : partLines s p r ≡ partLines s p c = rw q in
       let on : drop left (ahead s p c) ≡ ahead s p r =
-      ap (drop left) (ahead-start s p c (R .start)) ∙ drop-append left (partLines s p c) (restLines s p c) (omega arith) ∙ sym (rw (q, R .start, z)) in
+      ap (drop left) (ahead-start s p c (R .start)) ∙ drop-append left (partLines s p c) (restLines s p c) (omega arith) ∙ sym (rw (q, R .start, z))
+          in
       let k-is : k - left + left ≡ k = omega arith in
       let there : drop left (ahead s p c) ≡ drop k (linesOf s p) =
       ap (drop left) (R .lines) ∙ drop-drop left (k - left) (linesOf s p) ∙ ap (λ m. drop m (linesOf s p)) k-is in
@@ -373,7 +396,8 @@ module _ (s : List ℕ) (p : Page) (k : ℕ) (c : Cursor) (left : ℕ) (R : Reac
       let w = R .within in
       let m : k - (left - n) ≡ k - left + n = omega arith in
       let rest : restLines s p c ≡ drop n (ahead s p c) =
-      sym (ap (drop n) (ahead-start s p c (R .start)) ∙ drop-append n (partLines s p c) (restLines s p c) (omega arith) ∙ rw (drop-whole n (partLines s p c) (omega arith))) in
+      sym (ap (drop n) (ahead-start s p c (R .start)) ∙ drop-append n (partLines s p c) (restLines s p c) (omega arith) ∙ rw
+          (drop-whole n (partLines s p c) (omega arith))) in
       record {
         at = N .at;
         start = N .start;
@@ -395,7 +419,8 @@ module _ (s : List ℕ) (p : Page) (k : ℕ) (c : Cursor) (left : ℕ) (R : Reac
 module _ (s : List ℕ) (p : Page) (k : ℕ) (r : Sought) (S : SoughtIs s p k r) where
   pub found-past : isEnd (r .cursor .stage) ≡ true → (room : ℕ) → FoundIs s p k room (record { number = 21; place = r .passed; cursor = r .cursor })
   found-past e room =
-      let all : r .passed ≡ length (linesOf s p) = omega (arith, S .passed, ap length (sym (S .lines) ∙ end-ahead s p (r .cursor) e), length-drop (r .passed) (linesOf s p)) in
+      let all : r .passed ≡ length (linesOf s p) = omega (arith, S .passed, ap length (sym (S .lines) ∙ end-ahead s p (r .cursor) e), length-drop
+            (r .passed) (linesOf s p)) in
       let past : length (linesOf s p) ≤ k = omega (arith, S .within) in
       record {
         past = λ _. (refl, all);
@@ -414,7 +439,8 @@ module _ (s : List ℕ) (p : Page) (k : ℕ) (r : Sought) (S : SoughtIs s p k r)
     here-line =
         let c = r .cursor in
         let z : r .cursor .line + 0 ≡ r .cursor .line = omega arith in
-        List·getD-append (drop (r .cursor .line) (partLines s p (r .cursor))) (restLines s p (r .cursor)) [] 0 (omega (arith, length-drop (r .cursor .line) (partLines s p (r .cursor)), S .some e))
+        List·getD-append (drop (r .cursor .line) (partLines s p (r .cursor))) (restLines s p (r .cursor)) [] 0
+            (omega (arith, length-drop (r .cursor .line) (partLines s p (r .cursor)), S .some e))
         ∙ getD-drop (r .cursor .line) (partLines s p (r .cursor)) 0 [] ∙ ap (λ n. getD (partLines s p (r .cursor)) n []) z
 
     size-is : size ≡ sizeOf s p k
@@ -426,7 +452,8 @@ module _ (s : List ℕ) (p : Page) (k : ℕ) (r : Sought) (S : SoughtIs s p k r)
 
     before : k < length (linesOf s p)
     unfolding ahead
-    before = omega (arith, S .some e, ap length there, length-append (drop (r .cursor .line) (partLines s p (r .cursor))) (restLines s p (r .cursor)), length-drop (r .cursor .line) (partLines s p (r .cursor)), length-drop k (linesOf s p))
+    before = omega (arith, S .some e, ap length there, length-append (drop (r .cursor .line) (partLines s p (r .cursor))) (restLines s p (r .cursor)),
+        length-drop (r .cursor .line) (partLines s p (r .cursor)), length-drop k (linesOf s p))
 
     pub found-short : (room : ℕ) → room < size → FoundIs s p k room (record { number = 20; place = size; cursor = r .cursor })
     found-short room h = record {
@@ -482,15 +509,19 @@ module _ (s : List ℕ) (p : Page) (from : Cursor) (b page : List ℕ) (c : Curs
   all-is = sym (take-append-drop n (ahead s p from)) ∙ ap (λ ls. take n (ahead s p from) ++ ls) left-is
       ∙ sym (append-assoc (take n (ahead s p from)) (drop (c .line) (partLines s p c)) (restLines s p c))
 
-  module _ (ys d : List ℕ) (r : Part) (P : PartIs (drop (c .line) (partLines s p c)) (take (length page - at) (drop at page)) ys r) (e : d ≡ putMid at (length page - at) page ys) where
-    both : PartIs (take n (ahead s p from) ++ drop (c .line) (partLines s p c)) b d (record { lines = n + r .lines; bytes = at + r .bytes; whole = r .whole })
-    both = part-join (take n (ahead s p from)) (drop (c .line) (partLines s p c)) b page d ys (record { lines = n; bytes = at; whole = true }) r (G .part) refl P e
+  module _ (ys d : List ℕ) (r : Part) (P : PartIs (drop (c .line) (partLines s p c)) (take (length page - at) (drop at page)) ys r)
+      (e : d ≡ putMid at (length page - at) page ys) where
+    both : PartIs (take n (ahead s p from) ++ drop (c .line) (partLines s p c)) b d
+        (record { lines = n + r .lines; bytes = at + r .bytes; whole = r .whole })
+    both = part-join (take n (ahead s p from)) (drop (c .line) (partLines s p c)) b page d ys (record { lines = n; bytes = at; whole = true }) r
+        (G .part) refl P e
 
     pub filling-kept : length d ≡ length b
     filling-kept = part-length _ b d _ both
 
     pub filling-lines : n + r .lines ≤ length (ahead s p from)
-    filling-lines = omega (arith, part-few _ _ _ _ P, ap length left-is, length-append (drop (c .line) (partLines s p c)) (restLines s p c), length-drop n (ahead s p from), G .few)
+    filling-lines = omega (arith, part-few _ _ _ _ P, ap length left-is, length-append (drop (c .line) (partLines s p c)) (restLines s p c),
+        length-drop n (ahead s p from), G .few)
 
     pub filling-bytes : at + r .bytes ≤ length b
     filling-bytes = omega (arith, part-room _ b d _ both, part-length _ b d _ both)
@@ -501,7 +532,8 @@ module _ (s : List ℕ) (p : Page) (from : Cursor) (b page : List ℕ) (c : Curs
         let m : r .lines ≡ length (drop (c .line) (partLines s p c)) = P .lines ∙ part-whole _ _ _ _ P w in
         let rest : drop (n + r .lines) (ahead s p from) ≡ restLines s p c =
         sym (drop-drop (r .lines) n (ahead s p from)) ∙ ap (drop (r .lines)) left-is
-        ∙ drop-append (r .lines) (drop (c .line) (partLines s p c)) (restLines s p c) (omega arith) ∙ rw (drop-whole (r .lines) (drop (c .line) (partLines s p c)) (omega arith)) in
+        ∙ drop-append (r .lines) (drop (c .line) (partLines s p c)) (restLines s p c) (omega arith) ∙ rw
+            (drop-whole (r .lines) (drop (c .line) (partLines s p c)) (omega arith)) in
         let done : take (n + r .lines) (ahead s p from) ≡ take n (ahead s p from) ++ drop (c .line) (partLines s p c) =
         take-more n (r .lines) (ahead s p from) ∙ ap (λ ls. take n (ahead s p from) ++ take (r .lines) ls) left-is
         ∙ ap (λ ls. take n (ahead s p from) ++ ls) (take-at (drop (c .line) (partLines s p c)) (restLines s p c) (r .lines) (sym m)) in
@@ -513,7 +545,8 @@ module _ (s : List ℕ) (p : Page) (from : Cursor) (b page : List ℕ) (c : Curs
         }
 
     -- it isn't: nothing after it is written
-    pub filling-stops : r .whole ≡ false → (k : Cursor) → k ≡ furtherOn c (r .lines) → WroteIs s p from b d (record { lines = n + r .lines; bytes = at + r .bytes; next = k })
+    pub filling-stops : r .whole ≡ false → (k : Cursor) → k ≡ furtherOn c (r .lines) → WroteIs s p from b d
+        (record { lines = n + r .lines; bytes = at + r .bytes; next = k })
     unfolding ahead partLines restLines
     filling-stops w k q =
         let S = part-short _ (restLines s p c) b d _ both w in
@@ -529,14 +562,16 @@ module _ (s : List ℕ) (p : Page) (from : Cursor) (b page : List ℕ) (c : Curs
           page = S .page ∙ rw (← all-lines);
           next = sym on ∙ ap (drop (r .lines)) (G .rest) ∙ drop-drop (r .lines) n (ahead s p from);
           at = record { rows = rw q (G .stands .rows); within = rw q (omega arith) };
-          left = λ _. omega (arith, ap length left-is, length-append (drop (c .line) (partLines s p c)) (restLines s p c), length-drop n (ahead s p from), G .few);
+          left = λ _. omega (arith, ap length left-is, length-append (drop (c .line) (partLines s p c)) (restLines s p c), length-drop n
+              (ahead s p from), G .few);
         }
 
   -- nothing is left
   pub filling-done : isEnd (c .stage) ≡ true → WroteIs s p from b page (record { lines = n; bytes = at; next = c })
   filling-done e =
       let none : drop n (ahead s p from) ≡ [] = sym (G .rest) ∙ end-ahead s p c e in
-      let whole : take n (ahead s p from) ≡ ahead s p from = take-all n (ahead s p from) (omega (arith, ap length none, length-drop n (ahead s p from))) in
+      let whole : take n (ahead s p from) ≡ ahead s p from = take-all n (ahead s p from)
+            (omega (arith, ap length none, length-drop n (ahead s p from))) in
       record {
         lines = G .part .lines ∙ rw whole;
         bytes = G .part .bytes ∙ rw whole;

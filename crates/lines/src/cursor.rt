@@ -2,6 +2,7 @@
 // with the rule after it, the bottom border. What is kept between two parts is a row and a line in it.
 ghost use mathlib.Core.Path.{_≡_};
 ghost use Prim.Native.Nat.{_+_, _≤_};
+ghost use Rattle.rules.specs.Limits.{mostLines};
 ghost use Rattle.lines.specs.Opened.{RowsAt};
 ghost use Rattle.lines.specs.Ahead.{isEnd, AfterRow, Next, firstCursor, furtherOn};
 use crate::open::Page;
@@ -52,7 +53,7 @@ pub fn is_end(c: Cursor) -> bool
 
 // The same part, n lines further.
 pub fn further(c: Cursor, n: usize) -> Cursor
-    requires { ⌜ c .line + n ≤ 1000000 ⌝ }
+    requires { ⌜ c .line + n ≤ mostLines ⌝ }
     ensures { λ r. ⌜ r ≡ furtherOn c n ⌝ }
 {
     let stage = c.stage;

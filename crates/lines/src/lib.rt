@@ -6,6 +6,7 @@ pub mod part;
 
 ghost use mathlib.Core.Path.{_≡_};
 ghost use Prim.Native.Nat.{ℕ, _≤_};
+ghost use Rattle.rules.specs.Limits.{mostLines};
 ghost use lib.ListN.{length};
 ghost use Rattle.rules.specs.Page.{closed};
 ghost use Rattle.lines.specs.Opened.{Opened};
@@ -125,7 +126,7 @@ pub fn write(
     p: Page,
     from: Cursor,
 ) -> Written
-    requires { ⌜ Opened (now sheet) (now columns) p × (At (now sheet) p from × (length (ahead (now sheet) p from) ≤ 1000000)) ⌝ }
+    requires { ⌜ Opened (now sheet) (now columns) p × (At (now sheet) p from × (length (ahead (now sheet) p from) ≤ mostLines)) ⌝ }
     ensures { λ r. ⌜ WroteIs (now (sheet .entry)) p from (now (page .entry)) (now (page .exit)) r ⌝ }
 {
     let l = lengths::measure(sheet, columns, p);

@@ -1,6 +1,7 @@
 -- What each call answers, from what its parts found. Assumes nothing.
 use Prim.Native.Nat.{ℕ, suc, _+_, _-_, _≤_, _<_}
 use mathlib.Core.Path.{_≡_, refl, sym, ap, _∙_}
+use Rattle.rules.specs.Limits.{mostLines}
 use mathlib.Core.List.{List, [], _∷_, _++_, append-nil}
 use mathlib.Core.Bool.{Bool, true, false}
 use native.Mathlib.Omega.{arith}
@@ -117,11 +118,14 @@ module _ (s : List ℕ) (h : Passes s) where
 
   put-short : (l b : List ℕ) (n : ℕ) → n ≡ length l → length b < n → put l b ≡ turned 20 n b
   unfolding put
-  put-short l b n e k = passed-over (leb (length l) (length b)) (wrote-all l b) (turned 20 (length l) b) (le-false (length l) (length b) (omega arith)) ∙ ap (λ m. turned 20 m b) (sym e)
+  put-short l b n e k = passed-over (leb (length l) (length b)) (wrote-all l b) (turned 20 (length l) b)
+      (le-false (length l) (length b) (omega arith)) ∙ ap (λ m. turned 20 m b) (sym e)
 
-  put-whole : (l b : List ℕ) (n : ℕ) → n ≡ length l → n ≤ length b → put l b ≡ record { answer = record { number = 0; place = 0; written = n }; buffer = over l b }
+  put-whole : (l b : List ℕ) (n : ℕ) → n ≡ length l → n ≤ length b → put l b ≡ record
+      { answer = record { number = 0; place = 0; written = n }; buffer = over l b }
   unfolding put over
-  put-whole l b n e k = chosen (leb (length l) (length b)) (wrote-all l b) (turned 20 (length l) b) (le-true (length l) (length b) (omega arith)) ∙ ap (λ m. record { answer = record { number = 0; place = 0; written = m }; buffer = over l b }) (sym e)
+  put-whole l b n e k = chosen (leb (length l) (length b)) (wrote-all l b) (turned 20 (length l) b) (le-true (length l) (length b) (omega arith)) ∙ ap
+      (λ m. record { answer = record { number = 0; place = 0; written = m }; buffer = over l b }) (sym e)
 
   bytes-of : length (pageOf (tableOf s)) ≡ byteCount (tableOf s)
   unfolding byteCount
@@ -134,24 +138,29 @@ module _ (s : List ℕ) (h : Passes s) where
   pub page-short : (b : List ℕ) (n : ℕ) → n ≡ byteCount (tableOf s) → length b < n → printPage s b ≡ turned 20 n b
   page-short b n e k = page-put b ∙ put-short (pageOf (tableOf s)) b n (e ∙ sym bytes-of) k
 
-  pub page-whole : (b : List ℕ) (n : ℕ) → n ≡ byteCount (tableOf s) → n ≤ length b → printPage s b ≡ record { answer = record { number = 0; place = 0; written = n }; buffer = over (pageOf (tableOf s)) b }
+  pub page-whole : (b : List ℕ) (n : ℕ) → n ≡ byteCount (tableOf s) → n ≤ length b → printPage s b ≡ record
+      { answer = record { number = 0; place = 0; written = n }; buffer = over (pageOf (tableOf s)) b }
   page-whole b n e k = page-put b ∙ put-whole (pageOf (tableOf s)) b n (e ∙ sym bytes-of) k
 
   line-past-count : (k : ℕ) (b : List ℕ) → lineCount (tableOf s) ≤ k → printLine s k b ≡ turned 21 (lineCount (tableOf s)) b
   unfolding printLine printLineOf
-  line-past-count k b e = let H = held s h in ap (λ x. printLineOf x k b) (H .reads) ∙ passed-over (ltb k (lineCount (tableOf s))) (put (lineAt (tableOf s) k) b) (turned 21 (lineCount (tableOf s)) b) (lt-false k (lineCount (tableOf s)) e)
+  line-past-count k b e = let H = held s h in ap (λ x. printLineOf x k b) (H .reads) ∙ passed-over (ltb k (lineCount (tableOf s)))
+      (put (lineAt (tableOf s) k) b) (turned 21 (lineCount (tableOf s)) b) (lt-false k (lineCount (tableOf s)) e)
 
   line-put : (k : ℕ) (b : List ℕ) → k < lineCount (tableOf s) → printLine s k b ≡ put (lineAt (tableOf s) k) b
   unfolding printLine printLineOf
-  line-put k b e = let H = held s h in ap (λ x. printLineOf x k b) (H .reads) ∙ chosen (ltb k (lineCount (tableOf s))) (put (lineAt (tableOf s) k) b) (turned 21 (lineCount (tableOf s)) b) (lt-true k (lineCount (tableOf s)) e)
+  line-put k b e = let H = held s h in ap (λ x. printLineOf x k b) (H .reads) ∙ chosen (ltb k (lineCount (tableOf s))) (put (lineAt (tableOf s) k) b)
+      (turned 21 (lineCount (tableOf s)) b) (lt-true k (lineCount (tableOf s)) e)
 
   lines-past-count : (k : ℕ) (b : List ℕ) → lineCount (tableOf s) ≤ k → several.printLines s k b ≡ several.turned 21 (lineCount (tableOf s)) b
   unfolding several.printLines several.printLinesOf
-  lines-past-count k b e = let H = held s h in ap (λ x. several.printLinesOf x k b) (H .reads) ∙ passed-over (ltb k (lineCount (tableOf s))) (several.putLines (tableOf s) k b) (several.turned 21 (lineCount (tableOf s)) b) (lt-false k (lineCount (tableOf s)) e)
+  lines-past-count k b e = let H = held s h in ap (λ x. several.printLinesOf x k b) (H .reads) ∙ passed-over (ltb k (lineCount (tableOf s)))
+      (several.putLines (tableOf s) k b) (several.turned 21 (lineCount (tableOf s)) b) (lt-false k (lineCount (tableOf s)) e)
 
   lines-put : (k : ℕ) (b : List ℕ) → k < lineCount (tableOf s) → several.printLines s k b ≡ several.putLines (tableOf s) k b
   unfolding several.printLines several.printLinesOf
-  lines-put k b e = let H = held s h in ap (λ x. several.printLinesOf x k b) (H .reads) ∙ chosen (ltb k (lineCount (tableOf s))) (several.putLines (tableOf s) k b) (several.turned 21 (lineCount (tableOf s)) b) (lt-true k (lineCount (tableOf s)) e)
+  lines-put k b e = let H = held s h in ap (λ x. several.printLinesOf x k b) (H .reads) ∙ chosen (ltb k (lineCount (tableOf s)))
+      (several.putLines (tableOf s) k b) (several.turned 21 (lineCount (tableOf s)) b) (lt-true k (lineCount (tableOf s)) e)
 
   -- the page is opened over all rows
   module _ (p : Page) (rows : rowsIn s (p .rows) ≡ tableOf s .rows) where
@@ -163,14 +172,14 @@ module _ (s : List ℕ) (h : Passes s) where
     unfolding lineCount
     count-all r T = (T .lines ∙ ap length lines-all, T .bytes ∙ ap (λ ls. length (closed ls)) lines-all ∙ sym (byte-count-closed (tableOf s)))
 
-    pub lines-bound : (c : Cursor) (k : ℕ) → ahead s p c ≡ drop k (linesOf s p) → length (ahead s p c) ≤ 1000000
+    pub lines-bound : (c : Cursor) (k : ℕ) → ahead s p c ≡ drop k (linesOf s p) → length (ahead s p c) ≤ mostLines
     unfolding lineCount
     lines-bound c k e = omega (arith, ap length e, length-drop k (linesOf s p), ap length lines-all, line-count-bound (tableOf s) (limits-of s h))
 
-    pub lines-bound-first : (cols : List (List ℕ)) → Opened s cols p → length (ahead s p (firstCursor p)) ≤ 1000000
+    pub lines-bound-first : (cols : List (List ℕ)) → Opened s cols p → length (ahead s p (firstCursor p)) ≤ mostLines
     lines-bound-first cols O = lines-bound (firstCursor p) 0 (first-ahead s cols p O)
 
-    pub lines-few : (c : Cursor) (k : ℕ) (r : Written) {b a : List ℕ} → ahead s p c ≡ drop k (linesOf s p) → WroteIs s p c b a r → r .lines ≤ 1000000
+    pub lines-few : (c : Cursor) (k : ℕ) (r : Written) {b a : List ℕ} → ahead s p c ≡ drop k (linesOf s p) → WroteIs s p c b a r → r .lines ≤ mostLines
     lines-few c k r {b} {a} e W = omega (arith, W .lines, fitting-few (length b) (ahead s p c), lines-bound c k e)
 
     closed-page : (b : List ℕ) → over (closed (pageLines (tableOf s))) b ≡ over (pageOf (tableOf s)) b
@@ -178,7 +187,8 @@ module _ (s : List ℕ) (h : Passes s) where
     closed-page b = refl
 
     -- the whole page
-    pub page-written : (b a : List ℕ) (r : Written) → ahead s p (firstCursor p) ≡ linesOf s p → WroteIs s p (firstCursor p) b a r → byteCount (tableOf s) ≤ length b
+    pub page-written : (b a : List ℕ) (r : Written) → ahead s p (firstCursor p) ≡ linesOf s p → WroteIs s p (firstCursor p) b a r → byteCount
+        (tableOf s) ≤ length b
         → printPage s b ≡ record { answer = record { number = 0; place = 0; written = r .bytes }; buffer = a }
     page-written b a r e W room =
         let bytes = byte-count-closed (tableOf s) in
@@ -198,7 +208,8 @@ module _ (s : List ℕ) (h : Passes s) where
 
     module _ (k : ℕ) (b : List ℕ) (r : Found) (F : FoundIs s p k (length b) r) where
       -- which of the three it is
-      by : {A : Type 0} → (length (linesOf s p) ≤ k → A) → (k < length (linesOf s p) → length b < sizeOf s p k → A) → (k < length (linesOf s p) → sizeOf s p k ≤ length b → A) → A
+      by : {A : Type 0} → (length (linesOf s p) ≤ k → A) → (k < length (linesOf s p) → length b < sizeOf s p k → A) →
+          (k < length (linesOf s p) → sizeOf s p k ≤ length b → A) → A
       by {A} past short found = go (ltb k (length (linesOf s p))) refl (ltb (length b) (sizeOf s p k)) refl
         where
           go : (x : Bool) → ltb k (length (linesOf s p)) ≡ x → (y : Bool) → ltb (length b) (sizeOf s p k) ≡ y → A
@@ -223,7 +234,8 @@ module _ (s : List ℕ) (h : Passes s) where
           (λ e. let q = F .past e in lines-past-count k b (omega (arith, count-lines)) ∙ rw (q .0, q .1, count-lines))
           (λ e f. let q = F .short e f in
           lines-put k b (omega (arith, count-lines))
-          ∙ passed-over (leb (length (lineAt (tableOf s) k)) (length b)) (several.given k (fitting (length b) (drop k (pageLines (tableOf s)))) b) (several.turned 20 (length (lineAt (tableOf s) k)) b)
+          ∙ passed-over (leb (length (lineAt (tableOf s) k)) (length b)) (several.given k (fitting (length b) (drop k (pageLines (tableOf s)))) b)
+              (several.turned 20 (length (lineAt (tableOf s) k)) b)
           (le-false (length (lineAt (tableOf s) k)) (length b) (omega (arith, size-all k))) ∙ rw (q .0, q .1, size-all k))
           (λ e f. absurd (n (F .found e f .0)))
 
@@ -240,25 +252,31 @@ module _ (s : List ℕ) (h : Passes s) where
         first-line = F .lines n ∙ ap (drop k) lines-all ∙ drop-cons (pageLines (tableOf s)) k [] (found-here .0)
 
         -- the line alone, over a part of the buffer that holds just it
-        pub line-written : (y a : List ℕ) (w : Written) → length y ≡ r .place → WroteIs s p (r .cursor) y a w → (w .bytes ≡ length (lineAt (tableOf s) k)) × (a ≡ over (lineAt (tableOf s) k) y)
+        pub line-written : (y a : List ℕ) (w : Written) → length y ≡ r .place → WroteIs s p (r .cursor) y a w →
+            (w .bytes ≡ length (lineAt (tableOf s) k)) × (a ≡ over (lineAt (tableOf s) k) y)
         unfolding lineAt
         line-written y a w e W =
             let l = getD (pageLines (tableOf s)) k [] in
             let rest = drop (suc k) (pageLines (tableOf s)) in
-            let size : length (getD (pageLines (tableOf s)) k []) + 1 ≡ length (lineAt (tableOf s) k) = sym (length-append (getD (pageLines (tableOf s)) k []) (10 ∷ [])) in
+            let size : length (getD (pageLines (tableOf s)) k []) + 1 ≡ length (lineAt (tableOf s) k) = sym
+                  (length-append (getD (pageLines (tableOf s)) k []) (10 ∷ [])) in
             let m : length y ≡ length (getD (pageLines (tableOf s)) k []) + 1 = e ∙ found-here .1 .0 ∙ sym size in
             let z : length y - (length (getD (pageLines (tableOf s)) k []) + 1) ≡ 0 = omega arith in
             let only : fitting (length y) (ahead s p (r .cursor)) ≡ getD (pageLines (tableOf s)) k [] ∷ [] =
-            ap (fitting (length y)) first-line ∙ fitting-more (length y) (getD (pageLines (tableOf s)) k []) (drop (suc k) (pageLines (tableOf s))) (omega arith)
-            ∙ ap (λ ls. getD (pageLines (tableOf s)) k [] ∷ ls) (ap (λ i. fitting i (drop (suc k) (pageLines (tableOf s)))) z ∙ fitting-nothing (drop (suc k) (pageLines (tableOf s)))) in
-            let closed-is : closed (fitting (length y) (ahead s p (r .cursor))) ≡ lineAt (tableOf s) k = ap closed only ∙ closed-one (getD (pageLines (tableOf s)) k []) in
+            ap (fitting (length y)) first-line ∙ fitting-more (length y) (getD (pageLines (tableOf s)) k []) (drop (suc k) (pageLines (tableOf s)))
+                (omega arith)
+            ∙ ap (λ ls. getD (pageLines (tableOf s)) k [] ∷ ls) (ap (λ i. fitting i (drop (suc k) (pageLines (tableOf s)))) z ∙ fitting-nothing
+                (drop (suc k) (pageLines (tableOf s)))) in
+            let closed-is : closed (fitting (length y) (ahead s p (r .cursor))) ≡ lineAt (tableOf s) k = ap closed only ∙ closed-one
+                  (getD (pageLines (tableOf s)) k []) in
             (W .bytes ∙ ap length closed-is, W .page ∙ ap (λ t. over t y) closed-is)
 
         pub line-answer : (m : ℕ) (a : List ℕ) → m ≡ length (lineAt (tableOf s) k) → a ≡ over (lineAt (tableOf s) k) b
             → printLine s k b ≡ record { answer = record { number = 0; place = 0; written = m }; buffer = a }
         line-answer m a e f =
             let h = found-here in
-            line-put k b (h .0) ∙ put-whole (lineAt (tableOf s) k) b m e (omega (arith, h .1 .0, h .1 .1)) ∙ ap (λ x. record { answer = record { number = 0; place = 0; written = m }; buffer = x }) (sym f)
+            line-put k b (h .0) ∙ put-whole (lineAt (tableOf s) k) b m e (omega (arith, h .1 .0, h .1 .1)) ∙ ap
+                (λ x. record { answer = record { number = 0; place = 0; written = m }; buffer = x }) (sym f)
 
         -- lines from it on
         pub lines-answer : (a : List ℕ) (w : Written) → WroteIs s p (r .cursor) b a w
@@ -268,9 +286,10 @@ module _ (s : List ℕ) (h : Passes s) where
             let h = found-here in
             let from : ahead s p (r .cursor) ≡ drop k (pageLines (tableOf s)) = F .lines n ∙ ap (drop k) lines-all in
             lines-put k b (h .0)
-            ∙ chosen (leb (length (lineAt (tableOf s) k)) (length b)) (several.given k (fitting (length b) (drop k (pageLines (tableOf s)))) b) (several.turned 20 (length (lineAt (tableOf s) k)) b)
+            ∙ chosen (leb (length (lineAt (tableOf s) k)) (length b)) (several.given k (fitting (length b) (drop k (pageLines (tableOf s)))) b)
+                (several.turned 20 (length (lineAt (tableOf s) k)) b)
             (le-true (length (lineAt (tableOf s) k)) (length b) (omega (arith, h .1 .0, h .1 .1)))
             ∙ rw (W .bytes, W .lines, W .page, from)
 
-        pub k-small : k ≤ 1000000
+        pub k-small : k ≤ mostLines
         k-small = omega (arith, found-here .0, line-count-bound (tableOf s) (limits-of s h))

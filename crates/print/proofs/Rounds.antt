@@ -15,7 +15,7 @@ use Rattle.sheet.specs.Held.{tableOf}
 use Rattle.sheet.specs.Walk.{rowsIn}
 use Rattle.lines.specs.Opened.{Opened}
 use Rattle.lines.specs.Ahead.{isEnd, At, ahead, linesOf, firstCursor}
-use Rattle.rules.specs.Limits.{longestLine}
+use Rattle.rules.specs.Limits.{longestLine, mostLines}
 use Rattle.lines.specs.Walk.{WroteIs}
 use Rattle.lines.specs.declared.open.Page.{Page}
 use Rattle.lines.specs.declared.cursor.Cursor.{Cursor}
@@ -41,20 +41,23 @@ pub record Standing (s : List ℕ) (p : Page) (c : Cursor) : Type 0 where
 pub standing-first : (s : List ℕ) (cols : List (List ℕ)) (p : Page) → Opened s cols p → (c : Cursor) → c ≡ firstCursor p → Standing s p c
 standing-first s cols p O c e = rw e (record { at = first-at s cols p O; passed = 0; lines = first-ahead s cols p O })
 
-pub standing-few : (s : List ℕ) (cols : List (List ℕ)) (p : Page) → Opened s cols p → (c : Cursor) → Standing s p c → length (ahead s p c) ≤ 1000000
+pub standing-few : (s : List ℕ) (cols : List (List ℕ)) (p : Page) → Opened s cols p → (c : Cursor) → Standing s p c → length (ahead s p c) ≤ mostLines
 standing-few s cols p O c S = omega (arith, ap length (S .lines), length-drop (S .passed) (linesOf s p), total-lines s cols p O)
 
-module _ (s : List ℕ) (cols : List (List ℕ)) (p : Page) (O : Opened s cols p) (c : Cursor) (S : Standing s p c) (b a : List ℕ) (r : Written) (W : WroteIs s p c b a r) where
+module _ (s : List ℕ) (cols : List (List ℕ)) (p : Page) (O : Opened s cols p) (c : Cursor) (S : Standing s p c) (b a : List ℕ) (r : Written)
+    (W : WroteIs s p c b a r) where
   pub round-bytes : r .bytes ≤ length b
   round-bytes = omega (arith, W .bytes, fitted (length b) (ahead s p c))
 
   pub round-on : Standing s p (r .next)
-  round-on = record { at = W .at; passed = S .passed + r .lines; lines = W .next ∙ ap (drop (r .lines)) (S .lines) ∙ drop-drop (r .lines) (S .passed) (linesOf s p) }
+  round-on = record { at = W .at; passed = S .passed + r .lines; lines = W .next ∙ ap (drop (r .lines)) (S .lines) ∙ drop-drop (r .lines) (S .passed)
+      (linesOf s p) }
 
   -- the space holds any line, so that a part that leaves some has some
   some : longestLine + 1 ≤ length b → 0 < length (ahead s p c) → 0 < length (fitting (length b) (ahead s p c))
   unfolding linesOf
-  some h k = go (ahead s p c) k (rw (S .lines) (all-drop (λ l. length l ≤ longestLine) (S .passed) (linesOf s p) (framed-line-bound (tableOf s) (limits-of s (O .passes)) (rowsIn s (p .rows)))))
+  some h k = go (ahead s p c) k (rw (S .lines) (all-drop (λ l. length l ≤ longestLine) (S .passed) (linesOf s p)
+      (framed-line-bound (tableOf s) (limits-of s (O .passes)) (rowsIn s (p .rows)))))
     where
       go : (ls : List (List ℕ)) → 0 < length ls → All (λ l. length l ≤ longestLine) ls → 0 < length (fitting (length b) ls)
       go [] f g = absurd (omega arith)

@@ -51,7 +51,8 @@ unfolding cellLongest greatest
 blank-200 = omega (arith, width-length [])
 
 cell-at-200 : (n : ℕ) (r : Row) (j : ℕ) → RowLimits n r → cellLongest (cellAt r j) ≤ 200
-cell-at-200 n r j h = all-default (λ x. cellLongest x ≤ 200) (r .cells) j noCell blank-200 (all-imp CellLimits (λ x. cellLongest x ≤ 200) cell-200 (r .cells) (h .each))
+cell-at-200 n r j h = all-default (λ x. cellLongest x ≤ 200) (r .cells) j noCell blank-200
+    (all-imp CellLimits (λ x. cellLongest x ≤ 200) cell-200 (r .cells) (h .each))
 
 cells-200 : (n j : ℕ) (rs : List Row) → All (RowLimits n) rs → All (Most 200) (map cellLongest (cellsOf j rs))
 unfolding cellsOf
@@ -70,7 +71,8 @@ module _ (t : Table) (T : TableLimits t) where
   unfolding longest
   longest-200 j =
       greatest-le 200 (map cellLongest (cellsOf j (allRows t)))
-      (cells-200 (length (t .columns)) j (allRows t) (all-append (RowLimits (length (t .columns))) (t .header) (t .rows) (T .header-row) (T .each-row)))
+      (cells-200 (length (t .columns)) j (allRows t) (all-append (RowLimits (length (t .columns))) (t .header) (t .rows) (T .header-row)
+          (T .each-row)))
 
   percent-400 : (p : ℕ) → Offered (Most 400) (percentOf t p)
   unfolding percentOf
@@ -88,7 +90,8 @@ module _ (t : Table) (T : TableLimits t) where
   unfolding widthOf
   width-400 b w h = go (eqb (w .unit) 0) refl
     where
-      go : (x : Bool) → eqb (w .unit) 0 ≡ x → Offered (Most 400) (elim x as (λ x. Option ℕ) [ true ↦ some (w .value) | false ↦ percentOf t (w .value) ])
+      go : (x : Bool) → eqb (w .unit) 0 ≡ x → Offered (Most 400) (elim x as (λ x. Option ℕ)
+          [ true ↦ some (w .value) | false ↦ percentOf t (w .value) ])
       go true e = h .fixed (eqb-true (w .unit) 0 e)
       go false e = percent-400 (w .value)
 
@@ -134,7 +137,8 @@ module _ (t : Table) (T : TableLimits t) where
   upper-400 j = go (eqb (columnAt t j .constraint) 5) (eqb (columnAt t j .constraint) 6)
     where
       go : (b c : Bool) → Offered (Most 400)
-          (valueOf t (elim b as (λ x. Option Width) [ true ↦ some (columnAt t j .first) | false ↦ elim c as (λ x. Option Width) [ true ↦ some (columnAt t j .second) | false ↦ none ] ]))
+          (valueOf t (elim b as (λ x. Option Width) [ true ↦ some (columnAt t j .first) | false ↦ elim c as (λ x. Option Width)
+              [ true ↦ some (columnAt t j .second) | false ↦ none ] ]))
       go true c = first-400 j
       go false true = second-400 j
       go false false = tt
@@ -158,7 +162,8 @@ module _ (t : Table) (T : TableLimits t) where
   -- the first step
   evaluate-400 : (j : ℕ) → Offered (Most 400) (evaluate t j)
   unfolding evaluate
-  evaluate-400 j = go (isHidden (columnAt t j) || eqb (columnAt t j .constraint) 2) (absolute t (columnAt t j)) (absolute-400 j) (lower t (columnAt t j)) (lower-400 j)
+  evaluate-400 j = go (isHidden (columnAt t j) || eqb (columnAt t j .constraint) 2) (absolute t (columnAt t j)) (absolute-400 j)
+      (lower t (columnAt t j)) (lower-400 j)
     where
       go : (b : Bool) (o : Option ℕ) → Offered (Most 400) o → (p : Option ℕ) → Offered (Most 400) p
           → Offered (Most 400) (elim b as (λ x. Option ℕ) [
@@ -191,7 +196,8 @@ module _ (t : Table) (T : TableLimits t) where
       inner b h false = omega (arith, longest-200 j)
 
       go : (o : Option ℕ) → Offered (Most 400) o
-          → elim o as (λ x. ℕ) [ some b ↦ elim (ltb b (longest t j)) [ true ↦ contentOf (columnAt t j) b | false ↦ lifted (longest t j) ] | none ↦ lifted (longest t j) ] ≤ 400
+          → elim o as (λ x. ℕ) [ some b ↦ elim (ltb b (longest t j)) [ true ↦ contentOf (columnAt t j) b | false ↦ lifted (longest t j) ] | none ↦
+              lifted (longest t j) ] ≤ 400
       go (some b) h = inner b h (ltb b (longest t j))
       go none h = omega (arith, longest-200 j)
 
@@ -206,7 +212,8 @@ SmallRule rule = (j a : ℕ) → a ≤ 400 → Offered (Most 400) (rule j a)
 
 small-fixAt : (j : ℕ) (o : Option ℕ) (s : State) → Offered (Most 400) o → Small s → Small (fixAt j o s)
 unfolding fixAt fix
-small-fixAt j (some w) s h k = record { widths = all-set (Most 400) (s .widths) j (lifted w) (omega arith) (k .widths); remaining = omega (arith, k .remaining) }
+small-fixAt j (some w) s h k = record { widths = all-set (Most 400) (s .widths) j (lifted w) (omega arith) (k .widths); remaining = omega
+    (arith, k .remaining) }
 small-fixAt j none s h k = k
 
 pub average-le : (s : State) → average s ≤ s .remaining
@@ -229,10 +236,12 @@ pub small-passes : (begins : State → Bool) (rule : Rule) → SmallRule rule �
 unfolding passes
 small-passes begins rule h n zero s k = k
 small-passes begins rule h n (suc fuel) s k =
-    go (begins s) (ltb (undecided (pass rule n s)) (undecided s)) (small-pass rule h n s k) (small-passes begins rule h n fuel (pass rule n s) (small-pass rule h n s k))
+    go (begins s) (ltb (undecided (pass rule n s)) (undecided s)) (small-pass rule h n s k)
+        (small-passes begins rule h n fuel (pass rule n s) (small-pass rule h n s k))
   where
     go : (b c : Bool) → Small (pass rule n s) → Small (passes begins rule n fuel (pass rule n s))
-        → Small (elim b as (λ x. State) [ true ↦ elim c as (λ x. State) [ true ↦ passes begins rule n fuel (pass rule n s) | false ↦ pass rule n s ] | false ↦ s ])
+        → Small (elim b as (λ x. State) [ true ↦ elim c as (λ x. State) [ true ↦ passes begins rule n fuel (pass rule n s) | false ↦ pass rule n s ] |
+            false ↦ s ])
     go true true i m = m
     go true false i m = i
     go false c i m = k
@@ -266,11 +275,13 @@ module _ (t : Table) (T : TableLimits t) where
   unfolding aboveAverage
   above-400 j a h = go (lower t (columnAt t j)) (lower-400 t T j)
     where
-      inner : (b : ℕ) → b ≤ 400 → (x : Bool) → Offered (Most 400) (elim x as (λ x. Option ℕ) [ true ↦ some (contentOf (columnAt t j) b) | false ↦ none ])
+      inner : (b : ℕ) → b ≤ 400 → (x : Bool) → Offered (Most 400) (elim x as (λ x. Option ℕ)
+          [ true ↦ some (contentOf (columnAt t j) b) | false ↦ none ])
       inner b k true = omega arith
       inner b k false = tt
 
-      go : (o : Option ℕ) → Offered (Most 400) o → Offered (Most 400) (elim o as (λ x. Option ℕ) [ some b ↦ elim (ltb a b) [ true ↦ some (contentOf (columnAt t j) b) | false ↦ none ] | none ↦ none ])
+      go : (o : Option ℕ) → Offered (Most 400) o → Offered (Most 400)
+          (elim o as (λ x. Option ℕ) [ some b ↦ elim (ltb a b) [ true ↦ some (contentOf (columnAt t j) b) | false ↦ none ] | none ↦ none ])
       go (some b) k = inner b k (ltb a b)
       go none k = tt
 
@@ -281,7 +292,8 @@ module _ (t : Table) (T : TableLimits t) where
       l400 : longest t j ≤ 400
       l400 = omega (arith, longest-200 t T j)
 
-      inner : (b : ℕ) → b ≤ 400 → (x : Bool) → Offered (Most 400) (elim x as (λ x. Option ℕ) [ true ↦ some (contentOf (columnAt t j) b) | false ↦ withinAverage (longest t j) a ])
+      inner : (b : ℕ) → b ≤ 400 → (x : Bool) → Offered (Most 400) (elim x as (λ x. Option ℕ)
+          [ true ↦ some (contentOf (columnAt t j) b) | false ↦ withinAverage (longest t j) a ])
       inner b k true = omega arith
       inner b k false = within-400 (longest t j) a l400
 
@@ -299,7 +311,8 @@ module _ (t : Table) (T : TableLimits t) where
   unfolding splitAtAverage shorterBy3
   splitting-400 j a h = go (leb (longestPart t j a + 3) a) refl
     where
-      go : (b : Bool) → leb (longestPart t j a + 3) a ≡ b → Offered (Most 400) (elim b as (λ x. Option ℕ) [ true ↦ some (longestPart t j a) | false ↦ none ])
+      go : (b : Bool) → leb (longestPart t j a + 3) a ≡ b → Offered (Most 400)
+          (elim b as (λ x. Option ℕ) [ true ↦ some (longestPart t j a) | false ↦ none ])
       go true e = omega (arith, leb-true (longestPart t j a + 3) a e)
       go false e = tt
 
@@ -333,7 +346,8 @@ module _ (t : Table) (T : TableLimits t) where
       w : getD (s .widths) j 0 ≤ 400
       w = all-default (Most 400) (s .widths) j 0 (omega arith) (k .widths)
 
-      go : (b : Bool) → elim b as (λ x. ℕ) [ true ↦ getD (s .widths) j 0 | false ↦ getD (s .widths) j 0 + share (s .remaining) (length (visible t)) (length (keep (λ i. ltb i j) (visible t))) ] ≤ 801
+      go : (b : Bool) → elim b as (λ x. ℕ) [ true ↦ getD (s .widths) j 0 | false ↦ getD (s .widths) j 0 + share (s .remaining) (length (visible t))
+          (length (keep (λ i. ltb i j) (visible t))) ] ≤ 801
       go true = omega (arith, w)
       go false = omega (arith, w, share-le (s .remaining) (length (visible t)) (length (keep (λ i. ltb i j) (visible t))), k .remaining)
 
@@ -341,7 +355,8 @@ module _ (t : Table) (T : TableLimits t) where
   unfolding step4
   step4-801 s k u = go (eqb (undecided s) 0) (eqb (t .arrangement) 2)
     where
-      go : (b c : Bool) → All (Most 801) (elim b as (λ x. List ℕ) [ false ↦ map (shared s) (numbers t) | true ↦ elim c as (λ x. List ℕ) [ true ↦ map (widened t s) (numbers t) | false ↦ s .widths ] ])
+      go : (b c : Bool) → All (Most 801) (elim b as (λ x. List ℕ) [ false ↦ map (shared s) (numbers t) | true ↦ elim c as (λ x. List ℕ)
+          [ true ↦ map (widened t s) (numbers t) | false ↦ s .widths ] ])
       go false c = all-numbers 801 (shared s) (shared-801 s k u) (numbers t)
       go true true = all-numbers 801 (widened t s) (widened-801 s k) (numbers t)
       go true false = all-imp (Most 400) (Most 801) (λ w h. omega arith) (s .widths) (k .widths)
@@ -360,6 +375,8 @@ module _ (t : Table) (T : TableLimits t) where
       u3 : undecided s3 ≤ 400
       u3 = omega (arith, zeros-le (s3 .widths), length-steps t, T .columns)
 
-      go : (b : Bool) → All (Most 801) (elim b as (λ x. List ℕ) [ true ↦ map (λ j. orElse (first t j) (untargeted t j)) (numbers t) | false ↦ step4 t (step3 t (step2 t (step1 t (start t)))) ])
-      go true = all-numbers 801 (λ j. orElse (first t j) (untargeted t j)) (λ j. orElse-le 801 (first t j) (untargeted t j) (omega (arith, first-step-400 t T j)) (omega (arith, untargeted-400 t T j))) (numbers t)
+      go : (b : Bool) → All (Most 801) (elim b as (λ x. List ℕ) [ true ↦ map (λ j. orElse (first t j) (untargeted t j)) (numbers t) | false ↦ step4 t
+          (step3 t (step2 t (step1 t (start t)))) ])
+      go true = all-numbers 801 (λ j. orElse (first t j) (untargeted t j))
+          (λ j. orElse-le 801 (first t j) (untargeted t j) (omega (arith, first-step-400 t T j)) (omega (arith, untargeted-400 t T j))) (numbers t)
       go false = step4-801 s3 k3 u3

@@ -57,7 +57,8 @@ module _ (S : List ℕ) (chars : All Optional S) where
   printable-edge false k = tt
 
   printable-runs : (k : ℕ) (vs : List ℕ) → All (All Printable) (map (λ v. replicate v (glyph (glyphAt S k))) vs)
-  printable-runs k vs = all-map (All Printable) (λ v. replicate v (glyph (glyphAt S k))) (λ v. all-replicate Printable (glyph (glyphAt S k)) v (printable-at k)) vs
+  printable-runs k vs = all-map (All Printable) (λ v. replicate v (glyph (glyphAt S k)))
+      (λ v. all-replicate Printable (glyph (glyphAt S k)) v (printable-at k)) vs
 
   pub printable-ruled : (always : Bool) (k : ℕ) (vs : List ℕ) → All Printable (ruled S always k vs)
   unfolding ruled
@@ -83,7 +84,8 @@ printable-area c w a l h = let space : Printable 32 = omega arith in search (all
 
 printable-cutLine : (w : ℕ) (i l : List ℕ) → All Printable i → All Printable l → All Printable (cutLine w i l)
 unfolding cutLine fitting
-printable-cutLine w i l h k = all-append Printable (firstOf (w - textWidth (fitting w i)) l) (fitting w i) (all-first Printable (w - textWidth (fitting w i)) l k) (go (leb (textWidth i) w))
+printable-cutLine w i l h k = all-append Printable (firstOf (w - textWidth (fitting w i)) l) (fitting w i)
+    (all-first Printable (w - textWidth (fitting w i)) l k) (go (leb (textWidth i) w))
   where
     go : (b : Bool) → All Printable (elim b as (λ x. List ℕ) [ true ↦ i | false ↦ [] ])
     go true = h
@@ -105,14 +107,18 @@ module _ (t : Table) (T : TableLimits t) (ws : List ℕ) where
     pub printable-delimiter : (j : ℕ) → Printable (delimiterOf t (columnAt t j) (cellAt r j))
     printable-delimiter j =
         let space : Printable 32 = omega arith in
-        let c = all-default (λ c. Optional (c .delimiter)) (t .columns) j noColumn (inl refl) (all-imp ColumnLimits (λ c. Optional (c .delimiter)) (λ c k. k .delimiter) (t .columns) (T .each-column)) in
-        printable-orElse (cellAt r j .delimiter) _ (plain-at j .0) (printable-orElse (columnAt t j .delimiter) _ c (printable-orElse (t .delimiter) 32 (T .delimiter) space))
+        let c = all-default (λ c. Optional (c .delimiter)) (t .columns) j noColumn (inl refl)
+              (all-imp ColumnLimits (λ c. Optional (c .delimiter)) (λ c k. k .delimiter) (t .columns) (T .each-column)) in
+        printable-orElse (cellAt r j .delimiter) _ (plain-at j .0) (printable-orElse (columnAt t j .delimiter) _ c
+            (printable-orElse (t .delimiter) 32 (T .delimiter) space))
 
     pub printable-cell : (j : ℕ) → All (All Printable) (cellLines t ws r j)
     unfolding cellLines wrapped
     printable-cell j =
-        all-cut (All Printable) (getD ws j 0) (t .indicator) (r .limit) (wrapped t ws r j) tt (λ l k. printable-cutLine (getD ws j 0) (t .indicator) l (T .indicator-characters) k)
-        (all-wrapLines Printable (delimiterOf t (columnAt t j) (cellAt r j)) (printable-delimiter j) (getD ws j 0) (cellAt r j .lines) (plain-at j .1))
+        all-cut (All Printable) (getD ws j 0) (t .indicator) (r .limit) (wrapped t ws r j) tt
+            (λ l k. printable-cutLine (getD ws j 0) (t .indicator) l (T .indicator-characters) k)
+        (all-wrapLines Printable (delimiterOf t (columnAt t j) (cellAt r j)) (printable-delimiter j) (getD ws j 0) (cellAt r j .lines)
+            (plain-at j .1))
 
     pub printable-areaAt : (k j : ℕ) → All Printable (areaAt t ws r k j)
     unfolding areaAt
@@ -123,8 +129,10 @@ module _ (t : Table) (T : TableLimits t) (ws : List ℕ) where
     printable-rowText : (k : ℕ) → All (All Printable) (rowText t ws k r)
     unfolding rowText areas
     printable-rowText k =
-        all-map-imp (All (All Printable)) (All Printable) (textLine (t .style) k) (printable-textLine (t .style) (T .style-characters) k) (areas t ws r)
-        (all-map (All (All Printable)) (λ n. map (areaAt t ws r n) (visible t)) (λ n. all-map (All Printable) (areaAt t ws r n) (printable-areaAt n) (visible t)) (upFrom 0 (height t ws r)))
+        all-map-imp (All (All Printable)) (All Printable) (textLine (t .style) k) (printable-textLine (t .style) (T .style-characters) k)
+            (areas t ws r)
+        (all-map (All (All Printable)) (λ n. map (areaAt t ws r n) (visible t))
+            (λ n. all-map (All Printable) (areaAt t ws r n) (printable-areaAt n) (visible t)) (upFrom 0 (height t ws r)))
 
   rows-cells : (rs : List Row) (n : ℕ) → All (RowLimits n) rs → All (λ r. All CellLimits (r .cells)) rs
   rows-cells rs n h = all-imp (RowLimits n) (λ r. All CellLimits (r .cells)) (λ r k. k .each) rs h
@@ -134,7 +142,8 @@ module _ (t : Table) (T : TableLimits t) (ws : List ℕ) where
   unfolding framed
   printable-framed rs h =
       let shows = printable-shown (t .style) (T .style-characters) in
-      let text : (k : ℕ) (qs : List Row) → All (λ r. All CellLimits (r .cells)) qs → All (λ r. All (All Printable) (rowText t ws k r)) qs = λ k qs g. all-imp (λ r. All CellLimits (r .cells)) (λ r. All (All Printable) (rowText t ws k r)) (λ r c. printable-rowText r c k) qs g in
+      let text : (k : ℕ) (qs : List Row) → All (λ r. All CellLimits (r .cells)) qs → All (λ r. All (All Printable) (rowText t ws k r)) qs = λ k qs g.
+            all-imp (λ r. All CellLimits (r .cells)) (λ r. All (All Printable) (rowText t ws k r)) (λ r c. printable-rowText r c k) qs g in
       let header = rows-cells (t .header) _ (T .header-row) in
       search (all-append, all-headed, all-ruledRows, shows, text, header)
 

@@ -10,7 +10,7 @@ use lib.Dec.{ltb, eqb}
 use borrow.Author.Tests.{ltb-true, ltb-false}
 use Rattle.rules.specs.Text.{textWidth, restOf, sum, oneIf, upFrom, keep, flat, All}
 use Rattle.rules.specs.Sheet.{Cell, Row, Table, noCell, noColumn, columnAt, cellAt, padding, isHidden}
-use Rattle.rules.specs.Limits.{longestLine, ColumnLimits, LineLimits, CellLimits, RowLimits, TableLimits}
+use Rattle.rules.specs.Limits.{longestLine, ColumnLimits, LineLimits, CellLimits, RowLimits, TableLimits, mostLines}
 use Rattle.rules.specs.Style.{topBorder, headerLines, headerRule, contentLines, rowRule, bottomBorder, anyLeft, anyRight, anyJunction, isVisible, bordersOf}
 use Rattle.rules.specs.Wrap.{Act, join, retry, fill, begin, onto, pieces, glue, room, full, act, last, place, weight, split, wrapLine, wrapLines, exceeds, cutLine, cut, delimiterOf}
 use Rattle.rules.specs.Widths.{numbers, visible, borders, contents}
@@ -37,7 +37,8 @@ length-place (suc n) w d l (p ∷ ps) = go (act w d l p) refl (λ m qs. length-p
     ended m true ih = omega (arith, ih [] ps)
     ended m false ih = omega (arith, ih m ps)
 
-    go : (a : Act) → act w d l p ≡ a → ((m : List ℕ) (qs : List (List ℕ)) → length (place n w d m qs) ≤ 2 * n) → length (place (suc n) w d l (p ∷ ps)) ≤ 2 * suc n
+    go : (a : Act) → act w d l p ≡ a → ((m : List ℕ) (qs : List (List ℕ)) → length (place n w d m qs) ≤ 2 * n) → length (place (suc n) w d l (p ∷ ps))
+        ≤ 2 * suc n
     go join e ih = rw (e, place) (omega (arith, ended (glue d l p) (full w (glue d l p)) ih))
     go retry e ih = rw (e, place) (omega (arith, ih [] (p ∷ ps)))
     go fill e ih = rw (e, place) (omega (arith, ih [] (restOf (room w l) p ∷ ps)))
@@ -57,7 +58,8 @@ unfolding pieces weight
 steps-pieces d [] = (omega arith, omega arith)
 steps-pieces d (b ∷ l) = go (eqb b d) (steps-pieces d l)
   where
-    go : (x : Bool) → Steps (length l) (pieces d l) → Steps (suc (length l)) (elim x as (λ y. List (List ℕ)) [ true ↦ [] ∷ pieces d l | false ↦ onto b (pieces d l) ])
+    go : (x : Bool) → Steps (length l) (pieces d l) → Steps (suc (length l))
+        (elim x as (λ y. List (List ℕ)) [ true ↦ [] ∷ pieces d l | false ↦ onto b (pieces d l) ])
     go true h = (omega arith, omega arith)
     go false h = steps-onto (length l) b (pieces d l) h
 
@@ -88,7 +90,8 @@ length-cut w i zero ls = omega arith
 length-cut w i (suc h) ls = go (ltb (suc h) (length ls)) refl
   where
     go : (b : Bool) → ltb (suc h) (length ls) ≡ b
-        → length {A = List ℕ} (elim b as (λ x. List (List ℕ)) [ true ↦ take (suc h - 1) ls ++ (cutLine w i (getD ls (suc h - 1) []) ∷ []) | false ↦ ls ]) ≤ length ls
+        → length {A = List ℕ} (elim b as (λ x. List (List ℕ)) [ true ↦ take (suc h - 1) ls ++ (cutLine w i (getD ls (suc h - 1) []) ∷ []) | false ↦ ls
+            ]) ≤ length ls
     go true e = simp (length-append, length-take) (omega (arith, ltb-true (suc h) (length ls) e))
     go false e = omega arith
 
@@ -105,8 +108,10 @@ module _ (t : Table) (ws : List ℕ) (r : Row) (R : All CellLimits (r .cells)) w
   length-cell : (j : ℕ) → length (cellLines t ws r j) ≤ 6448
   unfolding cellLines wrapped
   length-cell j =
-      let c : Lined (cellAt r j) = all-default Lined (r .cells) j noCell (omega arith, (omega arith, tt)) (all-imp CellLimits Lined lined (r .cells) R) in
-      omega (arith, length-cut (getD ws j 0) (t .indicator) (r .limit) (wrapped t ws r j), length-wrapLines (getD ws j 0) (delimiterOf t (columnAt t j) (cellAt r j)) (cellAt r j .lines) (c .1), c .0)
+      let c : Lined (cellAt r j) = all-default Lined (r .cells) j noCell (omega arith, (omega arith, tt))
+            (all-imp CellLimits Lined lined (r .cells) R) in
+      omega (arith, length-cut (getD ws j 0) (t .indicator) (r .limit) (wrapped t ws r j), length-wrapLines (getD ws j 0)
+          (delimiterOf t (columnAt t j) (cellAt r j)) (cellAt r j .lines) (c .1), c .0)
 
   -- a row of at most 8 lines a cell, each of at most 200 characters
   pub height-bound : height t ws r ≤ 6448
@@ -149,7 +154,7 @@ module _ (t : Table) (T : TableLimits t) where
   texts ws k rs h = all-imp (RowLimits (length (t .columns))) (λ r. length (rowText t ws k r) ≤ 6448) (λ r R. length-rowText t ws r (R .each) k) rs h
 
   -- over some of the rows, at any widths
-  pub framed-count : (ws : List ℕ) (rs : List Row) → length rs ≤ 100 → All (RowLimits (length (t .columns))) rs → length (framed t ws rs) ≤ 1000000
+  pub framed-count : (ws : List ℕ) (rs : List Row) → length rs ≤ 100 → All (RowLimits (length (t .columns))) rs → length (framed t ws rs) ≤ mostLines
   unfolding framed
   framed-count ws rs n h =
       let vs = visibleWidths t ws in
@@ -160,13 +165,14 @@ module _ (t : Table) (T : TableLimits t) where
         arith,
         length-shown (t .style) true topBorder vs,
         length-shown (t .style) true bottomBorder vs,
-        length-headed (rowText t ws headerLines) H (length-shown (t .style) false headerRule vs) (t .header) (texts ws headerLines (t .header) (T .header-row)),
+        length-headed (rowText t ws headerLines) H (length-shown (t .style) false headerRule vs) (t .header)
+            (texts ws headerLines (t .header) (T .header-row)),
         length-ruledRows (rowText t ws contentLines) Q (length-shown (t .style) false rowRule vs) rs (texts ws contentLines rs h),
         T .header,
       ))
 
   -- the whole page
-  pub line-count-bound : lineCount t ≤ 1000000
+  pub line-count-bound : lineCount t ≤ mostLines
   unfolding lineCount pageLines
   line-count-bound = framed-count (contents t) (t .rows) (T .rows) (T .each-row)
 
@@ -202,7 +208,8 @@ unfolding keep
 length-keep p [] = omega arith
 length-keep {A} p (x ∷ xs) = go (p x) (length-keep p xs)
   where
-    go : (b : Bool) → length (keep p xs) ≤ length xs → length {A = A} (elim b as (λ c. List A) [ true ↦ x ∷ keep p xs | false ↦ keep p xs ]) ≤ suc (length xs)
+    go : (b : Bool) → length (keep p xs) ≤ length xs → length {A = A} (elim b as (λ c. List A) [ true ↦ x ∷ keep p xs | false ↦ keep p xs ]) ≤ suc
+        (length xs)
     go true h = omega arith
     go false h = omega arith
 
@@ -211,7 +218,8 @@ unfolding keep
 kept-pass p [] = tt
 kept-pass {A} p (x ∷ xs) = go (p x) refl (kept-pass p xs)
   where
-    go : (b : Bool) → p x ≡ b → All (λ x. p x ≡ true) (keep p xs) → All (λ x. p x ≡ true) (elim b as (λ c. List A) [ true ↦ x ∷ keep p xs | false ↦ keep p xs ])
+    go : (b : Bool) → p x ≡ b → All (λ x. p x ≡ true) (keep p xs) → All (λ x. p x ≡ true)
+        (elim b as (λ c. List A) [ true ↦ x ∷ keep p xs | false ↦ keep p xs ])
     go true e h = (e, h)
     go false e h = h
 
@@ -227,9 +235,11 @@ Rising l = (a b : ℕ) → a < b → b < length l → getD l a 0 < getD l b 0
 rising-keep : (p : ℕ → Bool) (i n : ℕ) → Rising (keep p (upFrom i n))
 unfolding keep upFrom
 rising-keep p i zero = λ a b h k. absurd (omega arith)
-rising-keep p i (suc n) = go (p i) (rising-keep p (suc i) n) (all-keep (λ j. i < j) p (upFrom (suc i) n) (from-upFrom (suc i) (suc i) n (omega arith)))
+rising-keep p i (suc n) = go (p i) (rising-keep p (suc i) n) (all-keep (λ j. i < j) p (upFrom (suc i) n)
+    (from-upFrom (suc i) (suc i) n (omega arith)))
   where
-    go : (x : Bool) → Rising (keep p (upFrom (suc i) n)) → All (λ j. i < j) (keep p (upFrom (suc i) n)) → Rising (elim x as (λ c. List ℕ) [ true ↦ i ∷ keep p (upFrom (suc i) n) | false ↦ keep p (upFrom (suc i) n) ])
+    go : (x : Bool) → Rising (keep p (upFrom (suc i) n)) → All (λ j. i < j) (keep p (upFrom (suc i) n)) → Rising
+        (elim x as (λ c. List ℕ) [ true ↦ i ∷ keep p (upFrom (suc i) n) | false ↦ keep p (upFrom (suc i) n) ])
     go true ih g a zero h k = absurd (omega arith)
     go true ih g zero (suc b) h k = all-getD (λ j. i < j) (keep p (upFrom (suc i) n)) b 0 (omega arith) g
     go true ih g (suc a) (suc b) h k = ih a b (omega arith) (omega arith)
@@ -252,7 +262,8 @@ module _ (t : Table) where
   -- no more than columns
   pub visible-count : length (visible t) ≤ length (t .columns)
   unfolding visible numbers
-  visible-count = omega (arith, length-keep (λ j. not (isHidden (columnAt t j))) (upFrom 0 (length (t .columns))), length-upFrom 0 (length (t .columns)))
+  visible-count = omega (arith, length-keep (λ j. not (isHidden (columnAt t j))) (upFrom 0 (length (t .columns))), length-upFrom 0
+      (length (t .columns)))
 
   -- each a column
   pub visible-number : (i : ℕ) → i < length (visible t) → getD (visible t) i 0 < length (t .columns)
@@ -261,7 +272,8 @@ module _ (t : Table) where
   -- that isn't hidden
   pub visible-shown : (i : ℕ) → i < length (visible t) → isHidden (columnAt t (getD (visible t) i 0)) ≡ false
   unfolding visible
-  visible-shown i h = go (isHidden (columnAt t (getD (visible t) i 0))) (all-getD (λ j. not (isHidden (columnAt t j)) ≡ true) (visible t) i 0 h (kept-pass (λ j. not (isHidden (columnAt t j))) (numbers t)))
+  visible-shown i h = go (isHidden (columnAt t (getD (visible t) i 0)))
+      (all-getD (λ j. not (isHidden (columnAt t j)) ≡ true) (visible t) i 0 h (kept-pass (λ j. not (isHidden (columnAt t j))) (numbers t)))
     where
       go : (b : Bool) → not b ≡ true → b ≡ false
       go true e = sym e
@@ -285,19 +297,22 @@ cond-le false n = omega arith
 module _ (t : Table) (T : TableLimits t) where
   visible-841 : (j : ℕ) → visibleWidth t (contents t) j ≤ 841
   visible-841 j =
-      let c = all-default (λ c. padding c ≤ 40) (t .columns) j noColumn (omega arith) (all-imp ColumnLimits (λ c. padding c ≤ 40) (λ c k. omega (arith, k .left, k .right)) (t .columns) (T .each-column)) in
+      let c = all-default (λ c. padding c ≤ 40) (t .columns) j noColumn (omega arith)
+            (all-imp ColumnLimits (λ c. padding c ≤ 40) (λ c k. omega (arith, k .left, k .right)) (t .columns) (T .each-column)) in
       let w = all-default (Most 801) (contents t) j 0 (omega arith) (contents-801 t T) in
       omega arith
 
   widths-bound : sum (visibleWidths t (contents t)) ≤ 841 * length (visible t)
   unfolding visibleWidths
-  widths-bound = omega (arith, sum-841 (visibleWidths t (contents t)) (all-map (Most 841) (visibleWidth t (contents t)) visible-841 (visible t)), length-widths t (contents t))
+  widths-bound = omega (arith, sum-841 (visibleWidths t (contents t)) (all-map (Most 841) (visibleWidth t (contents t)) visible-841 (visible t)),
+      length-widths t (contents t))
 
   -- text lines and rules
   pub line-length-bound : lineLength t (contents t) ≤ longestLine
   unfolding lineLength borders bordersOf
   line-length-bound =
-      omega (arith, one-le (anyLeft (t .style)), one-le (anyRight (t .style)), cond-le (anyJunction (t .style)) (length (visible t) - 1), widths-bound, visible-count t, T .columns)
+      omega (arith, one-le (anyLeft (t .style)), one-le (anyRight (t .style)), cond-le (anyJunction (t .style)) (length (visible t) - 1),
+          widths-bound, visible-count t, T .columns)
 
   -- borders
   pub border-length-bound : borderLength t (contents t) ≤ longestLine
@@ -323,7 +338,8 @@ module _ (t : Table) (ws : List ℕ) where
   text-lengths k [] = tt
   text-lengths k (r ∷ rs) = (
     all-map-imp (λ x. Drawn t ws (textLine (t .style) k x)) (Drawn t ws) (textLine (t .style) k) (λ x h. h) (areas t ws r)
-        (all-map (λ x. Drawn t ws (textLine (t .style) k x)) (λ i. map (areaAt t ws r i) (visible t)) (λ i. inl (text-length t ws r k i)) (upFrom 0 (height t ws r))),
+        (all-map (λ x. Drawn t ws (textLine (t .style) k x)) (λ i. map (areaAt t ws r i) (visible t)) (λ i. inl (text-length t ws r k i))
+            (upFrom 0 (height t ws r))),
     text-lengths k rs,
   )
 
@@ -345,7 +361,8 @@ bytes-longest (l ∷ ls) h = omega (arith, bytes-longest ls (h .1), h .0)
 module _ (t : Table) (T : TableLimits t) where
   -- no line is longer, over some of the rows
   pub framed-line-bound : (rs : List Row) → All (λ l. length l ≤ longestLine) (framed t (contents t) rs)
-  framed-line-bound rs = all-imp (Drawn t (contents t)) (λ l. length l ≤ longestLine) go (framed t (contents t) rs) (framed-line-lengths t (contents t) rs)
+  framed-line-bound rs = all-imp (Drawn t (contents t)) (λ l. length l ≤ longestLine) go (framed t (contents t) rs)
+      (framed-line-lengths t (contents t) rs)
     where
       go : (l : List ℕ) → Drawn t (contents t) l → length l ≤ longestLine
       go l (inl e) = omega (arith, line-length-bound t T)
@@ -354,14 +371,17 @@ module _ (t : Table) (T : TableLimits t) where
   -- line k of the page, its 0A included
   pub line-at-bound : (k : ℕ) → length (lineAt t k) ≤ longestLine + 1
   unfolding lineAt pageLines
-  line-at-bound k = simp length-append (omega (arith, all-default (λ l. length l ≤ longestLine) (pageLines t) k [] (omega arith) (framed-line-bound (t .rows))))
+  line-at-bound k = simp length-append (omega (arith, all-default (λ l. length l ≤ longestLine) (pageLines t) k [] (omega arith)
+      (framed-line-bound (t .rows))))
 
   -- the bytes of lines over some of the rows
-  pub framed-byte-bound : (rs : List Row) → length rs ≤ 100 → All (RowLimits (length (t .columns))) rs → length (closed (framed t (contents t) rs)) ≤ 1000000 * (longestLine + 1)
+  pub framed-byte-bound : (rs : List Row) → length rs ≤ 100 → All (RowLimits (length (t .columns))) rs → length (closed (framed t (contents t) rs)) ≤
+      mostLines * (longestLine + 1)
   framed-byte-bound rs n h =
-      omega (arith, length-closed (framed t (contents t) rs), bytes-longest (framed t (contents t) rs) (framed-line-bound rs), framed-count t T (contents t) rs n h)
+      omega (arith, length-closed (framed t (contents t) rs), bytes-longest (framed t (contents t) rs) (framed-line-bound rs), framed-count t T
+          (contents t) rs n h)
 
   -- and those of the page
-  pub byte-count-bound : byteCount t ≤ 1000000 * (longestLine + 1)
+  pub byte-count-bound : byteCount t ≤ mostLines * (longestLine + 1)
   unfolding pageLines
   byte-count-bound = omega (arith, byte-count-closed t, framed-byte-bound (t .rows) (T .rows) (T .each-row))

@@ -17,7 +17,8 @@ use Rattle.rules.proofs.Sizes.{length-area}
 use Rattle.rules.proofs.Split.{Short, short-lines}
 
 -- a property of lines that cutting a line to its width and indicator gives, cutting a cell keeps
-pub all-cut : (P : List ℕ → Type 0) (w : ℕ) (i : List ℕ) (h : ℕ) (ls : List (List ℕ)) → P [] → ((l : List ℕ) → P l → P (cutLine w i l)) → All P ls → All P (cut w i h ls)
+pub all-cut : (P : List ℕ → Type 0) (w : ℕ) (i : List ℕ) (h : ℕ) (ls : List (List ℕ)) → P [] → ((l : List ℕ) → P l → P (cutLine w i l)) → All P ls →
+    All P (cut w i h ls)
 unfolding cut
 all-cut P w i h ls n c k = go (exceeds h (length ls))
   where

@@ -31,7 +31,8 @@ all-imp P Q f [] h = tt
 all-imp P Q f (x ∷ xs) h = (f x (h .0), all-imp P Q f xs (h .1))
 
 -- of what f makes of good entries
-pub all-map-imp : {A B : Type 0} (P : A → Type 0) (Q : B → Type 0) (f : A → B) → ((x : A) → P x → Q (f x)) → (xs : List A) → All P xs → All Q (map f xs)
+pub all-map-imp : {A B : Type 0} (P : A → Type 0) (Q : B → Type 0) (f : A → B) → ((x : A) → P x → Q (f x)) → (xs : List A) → All P xs → All Q
+    (map f xs)
 all-map-imp P Q f g [] h = tt
 all-map-imp P Q f g (x ∷ xs) h = (g x (h .0), all-map-imp P Q f g xs (h .1))
 
@@ -68,7 +69,8 @@ all-replicate P x zero h = tt
 all-replicate P x (suc n) h = (h, all-replicate P x n h)
 
 -- of lists that f makes of good entries, put one after another
-pub all-flat : {A B : Type 0} (P : A → Type 0) (Q : B → Type 0) (f : A → List B) → ((x : A) → P x → All Q (f x)) → (xs : List A) → All P xs → All Q (flat (map f xs))
+pub all-flat : {A B : Type 0} (P : A → Type 0) (Q : B → Type 0) (f : A → List B) → ((x : A) → P x → All Q (f x)) → (xs : List A) → All P xs → All Q
+    (flat (map f xs))
 unfolding flat
 all-flat P Q f g [] h = tt
 all-flat P Q f g (x ∷ xs) h = all-append Q (f x) (flat (map f xs)) (g x (h .0)) (all-flat P Q f g xs (h .1))
@@ -160,7 +162,8 @@ keep-append p [] ys = refl
 keep-append {A} p (x ∷ xs) ys = go (p x) (keep-append p xs ys)
   where
     go : (b : Bool) → keep p (xs ++ ys) ≡ keep p xs ++ keep p ys
-        → _≡_ {A = List A} (elim b [ true ↦ x ∷ keep p (xs ++ ys) | false ↦ keep p (xs ++ ys) ]) ((elim b as (λ c. List A) [ true ↦ x ∷ keep p xs | false ↦ keep p xs ]) ++ keep p ys)
+        → _≡_ {A = List A} (elim b [ true ↦ x ∷ keep p (xs ++ ys) | false ↦ keep p (xs ++ ys) ])
+            ((elim b as (λ c. List A) [ true ↦ x ∷ keep p xs | false ↦ keep p xs ]) ++ keep p ys)
     go true ih = ap (λ l. x ∷ l) ih
     go false ih = ih
 

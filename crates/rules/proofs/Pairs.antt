@@ -27,7 +27,8 @@ abbrev twoBytes : ℕ → List ℕ
 twoBytes n = n % 256 ∷ n / 256 ∷ []
 
 abbrev columnBytes : Column → List ℕ
-columnBytes c = (c .left ∷ c .right ∷ c .delimiter ∷ c .alignment ∷ c .constraint ∷ []) ++ (c .first .unit ∷ twoBytes (c .first .value)) ++ (c .second .unit ∷ twoBytes (c .second .value))
+columnBytes c = (c .left ∷ c .right ∷ c .delimiter ∷ c .alignment ∷ c .constraint ∷ []) ++ (c .first .unit ∷ twoBytes (c .first .value)) ++
+    (c .second .unit ∷ twoBytes (c .second .value))
 
 abbrev cellBytes : Cell → List ℕ
 cellBytes x = x .delimiter ∷ x .alignment ∷ length (x .lines) ∷ flat (map (λ l. length l ∷ l) (x .lines))
@@ -39,7 +40,8 @@ rowBytes r = r .limit ∷ length (r .cells) ∷ flat (map cellBytes (r .cells))
 abbrev pub sheetOf : Table → List ℕ
 sheetOf t =
     (t .edition ∷ t .arrangement ∷ twoBytes (t .target)) ++ (t .delimiter ∷ length (t .indicator) ∷ t .indicator) ++ (length (t .style) ∷ t .style)
-    ++ (length (t .columns) ∷ flat (map columnBytes (t .columns))) ++ (length (t .header) ∷ flat (map rowBytes (t .header))) ++ (length (t .rows) ∷ flat (map rowBytes (t .rows)))
+    ++ (length (t .columns) ∷ flat (map columnBytes (t .columns))) ++ (length (t .header) ∷ flat (map rowBytes (t .header))) ++
+        (length (t .rows) ∷ flat (map rowBytes (t .rows)))
 
 -- columns of absolute widths without padding; rows of one cell: its limit, delimiter (0 is none) and lines
 abbrev made : List ℕ → List ℕ → List Row → List Row → Table
@@ -50,7 +52,8 @@ made S ws hs rs = record {
   delimiter = 0;
   indicator = [];
   style = S;
-  columns = map (λ w. record { left = 0; right = 0; delimiter = 0; alignment = 0; constraint = 3; first = record { unit = 0; value = w }; second = noWidth }) ws;
+  columns = map (λ w. record { left = 0; right = 0; delimiter = 0; alignment = 0; constraint = 3; first = record { unit = 0; value = w }; second =
+      noWidth }) ws;
   header = hs;
   rows = rs;
 }
@@ -197,7 +200,8 @@ b = one 0 0 (ascii "b" ∷ [])
 pub record Needed : Type 0 where
   pub top-junction : Pair (topAlike (3 ∷ 5 ∷ [])) (topAlike (5 ∷ 3 ∷ [])) (replicate 4 true ++ (false ∷ replicate 7 true)) [] []
   pub top-junction-breaks : ¬ Agree (topAlike (3 ∷ 5 ∷ [])) (topAlike (5 ∷ 3 ∷ []))
-  pub rule-fills : Pair (rulesAlike (a ∷ []) (b ∷ [])) (rulesAlike [] (a ∷ b ∷ [])) (replicate 7 true ++ (false ∷ replicate 4 true)) (1 ∷ 1 ∷ []) (1 ∷ 1 ∷ [])
+  pub rule-fills : Pair (rulesAlike (a ∷ []) (b ∷ [])) (rulesAlike [] (a ∷ b ∷ [])) (replicate 7 true ++ (false ∷ replicate 4 true)) (1 ∷ 1 ∷ [])
+      (1 ∷ 1 ∷ [])
   pub rule-fills-break : ¬ Agree (rulesAlike (a ∷ []) (b ∷ [])) (rulesAlike [] (a ∷ b ∷ []))
   pub content-left : Pair (contentAlike (a ∷ b ∷ [])) (contentAlike (one 0 0 (ascii "a" ∷ ascii "---" ∷ ascii "b" ∷ []) ∷ [])) (replicate 11 true ++ (false ∷ [])) (1 ∷ 1 ∷ []) (3 ∷ [])
   pub content-left-breaks : ¬ Agree (contentAlike (a ∷ b ∷ [])) (contentAlike (one 0 0 (ascii "a" ∷ ascii "---" ∷ ascii "b" ∷ []) ∷ []))
@@ -212,16 +216,22 @@ pub record Needed : Type 0 where
 pub needed : Needed
 unfolding rules
 needed = record {
-  top-junction = record { first-read = refl; second-read = refl; one-style = refl; style = refl; first-column = omega arith; second-column = omega arith; first-lines = refl; second-lines = refl; one-page = refl };
+  top-junction = record { first-read = refl; second-read = refl; one-style = refl; style = refl; first-column = omega arith; second-column = omega
+      arith; first-lines = refl; second-lines = refl; one-page = refl };
   top-junction-breaks = λ x. let e : _≡_ {A = List ℕ} (3 ∷ 5 ∷ []) (5 ∷ 3 ∷ []) = x .widths in let z : _≡_ {A = ℕ} 3 5 = cc in omega arith;
-  rule-fills = record { first-read = refl; second-read = refl; one-style = refl; style = refl; first-column = omega arith; second-column = omega arith; first-lines = refl; second-lines = refl; one-page = refl };
+  rule-fills = record { first-read = refl; second-read = refl; one-style = refl; style = refl; first-column = omega arith; second-column = omega
+      arith; first-lines = refl; second-lines = refl; one-page = refl };
   rule-fills-break = λ x. let e : _≡_ {A = ℕ} 1 0 = x .header in omega arith;
-  content-left = record { first-read = refl; second-read = refl; one-style = refl; style = refl; first-column = omega arith; second-column = omega arith; first-lines = refl; second-lines = refl; one-page = refl };
+  content-left = record { first-read = refl; second-read = refl; one-style = refl; style = refl; first-column = omega arith; second-column = omega
+      arith; first-lines = refl; second-lines = refl; one-page = refl };
   content-left-breaks = λ x. let e : _≡_ {A = ℕ} 2 1 = x .rows in omega arith;
-  header-left = record { first-read = refl; second-read = refl; one-style = refl; style = refl; first-column = omega arith; second-column = omega arith; first-lines = refl; second-lines = refl; one-page = refl };
+  header-left = record { first-read = refl; second-read = refl; one-style = refl; style = refl; first-column = omega arith; second-column = omega
+      arith; first-lines = refl; second-lines = refl; one-page = refl };
   header-left-breaks = λ x. let e : _≡_ {A = ℕ} 1 2 = x .rows in omega arith;
-  no-line = record { first-read = refl; second-read = refl; one-style = refl; style = refl; first-column = omega arith; second-column = omega arith; first-lines = refl; second-lines = refl; one-page = refl };
+  no-line = record { first-read = refl; second-read = refl; one-style = refl; style = refl; first-column = omega arith; second-column = omega arith;
+      first-lines = refl; second-lines = refl; one-page = refl };
   no-line-breaks = λ x. let e : _≡_ {A = ℕ} 0 1 = x .rows in omega arith;
-  cut-cells = record { first-read = refl; second-read = refl; one-style = refl; style = refl; first-column = omega arith; second-column = omega arith; first-lines = refl; second-lines = refl; one-page = refl };
+  cut-cells = record { first-read = refl; second-read = refl; one-style = refl; style = refl; first-column = omega arith; second-column = omega arith;
+      first-lines = refl; second-lines = refl; one-page = refl };
   cut-cells-break = λ e. let z : _≡_ {A = List ℕ} (ascii "abcd") (ascii "abce") = e in let y : _≡_ {A = ℕ} 100 101 = cc in omega arith;
 }

@@ -70,7 +70,8 @@ byte-sound : (P : ℕ → Type 0) → ((v : ℕ) → P v) → (s : List ℕ) (p 
 unfolding field.byte stands keeps
 byte-sound P h s p = go (ltb p (length s)) refl
   where
-    go : (b : Bool) → ltb p (length s) ≡ b → Sound byte P s p (elim b as (λ x. Read ℕ) [ true ↦ got (byteAt s p) (p + 1) | false ↦ refused 1 (length s) ])
+    go : (b : Bool) → ltb p (length s) ≡ b → Sound byte P s p (elim b as (λ x. Read ℕ)
+        [ true ↦ got (byteAt s p) (p + 1) | false ↦ refused 1 (length s) ])
     go true e =
         let l = ltb-true p (length s) e in
         record { value = refl; end = refl; onward = omega arith; inside = λ i. omega arith; kept = tt; proper = h (byteAt s p) }
@@ -80,7 +81,8 @@ word-sound : (P : ℕ → Type 0) → ((v : ℕ) → P v) → (s : List ℕ) (p 
 unfolding field.word stands keeps
 word-sound P h s p = go (ltb (p + 1) (length s)) refl
   where
-    go : (b : Bool) → ltb (p + 1) (length s) ≡ b → Sound word P s p (elim b as (λ x. Read ℕ) [ true ↦ got (wordAt s p) (p + 2) | false ↦ refused 1 (length s) ])
+    go : (b : Bool) → ltb (p + 1) (length s) ≡ b → Sound word P s p (elim b as (λ x. Read ℕ)
+        [ true ↦ got (wordAt s p) (p + 2) | false ↦ refused 1 (length s) ])
     go true e =
         let l = ltb-true (p + 1) (length s) e in
         record { value = refl; end = refl; onward = omega arith; inside = λ i. omega arith; kept = tt; proper = h (wordAt s p) }
@@ -93,7 +95,8 @@ unfolding onward stands keeps
 zeros-sound P s p (got v q) r = go (eqb v 0) (eqb (v % 256) 0) refl
   where
     go : (b c : Bool) → eqb v 0 ≡ b
-        → Sound zeroWord P s p (elim b as (λ x. Read ℕ) [ true ↦ got v q | false ↦ elim c as (λ x. Read ℕ) [ true ↦ refused 8 (p + 1) | false ↦ refused 8 p ] ])
+        → Sound zeroWord P s p (elim b as (λ x. Read ℕ) [ true ↦ got v q | false ↦ elim c as (λ x. Read ℕ)
+            [ true ↦ refused 8 (p + 1) | false ↦ refused 8 p ] ])
     go true c e = record { value = r .value; end = r .end; onward = r .onward; inside = r .inside; kept = eqb-true v 0 e; proper = r .proper }
     go false true e = (omega arith, omega arith)
     go false false e = (omega arith, omega arith)
@@ -209,7 +212,8 @@ abbrev ItemsSound : {A : Type 0} → Format A → List ℕ → ℕ → ℕ → R
 ItemsSound x s n p (got as′ q) = Items x s n p as′ q
 ItemsSound x s n p (refused m q) = Number m
 
-item-then : {A : Type 0} (x : Format A) (P : A → Type 0) (s : List ℕ) (n p : ℕ) (a : A) (q : ℕ) → Reads x P s p a q → (y : Read (List A)) → ItemsSound x s n q y
+item-then : {A : Type 0} (x : Format A) (P : A → Type 0) (s : List ℕ) (n p : ℕ) (a : A) (q : ℕ) → Reads x P s p a q → (y : Read (List A)) → ItemsSound
+    x s n q y
     → ItemsSound x s (suc n) p (onward y (λ as′ r. got (a ∷ as′) r))
 unfolding onward parts past
 item-then x P s n p a q t (got as′ r) c = record {
@@ -314,7 +318,8 @@ after-off (give a) s n p = refl
 after-off (next of x g) s n p = rw (after-off x s n p) (after-off (g (hereOf x s (Refused n p))) s n p)
 
 -- n items: the step n times
-several-steps : {A : Type 0} (f : Reader A) (h : Step → Step) (s : List ℕ) → ((n q : ℕ) → h (Refused n q) ≡ Refused n q) → ((q : ℕ) → h (At q) ≡ stepOf (f s q))
+several-steps : {A : Type 0} (f : Reader A) (h : Step → Step) (s : List ℕ) → ((n q : ℕ) → h (Refused n q) ≡ Refused n q) →
+    ((q : ℕ) → h (At q) ≡ stepOf (f s q))
     → (n p : ℕ) → times n h (At p) ≡ stepOf (several n f s p)
 unfolding times several onward
 several-steps f h s off e zero p = refl
@@ -329,20 +334,23 @@ several-steps {A} f h s off e (suc n) p = ap (times n h) (e p) ∙ go (f s p) (s
     go (got a q) ih = ih q ∙ rest a (several n f s q)
     go (refused m q) ih = times-off n h off m q
 
-counted-steps : {A : Type 0} (f : Reader A) (h : Step → Step) (s : List ℕ) → ((n q : ℕ) → h (Refused n q) ≡ Refused n q) → ((q : ℕ) → h (At q) ≡ stepOf (f s q))
+counted-steps : {A : Type 0} (f : Reader A) (h : Step → Step) (s : List ℕ) → ((n q : ℕ) → h (Refused n q) ≡ Refused n q) →
+    ((q : ℕ) → h (At q) ≡ stepOf (f s q))
     → (k : ℕ) (y : Read ℕ) → ((n q : ℕ) → y ≡ got n q → n ≡ k) → times k h (stepOf y) ≡ stepOf (onward y (λ n q. several n f s q))
 unfolding onward
 counted-steps f h s off e k (got n q) c = rw (c n q refl) (several-steps f h s off e k q)
 counted-steps f h s off e k (refused m q) c = times-off k h off m q
 
-next-steps : {U A : Type 0} (x : Format A) (g : A → Format U) (s : List ℕ) (p : ℕ) → ((a : A) (q : ℕ) → after (g a) s (At q) ≡ stepOf (reads (g a) s q))
+next-steps : {U A : Type 0} (x : Format A) (g : A → Format U) (s : List ℕ) (p : ℕ) →
+    ((a : A) (q : ℕ) → after (g a) s (At q) ≡ stepOf (reads (g a) s q))
     → (y : Read A) → Sound x (λ a. Unit {0}) s p y → after (g (here x s p)) s (stepOf y) ≡ stepOf (onward y (λ a q. reads (g a) s q))
 unfolding onward
 next-steps x g s p rest (got a q) t = rw (← t .value) (rest a q)
 next-steps x g s p rest (refused m q) t = after-off (g (here x s p)) s m q
 
 -- a value that was read, or whatever a refusal leaves open
-got-value : {A : Type 0} (x : Format A) (P : A → Type 0) (s : List ℕ) (p : ℕ) (y : Read A) → Sound x P s p y → (a : A) (q : ℕ) → y ≡ got a q → a ≡ here x s p
+got-value : {A : Type 0} (x : Format A) (P : A → Type 0) (s : List ℕ) (p : ℕ) (y : Read A) → Sound x P s p y → (a : A) (q : ℕ) → y ≡ got a q → a ≡
+    here x s p
 got-value x P s p y r a q e = subst (Sound x P s p) e r .value
 
 pub steps : {A : Type 0} (x : Format A) (P : A → Type 0) → Faithful x P → (s : List ℕ) (p : ℕ) → after x s (At p) ≡ stepOf (reads x s p)
@@ -352,7 +360,8 @@ steps word P h s p = refl
 steps (only good fault x) P h s p = refl
 steps zeroWord P h s p = refl
 steps (text low high good) P h s p =
-    counted-steps (character good) (readFrom (character good) s) s (readFrom-off (character good) s) (λ q. refl) (byteAt s p) (textLength low high s p)
+    counted-steps (character good) (readFrom (character good) s) s (readFrom-off (character good) s) (λ q. refl) (byteAt s p)
+        (textLength low high s p)
     (λ n q e. tested (between low high) 5 s p n q e .value)
 steps (listed count x) P h s p =
     rw (steps count (λ n. Unit {0}) (h .0) s p)

@@ -17,12 +17,14 @@ module _ (Q : List ℕ → Type 0) (text : Row → List (List ℕ)) (rule : List
   pub all-headed : (rs : List Row) → All (λ r. All Q (text r)) rs → All Q (headed text rule rs)
   unfolding headed
   all-headed [] h = tt
-  all-headed (r ∷ rs) h = all-append Q (text r) (rule ++ headed text rule rs) (h .0) (all-append Q rule (headed text rule rs) ruled (all-headed rs (h .1)))
+  all-headed (r ∷ rs) h = all-append Q (text r) (rule ++ headed text rule rs) (h .0)
+      (all-append Q rule (headed text rule rs) ruled (all-headed rs (h .1)))
 
   all-ruledMore : (rs : List Row) → All (λ r. All Q (text r)) rs → All Q (ruledMore text rule rs)
   unfolding ruledMore
   all-ruledMore [] h = tt
-  all-ruledMore (r ∷ rs) h = all-append Q rule (text r ++ ruledMore text rule rs) ruled (all-append Q (text r) (ruledMore text rule rs) (h .0) (all-ruledMore rs (h .1)))
+  all-ruledMore (r ∷ rs) h = all-append Q rule (text r ++ ruledMore text rule rs) ruled
+      (all-append Q (text r) (ruledMore text rule rs) (h .0) (all-ruledMore rs (h .1)))
 
   -- of the rows with rules between them
   pub all-ruledRows : (rs : List Row) → All (λ r. All Q (text r)) rs → All Q (ruledRows text rule rs)
@@ -66,7 +68,8 @@ module _ {X : Type 0} (a b : Row → List X) (draw : X → List ℕ) (rule : Lis
 abbrev pub Tells : {X : Type 0} → (X → Type 0) → (X → List ℕ) → Type 0
 Tells {X} Fits draw = (x y : X) → Fits x → Fits y → draw x ≡ draw y → x ≡ y
 
-map-tells : {X : Type 0} (Fits : X → Type 0) (draw : X → List ℕ) → Tells Fits draw → (xs ys : List X) → All Fits xs → All Fits ys → map draw xs ≡ map draw ys → xs ≡ ys
+map-tells : {X : Type 0} (Fits : X → Type 0) (draw : X → List ℕ) → Tells Fits draw → (xs ys : List X) → All Fits xs → All Fits ys → map draw xs ≡ map
+    draw ys → xs ≡ ys
 map-tells Fits draw tells [] [] h k e = refl
 map-tells Fits draw tells [] (y ∷ ys) h k e = cc
 map-tells Fits draw tells (x ∷ xs) [] h k e = cc
@@ -76,7 +79,8 @@ map-tells Fits draw tells (x ∷ xs) (y ∷ ys) h k e =
     cc
 
 -- head, text: a header's and a row's line of what it shows; hr, rr: the two rules. No text line is a rule, both rules are, and they differ
-module _ {X : Type 0} (Fits : X → Type 0) (Rule : List ℕ → Type 0) (head text : X → List ℕ) (hr rr : List ℕ) (head-tells : Tells Fits head) (text-tells : Tells Fits text)
+module _ {X : Type 0} (Fits : X → Type 0) (Rule : List ℕ → Type 0) (head text : X → List ℕ) (hr rr : List ℕ) (head-tells : Tells Fits head)
+    (text-tells : Tells Fits text)
     (head-text : (x : X) → ¬ Rule (head x)) (row-text : (x : X) → ¬ Rule (text x)) (hr-rule : Rule hr) (rr-rule : Rule rr) (differ : hr ≢ rr)
     (a b : Row → List X) (a-fits : (r : Row) → All Fits (a r)) (b-fits : (r : Row) → All Fits (b r)) where
   stops : (c : Row → List X) (rs : List Row) → Stops Rule (ruledMore (λ r. map text (c r)) (rr ∷ []) rs)
@@ -85,9 +89,11 @@ module _ {X : Type 0} (Fits : X → Type 0) (Rule : List ℕ → Type 0) (head t
   stops c (r ∷ rs) = rr-rule
 
   -- a row and what follows it
-  row-apart : (r q : Row) (us vs : List (List ℕ)) → Stops Rule us → Stops Rule vs → map text (a r) ++ us ≡ map text (b q) ++ vs → (a r ≡ b q) × (us ≡ vs)
+  row-apart : (r q : Row) (us vs : List (List ℕ)) → Stops Rule us → Stops Rule vs → map text (a r) ++ us ≡ map text (b q) ++ vs → (a r ≡ b q) ×
+      (us ≡ vs)
   row-apart r q us vs s t e =
-      let c = at-stop Rule (map text (a r)) (map text (b q)) us vs (all-map (λ x. ¬ Rule x) text row-text (a r)) (all-map (λ x. ¬ Rule x) text row-text (b q)) s t e in
+      let c = at-stop Rule (map text (a r)) (map text (b q)) us vs (all-map (λ x. ¬ Rule x) text row-text (a r))
+            (all-map (λ x. ¬ Rule x) text row-text (b q)) s t e in
       (map-tells Fits text text-tells (a r) (b q) (a-fits r) (b-fits q) (c .0), c .1)
 
   more-apart : (rs qs : List Row) → ruledMore (λ r. map text (a r)) (rr ∷ []) rs ≡ ruledMore (λ q. map text (b q)) (rr ∷ []) qs → map a rs ≡ map b qs
@@ -96,7 +102,8 @@ module _ {X : Type 0} (Fits : X → Type 0) (Rule : List ℕ → Type 0) (head t
   more-apart [] (q ∷ qs) e = cc
   more-apart (r ∷ rs) [] e = cc
   more-apart (r ∷ rs) (q ∷ qs) e =
-      let c = row-apart r q (ruledMore (λ r. map text (a r)) (rr ∷ []) rs) (ruledMore (λ q. map text (b q)) (rr ∷ []) qs) (stops a rs) (stops b qs) cc in
+      let c = row-apart r q (ruledMore (λ r. map text (a r)) (rr ∷ []) rs) (ruledMore (λ q. map text (b q)) (rr ∷ []) qs) (stops a rs) (stops b qs) cc
+            in
       let i = more-apart rs qs (c .1) in
       cc
 
@@ -115,12 +122,14 @@ module _ {X : Type 0} (Fits : X → Type 0) (Rule : List ℕ → Type 0) (head t
   rows-apart [] (q ∷ qs) h k e = absurd (some-row b q (ruledMore (λ q. map text (b q)) (rr ∷ []) qs) (k .0) cc)
   rows-apart (r ∷ rs) [] h k e = absurd (some-row a r (ruledMore (λ q. map text (a q)) (rr ∷ []) rs) (h .0) e)
   rows-apart (r ∷ rs) (q ∷ qs) h k e =
-      let c = row-apart r q (ruledMore (λ r. map text (a r)) (rr ∷ []) rs) (ruledMore (λ q. map text (b q)) (rr ∷ []) qs) (stops a rs) (stops b qs) e in
+      let c = row-apart r q (ruledMore (λ r. map text (a r)) (rr ∷ []) rs) (ruledMore (λ q. map text (b q)) (rr ∷ []) qs) (stops a rs) (stops b qs) e
+            in
       let i = more-apart rs qs (c .1) in
       cc
 
   -- the header rule tells that there is a header
-  headless : (c d : Row → List X) (h : Row) (us : List (List ℕ)) (qs : List Row) → map head (c h) ++ (hr ∷ us) ≡ ruledRows (λ q. map text (d q)) (rr ∷ []) qs → ⊥
+  headless : (c d : Row → List X) (h : Row) (us : List (List ℕ)) (qs : List Row) → map head (c h) ++ (hr ∷ us) ≡ ruledRows (λ q. map text (d q))
+      (rr ∷ []) qs → ⊥
   unfolding ruledRows
   headless c d h us [] e = go (c h) e
     where
@@ -136,7 +145,8 @@ module _ {X : Type 0} (Fits : X → Type 0) (Rule : List ℕ → Type 0) (head t
 
   -- the lines between the borders tell what every row shows, and which of the rows are the header
   pub apart : (hs is rs qs : List Row) → All (λ r. 0 < length (a r)) rs → All (λ q. 0 < length (b q)) qs
-      → headed (λ r. map head (a r)) (hr ∷ []) hs ++ ruledRows (λ r. map text (a r)) (rr ∷ []) rs ≡ headed (λ q. map head (b q)) (hr ∷ []) is ++ ruledRows (λ q. map text (b q)) (rr ∷ []) qs
+      → headed (λ r. map head (a r)) (hr ∷ []) hs ++ ruledRows (λ r. map text (a r)) (rr ∷ []) rs ≡ headed (λ q. map head (b q)) (hr ∷ []) is ++
+          ruledRows (λ q. map text (b q)) (rr ∷ []) qs
       → (map a hs ≡ map b is) × (map a rs ≡ map b qs)
   unfolding headed
   apart [] [] rs qs h k e = (refl, rows-apart rs qs h k e)
@@ -153,7 +163,8 @@ module _ {X : Type 0} (Fits : X → Type 0) (Rule : List ℕ → Type 0) (head t
       let vs = ruledRows (λ r. map text (a r)) (rr ∷ []) rs in
       let ys = headed (λ q. map head (b q)) (hr ∷ []) is in
       let zs = ruledRows (λ q. map text (b q)) (rr ∷ []) qs in
-      let c = at-stop Rule (map head (a j)) (map head (b i)) (hr ∷ (us ++ vs)) (hr ∷ (ys ++ zs)) (all-map (λ x. ¬ Rule x) head head-text (a j)) (all-map (λ x. ¬ Rule x) head head-text (b i))
+      let c = at-stop Rule (map head (a j)) (map head (b i)) (hr ∷ (us ++ vs)) (hr ∷ (ys ++ zs)) (all-map (λ x. ¬ Rule x) head head-text (a j))
+            (all-map (λ x. ¬ Rule x) head head-text (b i))
       hr-rule hr-rule (sym (append-assoc (map head (a j)) (hr ∷ us) vs) ∙ e ∙ append-assoc (map head (b i)) (hr ∷ ys) zs) in
       let m : a j ≡ b i = map-tells Fits head head-tells (a j) (b i) (a-fits j) (b-fits i) (c .0) in
       let n : us ++ vs ≡ ys ++ zs = tail-eq-of-cons-eq (c .1) in

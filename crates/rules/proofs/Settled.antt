@@ -26,7 +26,8 @@ module _ (begins : State → Bool) (rule : Rule) (n : ℕ) where
   enough (suc f) (suc g) s h k = go (begins s) (ltb (undecided (pass rule n s)) (undecided s)) refl (λ l m. enough f g (pass rule n s) l m)
     where
       go : (b c : Bool) → ltb (undecided (pass rule n s)) (undecided s) ≡ c
-          → (undecided (pass rule n s) < f → undecided (pass rule n s) < g → passes begins rule n f (pass rule n s) ≡ passes begins rule n g (pass rule n s))
+          → (undecided (pass rule n s) < f → undecided (pass rule n s) < g → passes begins rule n f (pass rule n s) ≡ passes begins rule n g
+              (pass rule n s))
           → _≡_ {A = State}
           (elim b [ true ↦ elim c [ true ↦ passes begins rule n f (pass rule n s) | false ↦ pass rule n s ] | false ↦ s ])
           (elim b [ true ↦ elim c [ true ↦ passes begins rule n g (pass rule n s) | false ↦ pass rule n s ] | false ↦ s ])
@@ -40,11 +41,13 @@ module _ (begins : State → Bool) (rule : Rule) (n : ℕ) where
   again true false more u s = u
   again false c more u s = s
 
-  one-more : (f : ℕ) (s : State) → passes begins rule n (suc f) s ≡ again (begins s) (ltb (undecided (pass rule n s)) (undecided s)) (passes begins rule n f (pass rule n s)) (pass rule n s) s
+  one-more : (f : ℕ) (s : State) → passes begins rule n (suc f) s ≡ again (begins s) (ltb (undecided (pass rule n s)) (undecided s))
+      (passes begins rule n f (pass rule n s)) (pass rule n s) s
   unfolding passes again
   one-more f s = go (begins s) (ltb (undecided (pass rule n s)) (undecided s))
     where
-      go : (b c : Bool) → _≡_ {A = State} (elim b [ true ↦ elim c [ true ↦ passes begins rule n f (pass rule n s) | false ↦ pass rule n s ] | false ↦ s ])
+      go : (b c : Bool) → _≡_ {A = State} (elim b [ true ↦ elim c [ true ↦ passes begins rule n f (pass rule n s) | false ↦ pass rule n s ] | false ↦
+          s ])
           (again b c (passes begins rule n f (pass rule n s)) (pass rule n s) s)
       go true true = refl
       go true false = refl

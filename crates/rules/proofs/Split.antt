@@ -19,7 +19,8 @@ pub record Kept (w d : ℕ) (Out Line Piece : List ℕ → Type 0) : Type 0 wher
   pub joined : (l p : List ℕ) → Line l → Piece p → textWidth (glue d l p) ≤ w → Line (glue d l p)
   pub flushed : (l : List ℕ) → Line l → w - 2 < textWidth l → Out l
   pub tried : (l p : List ℕ) → Line l → w < textWidth (glue d l p) → tight w l ≡ true → Out l
-  pub filled : (l p : List ℕ) → Line l → Piece p → tight w l ≡ false → w < textWidth p → Out (glue d l (firstOf (room w l) p)) × Piece (restOf (room w l) p)
+  pub filled : (l p : List ℕ) → Line l → Piece p → tight w l ≡ false → w < textWidth p → Out (glue d l (firstOf (room w l) p)) × Piece
+      (restOf (room w l) p)
   pub begun : (l p : List ℕ) → Line l → Piece p → w < textWidth (glue d l p) → textWidth p ≤ w → Out l × Line p
 
 -- then every line that is put out has its property, however many steps are made
@@ -31,7 +32,8 @@ all-place w d Out Line Piece k (suc n) [] [] h g = tt
 all-place w d Out Line Piece k (suc n) (x ∷ l) [] h g = (k .end x l h, tt)
 all-place w d Out Line Piece k (suc n) l (p ∷ ps) h g = go (act w d l p) refl (view w d l p) (λ m qs. all-place w d Out Line Piece k n m qs)
   where
-    ended : (m : List ℕ) (b : Bool) → ltb (w - 2) (textWidth m) ≡ b → Line m → ((m : List ℕ) (qs : List (List ℕ)) → Line m → All Piece qs → All Out (place n w d m qs))
+    ended : (m : List ℕ) (b : Bool) → ltb (w - 2) (textWidth m) ≡ b → Line m →
+        ((m : List ℕ) (qs : List (List ℕ)) → Line m → All Piece qs → All Out (place n w d m qs))
         → All Out (elim b as (λ x. List (List ℕ)) [ true ↦ m ∷ place n w d [] ps | false ↦ place n w d m ps ])
     ended m true e i ih = (k .flushed m i (ltb-true (w - 2) (textWidth m) e), ih [] ps (k .none) (g .1))
     ended m false e i ih = ih m ps i (g .1)
@@ -87,7 +89,8 @@ all-unit (x ∷ xs) = (tt, all-unit xs)
 
 whole-split : (w d : ℕ) (l : List ℕ) → All (Whole w) (split w d l)
 unfolding split
-whole-split w d l = all-place w d (Whole w) (Short w) (λ p. Unit {0}) (whole w d) (weight (pieces d l)) [] (pieces d l) (whole w d .none) (all-unit (pieces d l))
+whole-split w d l = all-place w d (Whole w) (Short w) (λ p. Unit {0}) (whole w d) (weight (pieces d l)) [] (pieces d l) (whole w d .none)
+    (all-unit (pieces d l))
 
 -- every line of a split has at least one column, and at most the width
 pub split-fits : (w d : ℕ) → 1 ≤ w → (l : List ℕ) → All (λ m. (1 ≤ textWidth m) × (textWidth m ≤ w)) (split w d l)
@@ -129,7 +132,8 @@ module _ (P : ℕ → Type 0) (d : ℕ) (delimiter : P d) where
   all-pieces [] h = (tt, tt)
   all-pieces (c ∷ l) h = go (eqb c d) (all-pieces l (h .1))
     where
-      go : (b : Bool) → All (All P) (pieces d l) → All (All P) (elim b as (λ x. List (List ℕ)) [ true ↦ [] ∷ pieces d l | false ↦ onto c (pieces d l) ])
+      go : (b : Bool) → All (All P) (pieces d l) → All (All P) (elim b as (λ x. List (List ℕ))
+          [ true ↦ [] ∷ pieces d l | false ↦ onto c (pieces d l) ])
       go true i = (tt, i)
       go false i = all-onto c (pieces d l) (h .0) i
 

@@ -13,6 +13,10 @@ use Rattle.rules.specs.Sheet.{Width, Column, Cell, Row, Table, mostColum
 abbrev pub longestLine : ℕ
 longestLine = mostColumns * 850
 
+-- no page has more lines, by far: a row has at most 8 lines of 200 characters a cell
+abbrev pub mostLines : ℕ
+mostLines = 1000000
+
 -- printable ASCII, 20 to 7E hexadecimal
 abbrev pub Printable : ℕ → Type 0
 Printable c = (32 ≤ c) × (c ≤ 126)

@@ -14,13 +14,15 @@ pub record Copied {A : Type 0} (l z : List A) (i : ℕ) (a : List A) : Type 0 wh
 pub copied-begin : {A : Type 0} (l z : List A) → Copied l z 0 z
 copied-begin l z = record { so = refl }
 
-one-more : {A : Type 0} (d : A) (l z : List A) (i : ℕ) → i < length l → i < length z → set (take i l ++ drop i z) i (getD l i d) ≡ take (suc i) l ++ drop (suc i) z
+one-more : {A : Type 0} (d : A) (l z : List A) (i : ℕ) → i < length l → i < length z → set (take i l ++ drop i z) i (getD l i d) ≡ take (suc i) l ++
+    drop (suc i) z
 one-more d [] z i h k = absurd (not-suc-le-zero h)
 one-more d (x ∷ l) [] i h k = absurd (not-suc-le-zero k)
 one-more d (x ∷ l) (y ∷ z) zero h k = refl
 one-more d (x ∷ l) (y ∷ z) (suc i) h k = ap (λ m. x ∷ m) (one-more d l z i (le-of-suc-le-suc h) (le-of-suc-le-suc k))
 
-pub copied-again : {A : Type 0} (d : A) (l z : List A) (i : ℕ) (a : List A) (v : A) → i < length l → i < length z → v ≡ getD l i d → Copied l z i a → Copied l z (i + 1) (set a i v)
+pub copied-again : {A : Type 0} (d : A) (l z : List A) (i : ℕ) (a : List A) (v : A) → i < length l → i < length z → v ≡ getD l i d → Copied l z i a →
+    Copied l z (i + 1) (set a i v)
 copied-again d l z i a v h k e c = record { so = rw (e, c .so, add-one i) (one-more d l z i h k) }
 
 pub copied-done : {A : Type 0} (l z : List A) (i : ℕ) (a : List A) → i ≡ length l → Copied l z i a → a ≡ l ++ drop (length l) z

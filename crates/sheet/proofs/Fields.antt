@@ -85,19 +85,23 @@ module _ (most : ℕ) (s : List ℕ) (x : Step) (p : ℕ) (e : x ≡ At p) where
   unfolding after readFrom reads only word onward
   word-cut h k = rw (e, le-ltb (p + 1) (length s) (omega arith), word)
 
-  pub word-high : (l h : ℕ) → l ≡ getD s p 0 → h ≡ getD s (p + 1) 0 → p < length s → 2 ≤ length s - p → most < l + h * 256 → Refused 5 p ≡ after (wordTo most) s x
+  pub word-high : (l h : ℕ) → l ≡ getD s p 0 → h ≡ getD s (p + 1) 0 → p < length s → 2 ≤ length s - p → most < l + h * 256 → Refused 5 p ≡ after
+      (wordTo most) s x
   unfolding after readFrom reads only word onward
   word-high l h i j a b m =
       let k : p + 1 < length s = omega arith in
       let n = rw (i, j) at m in
-      rw (e, lt-ltb (p + 1) (length s) k, word, le-leb 0 (getD s p 0 + getD s (p + 1) 0 * 256) (omega arith), lt-leb (getD s p 0 + getD s (p + 1) 0 * 256) most n, onward)
+      rw (e, lt-ltb (p + 1) (length s) k, word, le-leb 0 (getD s p 0 + getD s (p + 1) 0 * 256) (omega arith), lt-leb
+          (getD s p 0 + getD s (p + 1) 0 * 256) most n, onward)
 
-  pub word-good : (l h : ℕ) → l ≡ getD s p 0 → h ≡ getD s (p + 1) 0 → p < length s → 2 ≤ length s - p → l + h * 256 ≤ most → At (p + 2) ≡ after (wordTo most) s x
+  pub word-good : (l h : ℕ) → l ≡ getD s p 0 → h ≡ getD s (p + 1) 0 → p < length s → 2 ≤ length s - p → l + h * 256 ≤ most → At (p + 2) ≡ after
+      (wordTo most) s x
   unfolding after readFrom reads only word onward
   word-good l h i j a b m =
       let k : p + 1 < length s = omega arith in
       let n = rw (i, j) at m in
-      rw (e, lt-ltb (p + 1) (length s) k, word, le-leb 0 (getD s p 0 + getD s (p + 1) 0 * 256) (omega arith), le-leb (getD s p 0 + getD s (p + 1) 0 * 256) most n, onward)
+      rw (e, lt-ltb (p + 1) (length s) k, word, le-leb 0 (getD s p 0 + getD s (p + 1) 0 * 256) (omega arith), le-leb
+          (getD s p 0 + getD s (p + 1) 0 * 256) most n, onward)
 
 module _ (s : List ℕ) (x : Step) (p : ℕ) (e : x ≡ At p) where
   pub zeros-ended : length s ≤ p → Refused 1 (length s) ≡ after zeroWord s x
@@ -122,7 +126,8 @@ module _ (s : List ℕ) (x : Step) (p : ℕ) (e : x ≡ At p) where
       let h : p + 1 < length s = omega arith in
       let v : getD s p 0 + getD s (p + 1) 0 * 256 ≡ 0 → ⊥ = λ i. k (omega arith) in
       let w : (getD s p 0 + getD s (p + 1) 0 * 256) % 256 ≡ 0 = omega arith in
-      rw (e, lt-ltb (p + 1) (length s) h, word, ne-eqb (getD s p 0 + getD s (p + 1) 0 * 256) 0 v, eq-eqb ((getD s p 0 + getD s (p + 1) 0 * 256) % 256) 0 w, onward)
+      rw (e, lt-ltb (p + 1) (length s) h, word, ne-eqb (getD s p 0 + getD s (p + 1) 0 * 256) 0 v, eq-eqb ((getD s p 0 + getD s (p + 1) 0 * 256) % 256)
+          0 w, onward)
 
   pub zeros-good : p < length s → 2 ≤ length s - p → getD s p 0 ≡ 0 → getD s (p + 1) 0 ≡ 0 → At (p + 2) ≡ after zeroWord s x
   unfolding after readFrom reads field.zeroWord word onward
@@ -145,11 +150,13 @@ unfolding only onward
 only-bad good n f s p v q e h = rw (e, h, onward)
 
 -- a cell count, from the step y after it and its value v: 5 above the limit, else 7 above the columns
-pub count-few : (columns : ℕ) (s : List ℕ) (x y : Step) (v : ℕ) → y ≡ readFrom (byteBetween 0 mostColumns 5) s x → v ≡ byteOf s x → v ≤ columns → y ≡ after (cellCount columns) s x
+pub count-few : (columns : ℕ) (s : List ℕ) (x y : Step) (v : ℕ) → y ≡ readFrom (byteBetween 0 mostColumns 5) s x → v ≡ byteOf s x → v ≤ columns → y ≡
+    after (cellCount columns) s x
 unfolding after readFrom reads byteOf
 count-few columns s (At p) y v few value l = few ∙ go (byteBetween 0 mostColumns 5 s p) refl
   where
-    go : (r : Read ℕ) → byteBetween 0 mostColumns 5 s p ≡ r → stepOf (byteBetween 0 mostColumns 5 s p) ≡ stepOf (only (between 0 columns) 7 (byteBetween 0 mostColumns 5) s p)
+    go : (r : Read ℕ) → byteBetween 0 mostColumns 5 s p ≡ r → stepOf (byteBetween 0 mostColumns 5 s p) ≡ stepOf
+        (only (between 0 columns) 7 (byteBetween 0 mostColumns 5) s p)
     go (got w q) i =
         let k = tested (between 0 mostColumns) 5 s p w q i .value in
         let b : between 0 columns w ≡ true = rw (le-leb 0 w (omega arith), le-leb w columns (omega arith)) in
@@ -157,7 +164,8 @@ count-few columns s (At p) y v few value l = few ∙ go (byteBetween 0 mostColum
     go (refused n q) i = rw (i, only-off (between 0 columns) 7 (byteBetween 0 mostColumns 5) s p n q i)
 count-few columns s (Refused n p) y v few value l = few
 
-pub count-stopped : (columns : ℕ) (s : List ℕ) (x y : Step) (m r : ℕ) → y ≡ readFrom (byteBetween 0 mostColumns 5) s x → y ≡ Refused m r → y ≡ after (cellCount columns) s x
+pub count-stopped : (columns : ℕ) (s : List ℕ) (x y : Step) (m r : ℕ) → y ≡ readFrom (byteBetween 0 mostColumns 5) s x → y ≡ Refused m r → y ≡ after
+    (cellCount columns) s x
 unfolding after readFrom reads
 count-stopped columns s (At p) y m r few e = go (byteBetween 0 mostColumns 5 s p) refl
   where
@@ -167,11 +175,13 @@ count-stopped columns s (At p) y m r few e = go (byteBetween 0 mostColumns 5 s p
 count-stopped columns s (Refused n p) y m r few e = few
 
 -- the step after a count that was read stands one byte past it
-pub count-over : (columns : ℕ) (s : List ℕ) (x y : Step) (v q : ℕ) → y ≡ readFrom (byteBetween 0 mostColumns 5) s x → v ≡ byteOf s x → y ≡ At q → columns < v → (Refused 7 (q - 1) ≡ after (cellCount columns) s x) × (1 ≤ q)
+pub count-over : (columns : ℕ) (s : List ℕ) (x y : Step) (v q : ℕ) → y ≡ readFrom (byteBetween 0 mostColumns 5) s x → v ≡ byteOf s x → y ≡ At q →
+    columns < v → (Refused 7 (q - 1) ≡ after (cellCount columns) s x) × (1 ≤ q)
 unfolding after readFrom reads byteOf
 count-over columns s (At p) y v q few value e l = go (byteBetween 0 mostColumns 5 s p) refl
   where
-    go : (r : Read ℕ) → byteBetween 0 mostColumns 5 s p ≡ r → (Refused 7 (q - 1) ≡ stepOf (only (between 0 columns) 7 (byteBetween 0 mostColumns 5) s p)) × (1 ≤ q)
+    go : (r : Read ℕ) → byteBetween 0 mostColumns 5 s p ≡ r → (Refused 7 (q - 1) ≡ stepOf
+        (only (between 0 columns) 7 (byteBetween 0 mostColumns 5) s p)) × (1 ≤ q)
     go (got w o) i =
         let j = rw i at few in
         let k = tested (between 0 mostColumns) 5 s p w o i in
@@ -182,4 +192,6 @@ count-over columns s (At p) y v q few value e l = go (byteBetween 0 mostColumns 
     go (refused n o) i = let j = rw i at few in let z : _≡_ {A = ℕ} 0 1 = cc in absurd (omega arith)
 count-over columns s (Refused n p) y v q few value e l = let z : _≡_ {A = ℕ} 0 1 = cc in absurd (omega arith)
 
-pub ruleset fields = (after-stopped, read-stopped, byte-stopped, byte-there, byte-past, between-ended, between-low, between-high, between-good, optional-ended, optional-zero, optional-low, optional-high, optional-good, word-ended, word-cut, word-high, word-good, zeros-ended, zeros-cut, zeros-low, zeros-high, zeros-good)
+pub ruleset fields = (after-stopped, read-stopped, byte-stopped, byte-there, byte-past, between-ended, between-low, between-high, between-good,
+    optional-ended, optional-zero, optional-low, optional-high, optional-good, word-ended, word-cut, word-high, word-good, zeros-ended, zeros-cut,
+    zeros-low, zeros-high, zeros-good)

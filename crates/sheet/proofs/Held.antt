@@ -77,7 +77,8 @@ pub header-at : (s : List ℕ) (p n : ℕ) → Passes s → p ≡ columnsPlace s
 header-at s p n h e i = let r = room s h in let j = rw e at i in omega (arith, r .header-at)
 
 -- what stands where, as the code reads it
-pub settings-held : (s : List ℕ) → Passes s → record { arrangement = byteAt s 1; target = wordAt s 2; delimiter = byteAt s 4 } ≡ settingsOf (tableOf s)
+pub settings-held : (s : List ℕ) → Passes s → record { arrangement = byteAt s 1; target = wordAt s 2; delimiter = byteAt s 4 } ≡ settingsOf
+    (tableOf s)
 unfolding settingsOf tableHere description.stands table
 settings-held s h = rw (table-here s h)
 
@@ -102,7 +103,8 @@ unfolding lineStop
 style-inside s h = let r = room s h in stands.text-length s (stylePlace s) (omega arith) ∙ r .style
 
 -- once all is copied
-pub indicator-whole : (s : List ℕ) (n i : ℕ) (a : List ℕ) → Passes s → n ≡ byteAt s 5 → i ≤ n → n ≤ i → Copied (textAt s 5) (replicate 8 0) i a → record { count = n; characters = a } ≡ indicatorOf (tableOf s)
+pub indicator-whole : (s : List ℕ) (n i : ℕ) (a : List ℕ) → Passes s → n ≡ byteAt s 5 → i ≤ n → n ≤ i → Copied (textAt s 5) (replicate 8 0) i a →
+    record { count = n; characters = a } ≡ indicatorOf (tableOf s)
 unfolding indicatorOf
 indicator-whole s n i a h e j k c =
     let l = text-inside s h in
@@ -119,15 +121,19 @@ style-whole s i a h e c =
 pub columns-inside : (s : List ℕ) → Passes s → length (tableOf s .columns) ≡ byteAt s (columnsPlace s)
 columns-inside s h = let r = held s h in stands.column-count s (tableOf s) (r .end) (r .reads)
 
-pub columns-whole : (s : List ℕ) (n i : ℕ) (a : List Column) → Passes s → n ≡ byteAt s (columnsPlace s) → i ≤ n → n ≤ i → Copied (tableOf s .columns) (replicate mostColumns noColumn) i a → record { count = n; each = a } ≡ columnsOf (tableOf s)
+pub columns-whole : (s : List ℕ) (n i : ℕ) (a : List Column) → Passes s → n ≡ byteAt s (columnsPlace s) → i ≤ n → n ≤ i → Copied (tableOf s .columns)
+    (replicate mostColumns noColumn) i a → record { count = n; each = a } ≡ columnsOf (tableOf s)
 unfolding columnsOf padded
 columns-whole s n i a h e j k c =
     let l = columns-inside s h in
     let m : n ≡ length (tableOf s .columns) = omega arith in
-    rw (m, copied-done (tableOf s .columns) (replicate mostColumns noColumn) i a (omega arith) c, drop-replicate (length (tableOf s .columns)) mostColumns noColumn)
+    rw (m, copied-done (tableOf s .columns) (replicate mostColumns noColumn) i a (omega arith) c, drop-replicate (length (tableOf s .columns))
+        mostColumns noColumn)
 
-pub style-character : (s : List ℕ) (first i : ℕ) → Passes s → first ≡ stylePlace s + 1 → i < 22 → getD s (first + i) 0 ≡ getD (textAt s (stylePlace s)) i 0
+pub style-character : (s : List ℕ) (first i : ℕ) → Passes s → first ≡ stylePlace s + 1 → i < 22 → getD s (first + i) 0 ≡ getD
+    (textAt s (stylePlace s)) i 0
 style-character s first i h e l = let r = room s h in rw e (sym (character-at s (stylePlace s) i (omega (arith, r .style))))
 
-pub column-copied : (s : List ℕ) (p j : ℕ) (v : Column) → Passes s → j < byteAt s (columnsPlace s) → p ≡ columnsPlace s + 1 + 11 * j → v ≡ columnHere s p → v ≡ getD (tableOf s .columns) j noColumn
+pub column-copied : (s : List ℕ) (p j : ℕ) (v : Column) → Passes s → j < byteAt s (columnsPlace s) → p ≡ columnsPlace s + 1 + 11 * j → v ≡ columnHere
+    s p → v ≡ getD (tableOf s .columns) j noColumn
 column-copied s p j v h l e i = let r = held s h in i ∙ rw e (sym (stands.column-at s (tableOf s) (r .end) (r .reads) j l))

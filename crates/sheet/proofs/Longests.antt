@@ -53,13 +53,15 @@ pub record LinesSoFar (s : List ℕ) (all c : Lines) (m : ℕ) : Type 0 where
 pub lines-begin : (s : List ℕ) (all : Lines) → linesEnd s all ≤ length s → LinesSoFar s all all 1
 lines-begin s all h = record { whole = refl; ends = refl; inside = h }
 
-pub lines-again : (s : List ℕ) (all c r : Lines) (n m k : ℕ) → 0 < c .left → n ≡ byteAt s (c .at) → k ≡ max m n → LinesNext s c r → LinesSoFar s all c m → LinesSoFar s all r k
+pub lines-again : (s : List ℕ) (all c r : Lines) (n m k : ℕ) → 0 < c .left → n ≡ byteAt s (c .at) → k ≡ max m n → LinesNext s c r → LinesSoFar s all c
+    m → LinesSoFar s all r k
 unfolding linesIn greatest
 lines-again s all c r n m k some e i next so =
     let f = cons-parts (c .left) (textAt s) (lineStop s) (c .at) some in
     let g = next .lines in
     let t : textWidth (textAt s (c .at)) ≡ n = width-length (textAt s (c .at)) ∙ (text-length s (c .at) (line-whole s c some (so .inside)) ∙ sym e) in
-    let h : max m (max n (greatest (map textWidth (parts (r .left) (textAt s) (lineStop s) (r .at))))) ≡ max 1 (greatest (map textWidth (linesIn s all))) = rw (f, ← g, t) at (so .whole) in
+    let h : max m (max n (greatest (map textWidth (parts (r .left) (textAt s) (lineStop s) (r .at))))) ≡ max 1
+          (greatest (map textWidth (linesIn s all))) = rw (f, ← g, t) at (so .whole) in
     record { whole = omega arith; ends = next .ends ∙ so .ends; inside = rw (next .ends) (so .inside) }
 
 pub lines-done : (s : List ℕ) (all c : Lines) (m : ℕ) → c .left ≤ 0 → LinesSoFar s all c m → CellWalked s all (record { longest = m; end = c .at })
@@ -80,7 +82,8 @@ pub record CellsSoFar (s : List ℕ) (all c : Cells) (before longest : List ℕ)
   pub ends : cellsEnd s c ≡ cellsEnd s all
   pub inside : cellsEnd s c ≤ length s
 
-pub cells-begin : (s : List ℕ) (all : Cells) (before : List ℕ) → length before ≡ mostColumns → all .left ≤ mostColumns → cellsEnd s all ≤ length s → CellsSoFar s all all before before 0
+pub cells-begin : (s : List ℕ) (all : Cells) (before : List ℕ) → length before ≡ mostColumns → all .left ≤ mostColumns → cellsEnd s all ≤ length s →
+    CellsSoFar s all all before before 0
 cells-begin s all before l f h = record {
   long = l;
   count = omega arith;
@@ -101,7 +104,8 @@ at-missing : (j : ℕ) (xs : List sheet.Cell) → length xs ≤ j → longestAt 
 unfolding longestAt
 at-missing j xs h = rw (le-ltb j (length xs) h, longestAt)
 
-pub cells-again : (s : List ℕ) (all c : Cells) (x : Cell) (found : LongestLine) (before longest : List ℕ) (j v : ℕ) → 0 < c .left → CellIs s c x → CellWalked s (x .lines) found
+pub cells-again : (s : List ℕ) (all c : Cells) (x : Cell) (found : LongestLine) (before longest : List ℕ) (j v : ℕ) → 0 < c .left → CellIs s c x →
+    CellWalked s (x .lines) found
     → v ≡ max (getD longest j 0) (found .longest) → CellsSoFar s all c before longest j
     → CellsSoFar s all (record { at = found .end; left = c .left - 1 }) before (set longest j v) (j + 1)
 unfolding cellLongest
@@ -113,7 +117,8 @@ cells-again s all c x found before longest j v some is walked e so =
     let long = so .long in
     let z : j + 0 ≡ j = omega arith in
     let here : firstCell s c ≡ getD (cellsIn s all) j noCell = rw (so .rest) (getD-drop j (cellsIn s all) 0 noCell ∙ rw z) in
-    let size : found .longest ≡ longestAt j (cellsIn s all) = walked .longest ∙ rw (is .lines, here) (sym (at-there j (cellsIn s all) (omega arith))) in
+    let size : found .longest ≡ longestAt j (cellsIn s all) = walked .longest ∙ rw (is .lines, here) (sym (at-there j (cellsIn s all) (omega arith)))
+          in
     let new : v ≡ max (getD before j 0) (longestAt j (cellsIn s all)) = e ∙ rw (size, so .todo j (omega arith)) in
     record {
       long = rw (length-set longest j v) long;
@@ -129,7 +134,8 @@ cells-again s all c x found before longest j v some is walked e so =
     ahead : (k : ℕ) → j + 1 ≤ k → k ≡ j → ⊥
     ahead k h i = omega arith
 
-    passed : v ≡ max (getD before j 0) (longestAt j (cellsIn s all)) → ((k : ℕ) → k < j → getD longest k 0 ≡ max (getD before k 0) (longestAt k (cellsIn s all))) → j < length longest
+    passed : v ≡ max (getD before j 0) (longestAt j (cellsIn s all)) →
+        ((k : ℕ) → k < j → getD longest k 0 ≡ max (getD before k 0) (longestAt k (cellsIn s all))) → j < length longest
         → (k : ℕ) → k < j + 1 → (b : Bool) → eqb k j ≡ b → getD (set longest j v) k 0 ≡ max (getD before k 0) (longestAt k (cellsIn s all))
     passed new done l k h true i = let m = eqb-true k j i in rw m (getD-set-same longest j v 0 l ∙ new)
     passed new done l k h false i = let m = eqb-false k j i in getD-set-other longest j k v 0 m ∙ done k (below k h m)
@@ -137,7 +143,8 @@ cells-again s all c x found before longest j v some is walked e so =
         below : (k : ℕ) → k < j + 1 → (k ≡ j → ⊥) → k < j
         below k h m = omega arith
 
-pub cells-done : (s : List ℕ) (all c : Cells) (before longest : List ℕ) (j : ℕ) → c .left ≤ 0 → CellsSoFar s all c before longest j → RowWalked s all before (record { longest = longest; end = c .at })
+pub cells-done : (s : List ℕ) (all c : Cells) (before longest : List ℕ) (j : ℕ) → c .left ≤ 0 → CellsSoFar s all c before longest j → RowWalked s all
+    before (record { longest = longest; end = c .at })
 cells-done s all c before longest j none so = record { each = λ k h. found k (ltb k j) refl; ends = sym (cells-none s c none) ∙ so .ends }
   where
     found : (k : ℕ) (b : Bool) → ltb k j ≡ b → getD longest k 0 ≡ max (getD before k 0) (longestAt k (cellsIn s all))
@@ -196,7 +203,8 @@ row-narrow s all c before longest row some is so =
     let i = is .ends in
     (omega arith, omega arith)
 
-pub rows-again : (s : List ℕ) (all c : Rows) (row : Row) (found : LongestLines) (before longest : List ℕ) → 0 < c .left → RowIs s c row → RowWalked s (row .cells) longest found
+pub rows-again : (s : List ℕ) (all c : Rows) (row : Row) (found : LongestLines) (before longest : List ℕ) → 0 < c .left → RowIs s c row → RowWalked s
+    (row .cells) longest found
     → RowsSoFar s all c before longest → RowsSoFar s all (record { at = found .end; left = c .left - 1 }) before (found .longest)
 rows-again s all c row found before longest some is walked so = record {
   narrow = rw (next .rows) (all-cons (rowsIn s c) (firstRow s c) (drop 1 (rowsIn s c)) (rows-cons s c some) (so .narrow) .1);
@@ -208,15 +216,18 @@ rows-again s all c row found before longest some is walked so = record {
     next : RowsNext s c (record { at = found .end; left = c .left - 1 })
     next = rows-next s c some (found .end) (walked .ends ∙ is .ends)
 
-    one : (j : ℕ) → j < mostColumns → max (getD (found .longest) j 0) (longestIn j (rowsIn s (record { at = found .end; left = c .left - 1 }))) ≡ max (getD before j 0) (longestIn j (rowsIn s all))
+    one : (j : ℕ) → j < mostColumns → max (getD (found .longest) j 0) (longestIn j (rowsIn s (record { at = found .end; left = c .left - 1 }))) ≡ max
+        (getD before j 0) (longestIn j (rowsIn s all))
     one j l =
         let a : getD (found .longest) j 0 ≡ max (getD longest j 0) (longestAt j (firstRow s c .cells)) = walked .each j l ∙ rw (is .cells) in
-        let b : longestIn j (rowsIn s c) ≡ max (longestAt j (firstRow s c .cells)) (longestIn j (drop 1 (rowsIn s c))) = ap (longestIn j) (rows-cons s c some) ∙ in-cons j (firstRow s c) (drop 1 (rowsIn s c)) in
+        let b : longestIn j (rowsIn s c) ≡ max (longestAt j (firstRow s c .cells)) (longestIn j (drop 1 (rowsIn s c))) = ap (longestIn j)
+              (rows-cons s c some) ∙ in-cons j (firstRow s c) (drop 1 (rowsIn s c)) in
         let d = so .each j l in
         let e = ap (longestIn j) (next .rows) in
         omega arith
 
-pub rows-done : (s : List ℕ) (all c : Rows) (before longest : List ℕ) → c .left ≤ 0 → RowsSoFar s all c before longest → RowsWalked s all before (record { longest = longest; end = c .at })
+pub rows-done : (s : List ℕ) (all c : Rows) (before longest : List ℕ) → c .left ≤ 0 → RowsSoFar s all c before longest → RowsWalked s all before
+    (record { longest = longest; end = c .at })
 unfolding rowsIn
 rows-done s all c before longest none so = record { each = one; ends = sym (rows-none s c none) ∙ so .ends }
   where
@@ -237,10 +248,12 @@ is-longest : (t : Table) (j : ℕ) → longestIn j (allRows t) ≡ widths.longes
 unfolding longestIn widths.longest
 is-longest t j = refl
 
-pub longest-whole : (t : Table) (r : List ℕ) → length r ≡ mostColumns → ((j : ℕ) → j < mostColumns → getD r j 0 ≡ max (longestIn j (t .header)) (longestIn j (t .rows)))
+pub longest-whole : (t : Table) (r : List ℕ) → length r ≡ mostColumns →
+    ((j : ℕ) → j < mostColumns → getD r j 0 ≡ max (longestIn j (t .header)) (longestIn j (t .rows)))
     → r ≡ map (widths.longest t) (upFrom 0 mostColumns)
 longest-whole t r l each =
-    let n : length (map (widths.longest t) (upFrom 0 mostColumns)) ≡ mostColumns = length-map (upFrom 0 mostColumns) (widths.longest t) ∙ length-upFrom 0 mostColumns in
+    let n : length (map (widths.longest t) (upFrom 0 mostColumns)) ≡ mostColumns = length-map (upFrom 0 mostColumns) (widths.longest t) ∙
+          length-upFrom 0 mostColumns in
     ext-getD 0 r (map (widths.longest t) (upFrom 0 mostColumns)) (l ∙ sym n) (λ j h. one j (omega arith))
   where
     one : (j : ℕ) → j < mostColumns → getD r j 0 ≡ getD (map (widths.longest t) (upFrom 0 mostColumns)) j 0
@@ -254,25 +267,29 @@ all-narrow : (n : ℕ) (rs : List sheet.Row) → n ≤ mostColumns → All (RowL
 all-narrow n [] h a = tt
 all-narrow n (r ∷ rs) h a = (let c = a .0 .cells in omega arith, all-narrow n rs h (a .1))
 
-pub header-narrow : (s : List ℕ) (c : Rows) → Passes s → rowsIn s c ≡ tableOf s .header → rowsEnd s c ≡ rowsPlace s → Narrow (rowsIn s c) × (rowsEnd s c ≤ length s)
+pub header-narrow : (s : List ℕ) (c : Rows) → Passes s → rowsIn s c ≡ tableOf s .header → rowsEnd s c ≡ rowsPlace s → Narrow (rowsIn s c) ×
+    (rowsEnd s c ≤ length s)
 header-narrow s c h e i =
     let r = held s h in
     let l = accepted-limits s (tableOf s) (r .end) (r .reads) in
     let m = room s h in
     (rw e (all-narrow (length (tableOf s .columns)) (tableOf s .header) (l .columns) (l .header-row)), omega arith)
 
-pub rows-narrow : (s : List ℕ) (c : Rows) → Passes s → rowsIn s c ≡ tableOf s .rows → rowsEnd s c ≡ length s → Narrow (rowsIn s c) × (rowsEnd s c ≤ length s)
+pub rows-narrow : (s : List ℕ) (c : Rows) → Passes s → rowsIn s c ≡ tableOf s .rows → rowsEnd s c ≡ length s → Narrow (rowsIn s c) ×
+    (rowsEnd s c ≤ length s)
 rows-narrow s c h e i =
     let r = held s h in
     let l = accepted-limits s (tableOf s) (r .end) (r .reads) in
     (rw e (all-narrow (length (tableOf s .columns)) (tableOf s .rows) (l .columns) (l .each-row)), omega arith)
 
 -- the header's walk ends where the rows' count stands
-pub header-behind : (s : List ℕ) (c : Rows) (before : List ℕ) (r : LongestLines) → RowsWalked s c before r → rowsEnd s c ≡ rowsPlace s → rowsEnd s (record { at = r .end; left = 0 }) ≡ rowsPlace s
+pub header-behind : (s : List ℕ) (c : Rows) (before : List ℕ) (r : LongestLines) → RowsWalked s c before r → rowsEnd s c ≡ rowsPlace s → rowsEnd s
+    (record { at = r .end; left = 0 }) ≡ rowsPlace s
 header-behind s c before r walked e = rows-none s (record { at = r .end; left = 0 }) (omega arith) ∙ (walked .ends ∙ e)
 
 -- the header's walk and then the rows'
-pub walked-twice : (s : List ℕ) (t : Table) (h c : Rows) (first all : LongestLines) → length (all .longest) ≡ mostColumns → RowsWalked s h (replicate mostColumns 0) first → RowsWalked s c (first .longest) all
+pub walked-twice : (s : List ℕ) (t : Table) (h c : Rows) (first all : LongestLines) → length (all .longest) ≡ mostColumns → RowsWalked s h
+    (replicate mostColumns 0) first → RowsWalked s c (first .longest) all
     → rowsIn s h ≡ t .header → rowsIn s c ≡ t .rows → all .longest ≡ map (widths.longest t) (upFrom 0 mostColumns)
 walked-twice s t h c first all l a b d e = longest-whole t (all .longest) l each
   where

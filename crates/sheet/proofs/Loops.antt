@@ -41,7 +41,8 @@ abbrev pub characterFrom : List ℕ → Step → Step
 characterFrom s = readFrom (description.character printable) s
 
 -- a refusal stays, however many items were to come
-stopped : (f : Step → Step) → ((n p : ℕ) → f (Refused n p) ≡ Refused n p) → (n i : ℕ) (x w : Step) (m q : ℕ) → i < n → Items f n i x w → Refused m q ≡ f x → Refused m q ≡ w
+stopped : (f : Step → Step) → ((n p : ℕ) → f (Refused n p) ≡ Refused n p) → (n i : ℕ) (x w : Step) (m q : ℕ) → i < n → Items f n i x w → Refused m q ≡
+    f x → Refused m q ≡ w
 stopped f h n i x w m q l e g =
     let z : n - i ≡ suc (n - (i + 1)) = omega arith in
     sym (times-off (n - (i + 1)) f h m q) ∙ rw g (sym (next f (n - (i + 1)) x) ∙ rw (← z) (e .rest))
@@ -56,16 +57,20 @@ characters-begin s start n = let z : start + n - start ≡ n = omega arith in re
 -- one that isn't printable, one that is, the sheet's end before the last, and none left
 module _ (s : List ℕ) (e i : ℕ) (w : Step) (c : Characters s e i w) where
   pub character-low : i < e → i < length s → getD s i 0 < 32 → Refused 6 i ≡ w
-  character-low l h k = stopped (characterFrom s) (readFrom-off (description.character printable) s) e i (At i) w 6 i l (c .items) (between-low 32 126 6 s (At i) i refl h k)
+  character-low l h k = stopped (characterFrom s) (readFrom-off (description.character printable) s) e i (At i) w 6 i l (c .items)
+      (between-low 32 126 6 s (At i) i refl h k)
 
   pub character-high : i < e → i < length s → 32 ≤ getD s i 0 → 126 < getD s i 0 → Refused 6 i ≡ w
-  character-high l h k m = stopped (characterFrom s) (readFrom-off (description.character printable) s) e i (At i) w 6 i l (c .items) (between-high 32 126 6 s (At i) i refl h k m)
+  character-high l h k m = stopped (characterFrom s) (readFrom-off (description.character printable) s) e i (At i) w 6 i l (c .items)
+      (between-high 32 126 6 s (At i) i refl h k m)
 
   pub character-next : i < e → i < length s → 32 ≤ getD s i 0 → getD s i 0 ≤ 126 → Characters s e (i + 1) w
-  character-next l h k m = record { items = items-again (characterFrom s) e i (At i) (At (i + 1)) w l (c .items) (between-good 32 126 6 s (At i) i refl h k m) }
+  character-next l h k m = record { items = items-again (characterFrom s) e i (At i) (At (i + 1)) w l (c .items)
+      (between-good 32 126 6 s (At i) i refl h k m) }
 
   pub character-cut : i < e → length s ≤ i → Refused 1 (length s) ≡ w
-  character-cut l h = stopped (characterFrom s) (readFrom-off (description.character printable) s) e i (At i) w 1 (length s) l (c .items) (between-ended 32 126 6 s (At i) i refl h)
+  character-cut l h = stopped (characterFrom s) (readFrom-off (description.character printable) s) e i (At i) w 1 (length s) l (c .items)
+      (between-ended 32 126 6 s (At i) i refl h)
 
   pub characters-done : e ≤ i → At i ≡ w
   characters-done l = items-done (characterFrom s) e i (At i) w l (c .items)
@@ -91,14 +96,16 @@ pub printables-none : (s : List ℕ) (start i : ℕ) → i ≤ start → true �
 unfolding printables
 printables-none s start i h = let z : i - start ≡ 0 = omega arith in rw z
 
-pub printables-on : (s : List ℕ) (start i : ℕ) (a b : Bool) → start ≤ i → a ≡ printables s start (i - start) → b ≡ (a && printable (getD s i 0)) → b ≡ printables s start (i + 1 - start)
+pub printables-on : (s : List ℕ) (start i : ℕ) (a b : Bool) → start ≤ i → a ≡ printables s start (i - start) → b ≡ (a && printable (getD s i 0)) → b ≡
+    printables s start (i + 1 - start)
 unfolding printables
 printables-on s start i a b h e f =
     let z : i + 1 - start ≡ suc (i - start) = omega arith in
     let y : start + (i - start) ≡ i = omega arith in
     f ∙ rw (z, y, e)
 
-characters-on : (s : List ℕ) (start e m : ℕ) (w : Step) → start + m ≤ e → start + m ≤ length s → printables s start m ≡ true → Characters s e start w → Characters s e (start + m) w
+characters-on : (s : List ℕ) (start e m : ℕ) (w : Step) → start + m ≤ e → start + m ≤ length s → printables s start m ≡ true → Characters s e start w
+    → Characters s e (start + m) w
 unfolding printables
 characters-on s start e zero w h k p c = let z : start + 0 ≡ start = omega arith in rw z c
 characters-on s start e (suc m) w h k p c =
@@ -115,12 +122,15 @@ pub past-none : (b p : Bool) (x y : ℕ) → b ≡ p → b ≡ false → y ≡ c
 past-none b p x y e f = rw (← e, f)
 
 -- where the search for a bad one begins
-pub characters-past : (s : List ℕ) (start n end r : ℕ) → start ≤ end → end ≤ start + n → end ≤ length s → r ≡ cond (printables s start (end - start)) end start
+pub characters-past : (s : List ℕ) (start n end r : ℕ) → start ≤ end → end ≤ start + n → end ≤ length s → r ≡ cond (printables s start (end - start))
+    end start
     → (start ≤ r) × ((r ≤ end) × Characters s (start + n) r (times n (characterFrom s) (At start)))
 characters-past s start n end r h k l e = go (printables s start (end - start)) refl
   where
-    go : (b : Bool) → printables s start (end - start) ≡ b → (start ≤ r) × ((r ≤ end) × Characters s (start + n) r (times n (characterFrom s) (At start)))
+    go : (b : Bool) → printables s start (end - start) ≡ b → (start ≤ r) ×
+        ((r ≤ end) × Characters s (start + n) r (times n (characterFrom s) (At start)))
     go true f =
         let z : r ≡ start + (end - start) = e ∙ rw f (omega arith) in
-        (omega arith, (omega arith, rw z (characters-on s start (start + n) (end - start) _ (omega arith) (omega arith) f (characters-begin s start n))))
+        (omega arith, (omega arith, rw z (characters-on s start (start + n) (end - start) _ (omega arith) (omega arith) f
+            (characters-begin s start n))))
     go false f = let z : r ≡ start = e ∙ rw f in (omega arith, (omega arith, rw z (characters-begin s start n)))

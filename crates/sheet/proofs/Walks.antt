@@ -3,14 +3,14 @@ use Prim.Native.Nat.{ℕ, zero, suc, _+_, _-_, _≤_, _<_}
 use mathlib.Core.Path.{_≡_, refl, sym, _∙_}
 use mathlib.Core.List.{List, [], _∷_}
 use native.Mathlib.Omega.{arith}
-use lib.ListN.{length, getD, take, drop}
-use lib.Seq.{drop-cons}
+use lib.ListN.{length, getD, take, drop, drop-of-length-le}
+use lib.Seq.{drop-cons, drop-drop}
 use Rattle.rules.specs.Sheet.{noRow, noCell}
 use Rattle.rules.specs.Places.{past, parts, byteAt, textAt, lineStop, cellHere, cellStop, rowHere, rowStop, headerPlace, rowsPlace}
 use Rattle.rules.proofs.Stands as stands
 use Rattle.rules.proofs.Stands.{Onward, past-onward, cell-here, cell-stop, row-here, row-stop, cell-onward, row-onward, lines-onward, cells-onward, rows-onward}
 use Rattle.sheet.specs.Held.{Passes, tableOf}
-use Rattle.sheet.specs.Walk.{rowsIn, cellsIn, linesIn, rowsEnd, cellsEnd, linesEnd, firstRow, firstLine, RowIs, CellIs, RowsNext, CellsNext, LinesNext}
+use Rattle.sheet.specs.Walk.{rowsIn, cellsIn, linesIn, rowsEnd, cellsEnd, linesEnd, firstRow, firstLine, RowIs, CellIs, RowsNext, CellsNext, CellsSkipped, LinesNext}
 use Rattle.sheet.specs.declared.records.Rows.{Rows}
 use Rattle.sheet.specs.declared.records.Cells.{Cells}
 use Rattle.sheet.specs.declared.records.Lines.{Lines}
@@ -95,7 +95,8 @@ module _ (s : List ℕ) (c : Rows) (some : 0 < c .left) where
   pub row-room : rowsEnd s c ≤ length s → c .at + 2 ≤ length s
   row-room h = let a = row-onward s (c .at) in let b = row-inside in omega arith
 
-  pub row-is : (limit left : ℕ) → limit ≡ byteAt s (c .at) → left ≡ byteAt s (c .at + 1) → RowIs s c (record { limit = limit; cells = record { at = c .at + 2; left = left } })
+  pub row-is : (limit left : ℕ) → limit ≡ byteAt s (c .at) → left ≡ byteAt s (c .at + 1) → RowIs s c
+      (record { limit = limit; cells = record { at = c .at + 2; left = left } })
   unfolding rowsIn cellsIn cellsEnd
   row-is limit left e i =
       let f = first-part noRow (c .left) (rowHere s) (rowStop s) (c .at) some ∙ row-here s (c .at) in
@@ -202,3 +203,41 @@ rows-none s c h = let z : c .left ≡ 0 = omega arith in rw z
 -- behind the header there is a count
 pub rows-room : (s : List ℕ) (c : Rows) → Passes s → rowsEnd s c ≡ rowsPlace s → c .left ≤ 0 → c .at < length s
 rows-room s c h e l = let r = room s h in let i = rows-none s c l in omega arith
+
+-- ---- cells passed over
+
+-- i of the n cells that are to be passed
+pub record Skipping (s : List ℕ) (all c : Cells) (n i : ℕ) : Type 0 where
+  pub within : i ≤ n
+  pub skipped : CellsSkipped s all i c
+  pub inside : cellsEnd s c ≤ length s
+
+module _ (s : List ℕ) (all : Cells) (n : ℕ) where
+  pub skip-begins : cellsEnd s all ≤ length s → Skipping s all all n 0
+  skip-begins h = record { within = omega arith; skipped = record { cells = refl; left = omega arith; ends = refl }; inside = h }
+
+  pub skip-again : (c r : Cells) (i : ℕ) → i < n → CellsNext s c r → Skipping s all c n i → Skipping s all r n (i + 1)
+  skip-again c r i h next so =
+      record {
+        within = omega arith;
+        skipped = record {
+          cells = next .cells ∙ rw (so .skipped .cells) (drop-drop 1 i (cellsIn s all));
+          left = omega (arith, next .left, so .skipped .left);
+          ends = next .ends ∙ so .skipped .ends;
+        };
+        inside = omega (arith, next .ends, so .inside);
+      }
+
+  -- no cell is left to pass
+  pub skip-short : (c : Cells) (i : ℕ) → c .left ≡ 0 → Skipping s all c n i → CellsSkipped s all n c
+  skip-short c i z so =
+      let h : length (cellsIn s all) ≤ n = omega (arith, cells-number s all, so .skipped .left, so .within) in
+      let none : length (cellsIn s c) ≤ 0 = omega (arith, cells-number s c) in
+      record {
+        cells = drop-of-length-le (cellsIn s c) none ∙ sym (drop-of-length-le (cellsIn s all) h);
+        left = omega (arith, so .skipped .left, so .within);
+        ends = so .skipped .ends;
+      }
+
+  pub skip-done : (c : Cells) (i : ℕ) → n ≤ i → Skipping s all c n i → CellsSkipped s all n c
+  skip-done c i h so = let e : i ≡ n = omega (arith, so .within) in rw e at (so .skipped)

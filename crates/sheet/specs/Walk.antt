@@ -1,5 +1,5 @@
 -- What is still to come of a sheet's rows, of a row's cells and of a cell's lines. Assumes nothing.
-use Prim.Native.Nat.{ℕ, _+_}
+use Prim.Native.Nat.{ℕ, _+_, _-_}
 use mathlib.Core.Path.{_≡_}
 use mathlib.Core.List.{List, []}
 use lib.ListN.{getD, drop}
@@ -64,6 +64,12 @@ pub record RowsNext (s : List ℕ) (c r : Rows) : Type 0 where
 pub record CellsNext (s : List ℕ) (c r : Cells) : Type 0 where
   pub cells : cellsIn s r ≡ drop 1 (cellsIn s c)
   pub left : r .left + 1 ≡ c .left
+  pub ends : cellsEnd s r ≡ cellsEnd s c
+
+-- the cells after the first n, none where there are no more
+pub record CellsSkipped (s : List ℕ) (c : Cells) (n : ℕ) (r : Cells) : Type 0 where
+  pub cells : cellsIn s r ≡ drop n (cellsIn s c)
+  pub left : r .left ≡ c .left - n
   pub ends : cellsEnd s r ≡ cellsEnd s c
 
 pub record LinesNext (s : List ℕ) (c r : Lines) : Type 0 where

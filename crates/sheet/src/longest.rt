@@ -1,7 +1,7 @@
 // The longest line of each column, in one walk over the sheet: only lengths are read, no characters.
 ghost use mathlib.Core.Path.{_≡_};
 ghost use mathlib.Core.List.{map};
-ghost use Prim.Native.Nat.{_≤_, max};
+ghost use Prim.Native.Nat.{_≤_};
 ghost use lib.ListN.{length};
 ghost use Rattle.rules.specs.Text.{upFrom};
 ghost use Rattle.rules.specs.Sheet.{mostColumns};
@@ -28,15 +28,6 @@ pub struct LongestLines {
     pub end: usize,
 }
 
-fn greater(a: u16, b: u16) -> u16
-    ensures { λ r. ⌜ r ≡ max a b ⌝ }
-{
-    if a < b {
-        return b;
-    }
-    a
-}
-
 // A cell counts 1 even where all its lines are empty.
 fn of_cell(sheet: &[u8], lines: Lines) -> LongestLine
     requires { ⌜ linesEnd (now sheet) lines ≤ length (now sheet) ⌝ }
@@ -46,7 +37,7 @@ fn of_cell(sheet: &[u8], lines: Lines) -> LongestLine
     let mut c = lines;
     while 0 < c.left {
         let at = c.at;
-        longest = greater(longest, field::wide(sheet[at]));
+        longest = numbers::greater_u16(longest, field::wide(sheet[at]));
         c = walk::next_line(sheet, c);
     }
     LongestLine { longest, end: c.at }
@@ -64,7 +55,7 @@ fn of_row(sheet: &[u8], cells: Cells, before: [u16; MOST_COLUMNS]) -> LongestLin
         let cell = walk::cell(sheet, c);
         let lines = cell.lines;
         let found = of_cell(sheet, lines);
-        longest[j] = greater(longest[j], found.longest);
+        longest[j] = numbers::greater_u16(longest[j], found.longest);
         c = Cells {
             at: found.end,
             left: c.left - 1,

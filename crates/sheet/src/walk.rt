@@ -4,7 +4,7 @@ ghost use Prim.Native.Nat.{_<_, _≤_};
 ghost use lib.ListN.{length};
 ghost use Rattle.rules.specs.Places.{lineStop, cellStop, rowStop, rowsPlace};
 ghost use Rattle.sheet.specs.Held.{Passes, tableOf};
-ghost use Rattle.sheet.specs.Walk.{rowsIn, rowsEnd, cellsEnd, linesEnd, firstLine, RowIs, CellIs, RowsNext, CellsNext, LinesNext};
+ghost use Rattle.sheet.specs.Walk.{rowsIn, rowsEnd, cellsEnd, linesEnd, firstLine, RowIs, CellIs, RowsNext, CellsNext, CellsSkipped, LinesNext};
 use super::field;
 use super::places;
 use super::records::Cell;
@@ -101,6 +101,23 @@ pub fn next_cell(sheet: &[u8], c: Cells) -> Cells
         at,
         left: c.left - 1,
     }
+}
+
+// The cells after the first n.
+pub fn skip_cells(sheet: &[u8], cells: Cells, n: usize) -> Cells
+    requires { ⌜ cellsEnd (now sheet) cells ≤ length (now sheet) ⌝ }
+    ensures { λ r. ⌜ CellsSkipped (now (sheet .entry)) cells n r ⌝ }
+{
+    let mut c = cells;
+    let mut i: usize = 0;
+    while i < n {
+        if c.left == 0 {
+            return c;
+        }
+        c = next_cell(sheet, c);
+        i += 1;
+    }
+    c
 }
 
 // The first line of those still to come: the part of the sheet that holds its characters.

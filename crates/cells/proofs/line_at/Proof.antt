@@ -15,6 +15,7 @@ line-at-spec =
     (λ c. search needs)
     (λ c. search needs)
     (λ c. search needs)
-    (λ c. let a = c .before .before .before .before .args in sym (ap (λ ls. getD ls 0 []) (lines-none (now (a .sheet)) (a .lines) (omega (arith, c .before .if1 .taken)))))
+    (λ c. let a = c .before .before .before .before .args in
+        sym (ap (λ ls. getD ls 0 []) (lines-none (now (a .sheet)) (a .lines) (omega (arith, c .before .if1 .taken)))))
     (λ c κs. search needs)
     (λ c. search needs))

@@ -9,5 +9,6 @@ line-height-spec =
     tie.close
     (tie.spec
     (λ c κs. search needs)
-    (λ c. line-long _ _ (c .before .before .before .pre) (now (c .before .before .before .args .text)) _ (c .before .if1 .taken) (c .count-parts .ensures))
+    (λ c. let start = c .before .before .before in line-long _ _ (start .pre) (now (start .args .text)) _ (c .before .if1 .taken)
+        (c .count-parts .ensures))
     (λ c. line-short _ _ (c .before .before .pre) (now (c .before .before .args .text)) (c .if1 .left)))

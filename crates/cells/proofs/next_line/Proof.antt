@@ -21,7 +21,8 @@ next-line-spec =
     let p = t .before in
     let l = p .before in
     let b = l .before .before .before .before .before in
-    next-found _ _ _ (b .pre .1) _ (b .pre .0) _ (l .line .ensures) (p .split-line .result) (p .split-line .ensures) _ (t .take-part .ensures) (c .if2 .taken))
+    next-found _ _ _ (b .pre .1) _ (b .pre .0) _ (l .line .ensures) (p .split-line .result) (p .split-line .ensures) _ (t .take-part .ensures)
+        (c .if2 .taken))
     (λ c κs. search needs)
     (λ c κs. search needs)
     (λ c.
@@ -31,5 +32,6 @@ next-line-spec =
     let l = p .before in
     let b = l .before .before .before .before .before in
     rw
-    (next-further _ _ _ (b .pre .1) _ (b .pre .0) _ (l .line .ensures) (p .split-line .result) (p .split-line .ensures) _ (t .take-part .ensures) (k .before .if2 .left) _ (k .next-line .ensures))
+    (next-further _ _ _ (b .pre .1) _ (b .pre .0) _ (l .line .ensures) (p .split-line .result) (p .split-line .ensures) _ (t .take-part .ensures)
+        (k .before .if2 .left) _ (k .next-line .ensures))
     (c .first-line .ensures)))

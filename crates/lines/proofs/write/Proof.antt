@@ -22,14 +22,26 @@ write-spec =
     Inv-loop
     μ-loop
     (λ c κs. search needs)
-    (λ c. let s = c .before .before .before in filling-begins (now (s .args .sheet)) (s .args .p) (s .args .from) (now (s .args .page)) (s .pre .1 .0))
+    (λ c. let s = c .before .before .before in filling-begins (now (s .args .sheet)) (s .args .p) (s .args .from) (now (s .args .page))
+        (s .pre .1 .0))
     (λ c κs. search needs)
-    (λ c. filling-room (now (c .before .before .before .before .before .before .args .sheet)) (c .before .before .before .before .before .before .args .p) (c .before .before .before .before .before .before .args .from) (now (c .before .before .before .before .before .before .args .page)) (c .before .before .loop .page) (c .before .before .loop .c) (c .before .before .loop .lines) (c .before .before .loop .bytes) (c .before .before .loop .inv))
-    (λ c. filling-room (now (c .before .before .before .before .before .before .args .sheet)) (c .before .before .before .before .before .before .args .p) (c .before .before .before .before .before .before .args .from) (now (c .before .before .before .before .before .before .args .page)) (c .before .before .loop .page) (c .before .before .loop .c) (c .before .before .loop .lines) (c .before .before .loop .bytes) (c .before .before .loop .inv))
+    (λ c. let start = c .before .before .before .before .before .before in let loop = c .before .before .loop in
+        filling-room (now (start .args .sheet)) (start .args .p) (start .args .from) (now (start .args .page)) (loop .page) (loop .c) (loop .lines)
+        (loop .bytes) (loop .inv))
+    (λ c. let start = c .before .before .before .before .before .before in let loop = c .before .before .loop in
+        filling-room (now (start .args .sheet)) (start .args .p) (start .args .from) (now (start .args .page)) (loop .page) (loop .c) (loop .lines)
+        (loop .bytes) (loop .inv))
     (λ c. search needs)
-    (λ c κs. (c .before .before .before .before .before .before .before .pre .0, (c .before .before .before .loop .inv .stands, c .before .before .before .before .measure .ensures)))
-    (λ c. omega (arith, filling-lines (now (c .before .before .before .before .before .before .before .before .before .before .before .args .sheet)) (c .before .before .before .before .before .before .before .before .before .before .before .args .p) (c .before .before .before .before .before .before .before .before .before .before .before .args .from) (now (c .before .before .before .before .before .before .before .before .before .before .before .args .page)) (c .before .before .before .before .before .before .before .loop .page) (c .before .before .before .before .before .before .before .loop .c) (c .before .before .before .before .before .before .before .loop .lines) (c .before .before .before .before .before .before .before .loop .bytes) (c .before .before .before .before .before .before .before .loop .inv) (c .before .before .before .draw .last .0) _ (c .before .before .before .draw .result) (c .before .before .before .draw .ensures) refl, c .before .before .before .before .before .before .before .before .before .before .before .pre .1 .1))
-    (λ c. omega (arith, filling-bytes (now (c .before .before .before .before .before .before .before .before .before .before .before .before .args .sheet)) (c .before .before .before .before .before .before .before .before .before .before .before .before .args .p) (c .before .before .before .before .before .before .before .before .before .before .before .before .args .from) (now (c .before .before .before .before .before .before .before .before .before .before .before .before .args .page)) (c .before .before .before .before .before .before .before .before .loop .page) (c .before .before .before .before .before .before .before .before .loop .c) (c .before .before .before .before .before .before .before .before .loop .lines) (c .before .before .before .before .before .before .before .before .loop .bytes) (c .before .before .before .before .before .before .before .before .loop .inv) (c .before .before .before .before .draw .last .0) _ (c .before .before .before .before .draw .result) (c .before .before .before .before .draw .ensures) refl, c .before .before .before .before .before .before .before .before .before .before .before .before .good))
+    (λ c κs. (c .before .before .before .before .before .before .before .pre .0,
+        (c .before .before .before .loop .inv .stands, c .before .before .before .before .measure .ensures)))
+    (λ c. let start = c .before .before .before .before .before .before .before .before .before .before .before in
+        let loop = c .before .before .before .before .before .before .before .loop in let draw = c .before .before .before .draw in
+        omega (arith, filling-lines (now (start .args .sheet)) (start .args .p) (start .args .from) (now (start .args .page)) (loop .page) (loop .c)
+        (loop .lines) (loop .bytes) (loop .inv) (draw .last .0) _ (draw .result) (draw .ensures) refl, start .pre .1 .1))
+    (λ c. let start = c .before .before .before .before .before .before .before .before .before .before .before .before in
+        let loop = c .before .before .before .before .before .before .before .before .loop in let draw = c .before .before .before .before .draw in
+        omega (arith, filling-bytes (now (start .args .sheet)) (start .args .p) (start .args .from) (now (start .args .page)) (loop .page) (loop .c)
+        (loop .lines) (loop .bytes) (loop .inv) (draw .last .0) _ (draw .result) (draw .ensures) refl, start .good))
     (λ c κs.
     let s = c .before .before .before .before .before .before .before .before .before .before .before .before .before .before in
     let l = c .before .before .before .before .before .before .before .before .before .before .loop in
@@ -40,10 +52,30 @@ write-spec =
       l .inv .stands .within,
       lines-few (now (s .args .sheet)) (now (s .args .columns)) (s .args .p) (s .pre .0) (l .c) (l .inv .stands .rows),
     ))
-    (λ c. filling-kept (now (c .before .before .before .before .before .before .before .before .before .before .before .before .before .before .before .args .sheet)) (c .before .before .before .before .before .before .before .before .before .before .before .before .before .before .before .args .p) (c .before .before .before .before .before .before .before .before .before .before .before .before .before .before .before .args .from) (now (c .before .before .before .before .before .before .before .before .before .before .before .before .before .before .before .args .page)) (c .before .before .before .before .before .before .before .before .before .before .before .loop .page) (c .before .before .before .before .before .before .before .before .before .before .before .loop .c) (c .before .before .before .before .before .before .before .before .before .before .before .loop .lines) (c .before .before .before .before .before .before .before .before .before .before .before .loop .bytes) (c .before .before .before .before .before .before .before .before .before .before .before .loop .inv) (c .before .before .before .before .before .before .before .draw .last .0) _ (c .before .before .before .before .before .before .before .draw .result) (c .before .before .before .before .before .before .before .draw .ensures) refl)
-    (λ c. filling-stops (now (c .before .before .before .before .before .before .before .before .before .before .before .before .before .before .before .args .sheet)) (c .before .before .before .before .before .before .before .before .before .before .before .before .before .before .before .args .p) (c .before .before .before .before .before .before .before .before .before .before .before .before .before .before .before .args .from) (now (c .before .before .before .before .before .before .before .before .before .before .before .before .before .before .before .args .page)) (c .before .before .before .before .before .before .before .before .before .before .before .loop .page) (c .before .before .before .before .before .before .before .before .before .before .before .loop .c) (c .before .before .before .before .before .before .before .before .before .before .before .loop .lines) (c .before .before .before .before .before .before .before .before .before .before .before .loop .bytes) (c .before .before .before .before .before .before .before .before .before .before .before .loop .inv) (c .before .before .before .before .before .before .before .draw .last .0) _ (c .before .before .before .before .before .before .before .draw .result) (c .before .before .before .before .before .before .before .draw .ensures) refl (not-true (c .before .before .before .before .before .before .before .draw .result .whole) (c .before .if2 .taken)) _ (c .further .ensures))
+    (λ c. let start = c .before .before .before .before .before .before .before .before .before .before .before .before .before .before .before in
+        let loop = c .before .before .before .before .before .before .before .before .before .before .before .loop in
+        let draw = c .before .before .before .before .before .before .before .draw in
+        filling-kept (now (start .args .sheet)) (start .args .p) (start .args .from) (now (start .args .page)) (loop .page) (loop .c) (loop .lines)
+        (loop .bytes) (loop .inv) (draw .last .0) _ (draw .result) (draw .ensures) refl)
+    (λ c. let start = c .before .before .before .before .before .before .before .before .before .before .before .before .before .before .before in
+        let loop = c .before .before .before .before .before .before .before .before .before .before .before .loop in
+        let draw = c .before .before .before .before .before .before .before .draw in
+        filling-stops (now (start .args .sheet)) (start .args .p) (start .args .from) (now (start .args .page)) (loop .page) (loop .c) (loop .lines)
+        (loop .bytes) (loop .inv) (draw .last .0) _ (draw .result) (draw .ensures) refl (not-true (draw .result .whole) (c .before .if2 .taken)) _
+        (c .further .ensures))
     (λ c κs. c .before .before .before .before .before .before .before .before .before .before .loop .inv .stands .rows)
-    (λ c. c .next .ensures .fewer (sym (c .before .before .before .before .before .before .before .before .before .before .is-end .ensures) ∙ not-true (c .before .before .before .before .before .before .before .before .before .before .is-end .result) (c .before .before .before .before .before .before .before .before .before .if1 .taken)))
-    (λ c. filling-on (now (c .before .before .before .before .before .before .before .before .before .before .before .before .before .before .before .args .sheet)) (c .before .before .before .before .before .before .before .before .before .before .before .before .before .before .before .args .p) (c .before .before .before .before .before .before .before .before .before .before .before .before .before .before .before .args .from) (now (c .before .before .before .before .before .before .before .before .before .before .before .before .before .before .before .args .page)) (c .before .before .before .before .before .before .before .before .before .before .before .loop .page) (c .before .before .before .before .before .before .before .before .before .before .before .loop .c) (c .before .before .before .before .before .before .before .before .before .before .before .loop .lines) (c .before .before .before .before .before .before .before .before .before .before .before .loop .bytes) (c .before .before .before .before .before .before .before .before .before .before .before .loop .inv) (c .before .before .before .before .before .before .before .draw .last .0) _ (c .before .before .before .before .before .before .before .draw .result) (c .before .before .before .before .before .before .before .draw .ensures) refl (not-false (c .before .before .before .before .before .before .before .draw .result .whole) (c .before .if2 .left)) _ (c .next .ensures))
-    (λ c. filling-size (now (c .before .before .before .before .before .before .args .sheet)) (c .before .before .before .before .before .before .args .p) (c .before .before .before .before .before .before .args .from) (now (c .before .before .before .before .before .before .args .page)) (c .before .before .loop .page) (c .before .before .loop .c) (c .before .before .loop .lines) (c .before .before .loop .bytes) (c .before .before .loop .inv))
-    (λ c. filling-done (now (c .before .before .before .before .before .before .args .sheet)) (c .before .before .before .before .before .before .args .p) (c .before .before .before .before .before .before .args .from) (now (c .before .before .before .before .before .before .args .page)) (c .before .before .loop .page) (c .before .before .loop .c) (c .before .before .loop .lines) (c .before .before .loop .bytes) (c .before .before .loop .inv) (sym (c .before .is-end .ensures) ∙ not-false (c .before .is-end .result) (c .if1 .left))))
+    (λ c. let is-end = c .before .before .before .before .before .before .before .before .before .before .is-end in
+        c .next .ensures .fewer (sym (is-end .ensures) ∙ not-true (is-end .result)
+        (c .before .before .before .before .before .before .before .before .before .if1 .taken)))
+    (λ c. let start = c .before .before .before .before .before .before .before .before .before .before .before .before .before .before .before in
+        let loop = c .before .before .before .before .before .before .before .before .before .before .before .loop in
+        let draw = c .before .before .before .before .before .before .before .draw in
+        filling-on (now (start .args .sheet)) (start .args .p) (start .args .from) (now (start .args .page)) (loop .page) (loop .c) (loop .lines)
+        (loop .bytes) (loop .inv) (draw .last .0) _ (draw .result) (draw .ensures) refl (not-false (draw .result .whole) (c .before .if2 .left)) _
+        (c .next .ensures))
+    (λ c. let start = c .before .before .before .before .before .before in let loop = c .before .before .loop in
+        filling-size (now (start .args .sheet)) (start .args .p) (start .args .from) (now (start .args .page)) (loop .page) (loop .c) (loop .lines)
+        (loop .bytes) (loop .inv))
+    (λ c. let start = c .before .before .before .before .before .before in let loop = c .before .before .loop in
+        filling-done (now (start .args .sheet)) (start .args .p) (start .args .from) (now (start .args .page)) (loop .page) (loop .c) (loop .lines)
+        (loop .bytes) (loop .inv) (sym (c .before .is-end .ensures) ∙ not-false (c .before .is-end .result) (c .if1 .left))))

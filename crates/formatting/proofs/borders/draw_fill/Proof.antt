@@ -22,5 +22,6 @@ draw-fill-spec =
     let e = c .before .before .before .before .before .before .before .before .draw-edge in
     let f = c .before .before .fill in (
       omega (arith, e .ensures .0, f .ensures .0),
-      two (now (a .page)) (a .at) (edge (a .joins) (a .junction)) (ruleArea (a .v) (a .fill)) (e .last .0) (f .last .0) (e .result) (e .ensures .1) (f .ensures .1) (sym (e .ensures .0)) (omega (arith, s .pre .1)),
+      two (now (a .page)) (a .at) (edge (a .joins) (a .junction)) (ruleArea (a .v) (a .fill)) (e .last .0) (f .last .0) (e .result) (e .ensures .1)
+          (f .ensures .1) (sym (e .ensures .0)) (omega (arith, s .pre .1)),
     )))

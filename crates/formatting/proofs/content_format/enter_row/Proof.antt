@@ -26,7 +26,8 @@ enter-row-spec =
     let a = s .args in
     let e = f .ensures in (
       (D, r .ensures .limit),
-      enters-first (now (a .sheet)) (viewOf (now (a .columns)) (a .count)) (firstRow (now (a .sheet)) (a .here)) (D .views) (pendingsOf (f .last .1 .1 .1 .1 .0)) (f .result)
+      enters-first (now (a .sheet)) (viewOf (now (a .columns)) (a .count)) (firstRow (now (a .sheet)) (a .here)) (D .views)
+          (pendingsOf (f .last .1 .1 .1 .1 .0)) (f .result)
           (rw (r .ensures .cells) at (e .0)) (e .1),
     ))
     (λ c. record { limit = c .before .before .before .before .before .row .ensures .limit; stands = c .skip-lines .ensures }))

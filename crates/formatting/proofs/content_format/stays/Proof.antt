@@ -9,5 +9,7 @@ stays-spec =
     (tie.spec
     (λ c. search needs)
     (λ c. search needs)
-    (λ c. stays-out (c .before .before .args .limit) (c .before .before .args .line) (c .before .before .args .more) (c .before .if1 .left) (c .if2 .taken))
-    (λ c. stays-in (c .before .before .args .limit) (c .before .before .args .line) (c .before .before .args .more) (c .before .if1 .left) (c .if2 .left)))
+    (λ c. stays-out (c .before .before .args .limit) (c .before .before .args .line) (c .before .before .args .more) (c .before .if1 .left)
+        (c .if2 .taken))
+    (λ c. stays-in (c .before .before .args .limit) (c .before .before .args .line) (c .before .before .args .more) (c .before .if1 .left)
+        (c .if2 .left)))

@@ -9,4 +9,5 @@ pack-column-spec =
     (tie.spec
     (λ c κs. search needs)
     (λ c κs. search needs)
-    (λ c. column-packed (c .before .before .args .v) (c .before .number .result) (c .number2 .result) (c .before .number .ensures) (c .number2 .ensures)))
+    (λ c. column-packed (c .before .before .args .v) (c .before .number .result) (c .number2 .result) (c .before .number .ensures)
+        (c .number2 .ensures)))

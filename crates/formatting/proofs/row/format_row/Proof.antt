@@ -11,7 +11,8 @@ use Rattle.formatting.proofs.row.format_row.Statement.{statement}
 use Rattle.formatting.proofs.row.format_row.Tie as tie
 
 abbrev Inv-loop : tie.InvT-loop
-Inv-loop sheet columns count state₀ left₀ passed₀ more₀ i₀ state left passed more i = Opening sheet (viewOf columns count) (cellsIn sheet left₀) (pendingsOf state) left passed more i
+Inv-loop sheet columns count state₀ left₀ passed₀ more₀ i₀ state left passed more i = Opening sheet (viewOf columns count) (cellsIn sheet left₀)
+    (pendingsOf state) left passed more i
 
 abbrev μ-loop : tie.MeasureT-loop
 μ-loop sheet columns count state₀ left₀ passed₀ more₀ i₀ state left passed more i = count - i
@@ -32,13 +33,16 @@ format-row-spec =
     (λ c.
     let s = c .before .before .before .before .before in
     let l = c .before .before .before .loop in
-    open-order (now (s .args .sheet)) (now (s .args .columns)) (s .args .count) (s .pre .0 .0) (s .pre .0 .1 .0) _ (l .left) (l .passed) (l .i) (c .before .before .loop-test .taken) _ (c .column-from .ensures) (l .state) (l .more) (l .inv))
+    open-order (now (s .args .sheet)) (now (s .args .columns)) (s .args .count) (s .pre .0 .0) (s .pre .0 .1 .0) _ (l .left) (l .passed) (l .i)
+        (c .before .before .loop-test .taken) _ (c .column-from .ensures) (l .state) (l .more) (l .inv))
     (λ c κs. c .before .before .before .loop .inv .passing .ends)
     (λ c κs.
     let s = c .before .before .before .before .before .before in
     let l = c .before .before .before .before .loop in (
-      cell-wide (now (s .args .sheet)) (now (s .args .columns)) (s .args .count) (s .pre .0 .0) (s .pre .0 .1 .0) (cellsIn (now (s .args .sheet)) (s .args .cells)) (l .left) (l .passed) (l .i) (c .before .before .before .loop-test .taken) _ (c .before .column-from .ensures),
-      omega (arith, c .skip-cells .ensures .1, l .inv .passing .ends),
+      cell-wide (now (s .args .sheet)) (now (s .args .columns)) (s .args .count) (s .pre .0 .0) (s .pre .0 .1 .0)
+          (cellsIn (now (s .args .sheet)) (s .args .cells)) (l .left) (l .passed) (l .i) (c .before .before .before .loop-test .taken) _
+          (c .before .column-from .ensures),
+      omega (arith, c .skip-cells .ensures .ends, l .inv .passing .ends),
     ))
     (λ c κs. search needs)
     (λ c κs. search needs)
@@ -50,9 +54,13 @@ format-row-spec =
     let s = c .before .before .before .before .before .before .before .before .before .before in
     let l = c .before .before .before .before .before .before .before .before .loop in
     let k = c .before .before .before .before .skip-cells in
-    open-on (now (s .args .sheet)) (now (s .args .columns)) (s .args .count) (s .pre .0 .0) (s .pre .0 .1 .0) _ (l .left) (l .passed) (l .i) (c .before .before .before .before .before .before .before .loop-test .taken) _ (c .before .before .before .before .before .column-from .ensures) (l .state) (l .more) (l .inv)
-    (k .result) _ _ _ (k .ensures .0) (k .ensures .1) (c .before .before .before .open-cell .ensures) (c .before .either .ensures) (c .pack-pending .ensures))
+    open-on (now (s .args .sheet)) (now (s .args .columns)) (s .args .count) (s .pre .0 .0) (s .pre .0 .1 .0) _ (l .left) (l .passed) (l .i)
+        (c .before .before .before .before .before .before .before .loop-test .taken) _
+        (c .before .before .before .before .before .column-from .ensures) (l .state) (l .more) (l .inv)
+    (k .result) _ _ _ (k .ensures .cells) (k .ensures .ends) (c .before .before .before .open-cell .ensures) (c .before .either .ensures)
+        (c .pack-pending .ensures))
     (λ c.
     let s = c .before .before .before in
     let l = c .before .loop in
-    opening-done (now (s .args .sheet)) (viewOf (now (s .args .columns)) (s .args .count)) (cellsIn (now (s .args .sheet)) (s .args .cells)) (pendingsOf (l .state)) (l .left) (l .passed) (l .more) (l .i) (l .inv) (c .loop-test .left)))
+    opening-done (now (s .args .sheet)) (viewOf (now (s .args .columns)) (s .args .count)) (cellsIn (now (s .args .sheet)) (s .args .cells))
+        (pendingsOf (l .state)) (l .left) (l .passed) (l .more) (l .i) (l .inv) (c .loop-test .left)))

@@ -11,7 +11,8 @@ use Rattle.lines.proofs.open.show_columns.Statement.{statement}
 use Rattle.lines.proofs.open.show_columns.Tie as tie
 
 abbrev Inv-loop : tie.InvT-loop
-Inv-loop sheet widths columns₀ delimiter found n count₀ j₀ columns count j = (j ≤ n) × ((n ≤ mostColumns) × Showing (tableOf sheet) j (viewOf columns count))
+Inv-loop sheet widths columns₀ delimiter found n count₀ j₀ columns count j = (j ≤ n) ×
+    ((n ≤ mostColumns) × Showing (tableOf sheet) j (viewOf columns count))
 
 abbrev μ-loop : tie.MeasureT-loop
 μ-loop sheet widths columns₀ delimiter found n count₀ j₀ columns count j = n - j
@@ -32,7 +33,8 @@ show-columns-spec =
     (λ c. let i = c .before .loop .inv in omega (arith, i .0, i .1 .0))
     (λ c. let i = c .before .before .before .loop .inv in omega (arith, i .0, i .1 .0))
     (λ c. let i = c .before .before .before .loop .inv in omega (arith, i .0, i .1 .0))
-    (λ c κs. let i = c .before .before .before .before .loop .inv in omega (arith, i .0, i .1 .0, i .1 .1 .few, c .before .before .before .loop-test .taken))
+    (λ c κs. let i = c .before .before .before .before .loop .inv in
+        omega (arith, i .0, i .1 .0, i .1 .1 .few, c .before .before .before .loop-test .taken))
     (λ c. let i = c .before .before .before .before .before .loop .inv in omega (arith, i .0, i .1 .0))
     (λ c. omega arith)
     (λ c.
@@ -46,12 +48,16 @@ show-columns-spec =
       (
         l .inv .1 .0,
         showing-on t (l .j) _ (l .inv .1 .1) _ _ _ _ (omega (arith, h, l .inv .1 .0)) (column-at t T _ e (l .j) (omega (arith, h)))
-            (width-is t _ (l .j) (s .pre .1 .0) (omega (arith, h, columns-count t _ e))) (delimiter-is t (c .before .before .before .before .before .before .before .before .settings .result) _ (c .before .before .before .before .before .before .before .before .settings .ensures) (c .before .before .before .before .before .before .before .or-else .ensures)) (c .show-column .ensures),
+            (width-is t _ (l .j) (s .pre .1 .0) (omega (arith, h, columns-count t _ e)))
+                (delimiter-is t (c .before .before .before .before .before .before .before .before .settings .result) _
+                (c .before .before .before .before .before .before .before .before .settings .ensures)
+                (c .before .before .before .before .before .before .before .or-else .ensures)) (c .show-column .ensures),
       ),
     ))
     (λ c.
     let l = c .before .loop in
     let s = c .before .before .before .before .before .before in
     let T = limits-of _ (s .pre .0) in
-    let W = showing-done _ _ _ T (omega (arith, columns-count _ _ (c .before .before .columns .ensures), l .inv .0, c .loop-test .left)) (l .inv .1 .1) in
+    let W = showing-done _ _ _ T (omega (arith, columns-count _ _ (c .before .before .columns .ensures), l .inv .0, c .loop-test .left))
+          (l .inv .1 .1) in
     (W, (view-rising _ _ T W, (view-wide _ _ T W, view-narrow _ _ T W)))))

@@ -205,7 +205,8 @@ module _ {M : Type 1} (𝓤 : URA M) (H : Heap 𝓤) (A : Atoms 𝓤) (W : Given
   pause-walks C Λ fm known = walked 𝓤 H A pause.ended stayed (pause.clauses 𝓤 H A at-mem run) (WpFn 𝓤 H C Λ code.function) (λ κs. tt) (λ κs. tt)
       (λ κs qs bounds a g are. via 𝓤 _ (fst∗ 𝓤 _ (emp 𝓤)) (walk C Λ fm known))
 
-pause-meets : {M : Type 1} (𝓤 : URA M) (H : Heap 𝓤) (A : Atoms 𝓤) (W : Given 𝓤 H A) (at-mem : Memory → SProp 𝓤) (run : Routine → Fun 𝓤) (𝓣 : Tables 𝓤 H)
+pause-meets : {M : Type 1} (𝓤 : URA M) (H : Heap 𝓤) (A : Atoms 𝓤) (W : Given 𝓤 H A) (at-mem : Memory → SProp 𝓤) (run : Routine → Fun 𝓤)
+    (𝓣 : Tables 𝓤 H)
     → Triple 𝓤 (𝓣 .C #libc·nanosleep) (Sleep 𝓤 H A at-mem run)
     → Meets 𝓤 H A pause.signature (WpFn 𝓤 H (𝓣 .C) (𝓣 .Λ) code.function) (pause.spec 𝓤 H A at-mem run)
 pause-meets 𝓤 H A W at-mem run 𝓣 known = walk-meets 𝓤 H A pause.ended stayed W tt (pause.clauses 𝓤 H A at-mem run)
@@ -218,4 +219,5 @@ pause-spec 𝓤 H 𝓜 𝓖 𝓡 =
     entered 𝓤 H (tripleOf 𝓤 H (𝓖 .A) pause.signature (pause.spec 𝓤 H (𝓖 .A) (𝓜 .mem) (𝓡 .run)))
     (tables 𝓤 H 𝓜 𝓡 code.env .C) (tables 𝓤 H 𝓜 𝓡 code.env .Λ) #pause code.function (code.unfolded 𝓤 H 𝓜 𝓡)
     (pause-meets 𝓤 H (𝓖 .A) (givenOf 𝓤 H 𝓜 𝓖) (𝓜 .mem) (𝓡 .run) (tablesOf 𝓤 H 𝓜 (tables 𝓤 H 𝓜 𝓡 code.env))
-    (cited 𝓤 H (Sleep 𝓤 H (𝓖 .A) (𝓜 .mem) (𝓡 .run)) 𝓜 𝓡 code.env #libc·nanosleep sleep-def.routine code.calls-libc·nanosleep (sleep-thm.met 𝓤 H 𝓜 𝓖 𝓡)))
+    (cited 𝓤 H (Sleep 𝓤 H (𝓖 .A) (𝓜 .mem) (𝓡 .run)) 𝓜 𝓡 code.env #libc·nanosleep sleep-def.routine code.calls-libc·nanosleep
+        (sleep-thm.met 𝓤 H 𝓜 𝓖 𝓡)))

@@ -14,4 +14,5 @@ constraint-spec =
     (λ c κs. search needs)
     (λ c κs. search needs)
     (λ c κs. search needs)
-    (λ c. rw (c .width2 .ensures, c .before .width .ensures, c .before .before .byte-between .ensures .0, c .before .before .byte-between .ensures .1)))
+    (λ c. let byte-between = c .before .before .byte-between in
+        rw (c .width2 .ensures, c .before .width .ensures, byte-between .ensures .0, byte-between .ensures .1)))

@@ -23,6 +23,12 @@ word-spec =
     (λ c κs. search needs)
     (λ c. search needs)
     (λ c. search needs)
-    (λ c. word-high (c .before .before .before .before .before .before .before .before .before .before .before .args .most) (now (c .before .before .before .before .before .before .before .before .before .before .before .args .sheet)) (c .before .before .before .before .before .before .before .before .before .before .before .args .from) (c .before .before .before .before .before .before .before .before .from .given .0 .0) (c .before .before .before .before .before .before .before .before .from .given .1) (c .before .before .before .wide .result) (c .before .wide2 .result) (c .before .before .before .wide .ensures .0) (c .before .wide2 .ensures .0) (omega arith) (omega arith) (omega arith))
+    (λ c. let start = c .before .before .before .before .before .before .before .before .before .before .before in
+        let from = c .before .before .before .before .before .before .before .before .from in let wide = c .before .before .before .wide in
+        word-high (start .args .most) (now (start .args .sheet)) (start .args .from) (from .given .0 .0) (from .given .1) (wide .result)
+        (c .before .wide2 .result) (wide .ensures .0) (c .before .wide2 .ensures .0) (omega arith) (omega arith) (omega arith))
     (λ c. search needs)
-    (λ c. word-good (c .before .before .before .before .before .before .before .before .before .before .before .args .most) (now (c .before .before .before .before .before .before .before .before .before .before .before .args .sheet)) (c .before .before .before .before .before .before .before .before .before .before .before .args .from) (c .before .before .before .before .before .before .before .before .from .given .0 .0) (c .before .before .before .before .before .before .before .before .from .given .1) (c .before .before .before .wide .result) (c .before .wide2 .result) (c .before .before .before .wide .ensures .0) (c .before .wide2 .ensures .0) (omega arith) (omega arith) (omega arith)))
+    (λ c. let start = c .before .before .before .before .before .before .before .before .before .before .before in
+        let from = c .before .before .before .before .before .before .before .before .from in let wide = c .before .before .before .wide in
+        word-good (start .args .most) (now (start .args .sheet)) (start .args .from) (from .given .0 .0) (from .given .1) (wide .result)
+        (c .before .wide2 .result) (wide .ensures .0) (c .before .wide2 .ensures .0) (omega arith) (omega arith) (omega arith)))

@@ -28,4 +28,5 @@ cells-spec =
     (λ c. search needs)
     (λ c. search needs)
     (λ c. items-again _ _ _ _ _ _ (c .before .loop-test .taken) (c .before .before .loop .inv) (c .cell .ensures))
-    (λ c. items-done _ _ _ _ _ (c .loop-test .left) (c .before .loop .inv) ∙ rw (c .before .before .cell-count .ensures .0, c .before .before .cell-count .ensures .1)))
+    (λ c. let cell-count = c .before .before .cell-count in
+        items-done _ _ _ _ _ (c .loop-test .left) (c .before .loop .inv) ∙ rw (cell-count .ensures .0, cell-count .ensures .1)))

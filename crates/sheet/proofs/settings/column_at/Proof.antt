@@ -22,4 +22,5 @@ column-at-spec =
     (λ c. search needs)
     (λ c. search needs)
     (λ c. search needs)
-    (λ c. rw (c .before .before .before .before .before .width-at2 .ensures, c .before .before .before .before .before .before .width-at .ensures) (sym (column-here _ _))))
+    (λ c. rw (c .before .before .before .before .before .width-at2 .ensures, c .before .before .before .before .before .before .width-at .ensures)
+        (sym (column-here _ _))))

@@ -13,7 +13,9 @@ use Rattle.sheet.proofs.settings.columns.Statement.{statement}
 use Rattle.sheet.proofs.settings.columns.Tie as tie
 
 abbrev Inv-loop : tie.InvT-loop
-Inv-loop sheet place count each₀ at₀ i₀ each at i = Passes sheet × ((i ≤ count) × ((count ≡ byteAt sheet (columnsPlace sheet)) × ((at ≡ columnsPlace sheet + 1 + 11 * i) × Copied (tableOf sheet .columns) (replicate mostColumns noColumn) i each)))
+Inv-loop sheet place count each₀ at₀ i₀ each at i = Passes sheet × ((i ≤ count) ×
+    ((count ≡ byteAt sheet (columnsPlace sheet)) × ((at ≡ columnsPlace sheet + 1 + 11 * i) × Copied (tableOf sheet .columns)
+    (replicate mostColumns noColumn) i each)))
 
 abbrev μ-loop : tie.MeasureT-loop
 μ-loop sheet place count each₀ at₀ i₀ each at i = count - i
@@ -35,5 +37,10 @@ columns-spec =
     (λ c. let r = room _ (c .before .before .loop .inv .0) in omega arith)
     (λ c. search needs)
     (λ c. search needs)
-    (λ c. let r = room _ (c .before .before .loop .inv .0) in let n = columns-inside _ (c .before .before .loop .inv .0) in (c .before .before .loop .inv .0, (omega arith, (c .before .before .loop .inv .1 .1 .0, (omega arith, copied-again noColumn _ _ _ _ _ (omega arith) (omega arith) (column-copied _ _ _ _ (c .before .before .loop .inv .0) (omega arith) (c .before .before .loop .inv .1 .1 .1 .0) (c .column-at .ensures)) (c .before .before .loop .inv .1 .1 .1 .1))))))
-    (λ c. columns-whole _ _ _ _ (c .before .loop .inv .0) (c .before .loop .inv .1 .1 .0) (omega arith) (omega arith) (c .before .loop .inv .1 .1 .1 .1)))
+    (λ c. let r = room _ (c .before .before .loop .inv .0) in let n = columns-inside _ (c .before .before .loop .inv .0) in
+        (c .before .before .loop .inv .0, (omega arith, (c .before .before .loop .inv .1 .1 .0,
+        (omega arith, copied-again noColumn _ _ _ _ _ (omega arith) (omega arith)
+        (column-copied _ _ _ _ (c .before .before .loop .inv .0) (omega arith) (c .before .before .loop .inv .1 .1 .1 .0) (c .column-at .ensures))
+        (c .before .before .loop .inv .1 .1 .1 .1))))))
+    (λ c. columns-whole _ _ _ _ (c .before .loop .inv .0) (c .before .loop .inv .1 .1 .0) (omega arith) (omega arith)
+        (c .before .loop .inv .1 .1 .1 .1)))

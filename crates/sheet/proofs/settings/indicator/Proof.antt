@@ -13,7 +13,8 @@ use Rattle.sheet.proofs.settings.indicator.Statement.{statement}
 use Rattle.sheet.proofs.settings.indicator.Tie as tie
 
 abbrev Inv-loop : tie.InvT-loop
-Inv-loop sheet count characters₀ i₀ characters i = Passes sheet × ((i ≤ count) × ((count ≡ byteAt sheet 5) × Copied (textAt sheet 5) (replicate 8 0) i characters))
+Inv-loop sheet count characters₀ i₀ characters i = Passes sheet × ((i ≤ count) ×
+    ((count ≡ byteAt sheet 5) × Copied (textAt sheet 5) (replicate 8 0) i characters))
 
 abbrev μ-loop : tie.MeasureT-loop
 μ-loop sheet count characters₀ i₀ characters i = count - i
@@ -32,5 +33,8 @@ indicator-spec =
     (λ c. let r = room _ (c .before .before .loop .inv .0) in omega arith)
     (λ c. search needs)
     (λ c. search needs)
-    (λ c. let r = room _ (c .before .before .loop .inv .0) in let n = text-inside _ (c .before .before .loop .inv .0) in (c .before .before .loop .inv .0, (omega arith, (c .before .before .loop .inv .1 .1 .0, copied-again 0 _ _ _ _ _ (omega arith) (omega arith) (sym (character-at _ 5 _ (omega arith))) (c .before .before .loop .inv .1 .1 .1)))))
-    (λ c. indicator-whole _ _ _ _ (c .before .loop .inv .0) (c .before .loop .inv .1 .1 .0) (omega arith) (omega arith) (c .before .loop .inv .1 .1 .1)))
+    (λ c. let r = room _ (c .before .before .loop .inv .0) in let n = text-inside _ (c .before .before .loop .inv .0) in
+        (c .before .before .loop .inv .0, (omega arith, (c .before .before .loop .inv .1 .1 .0, copied-again 0 _ _ _ _ _ (omega arith) (omega arith)
+        (sym (character-at _ 5 _ (omega arith))) (c .before .before .loop .inv .1 .1 .1)))))
+    (λ c. indicator-whole _ _ _ _ (c .before .loop .inv .0) (c .before .loop .inv .1 .1 .0) (omega arith) (omega arith)
+        (c .before .loop .inv .1 .1 .1)))

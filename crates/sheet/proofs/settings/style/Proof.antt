@@ -12,7 +12,8 @@ use Rattle.sheet.proofs.settings.style.Statement.{statement}
 use Rattle.sheet.proofs.settings.style.Tie as tie
 
 abbrev Inv-loop : tie.InvT-loop
-Inv-loop sheet first characters₀ i₀ characters i = Passes sheet × ((i ≤ 22) × ((first ≡ stylePlace sheet + 1) × Copied (textAt sheet (stylePlace sheet)) (replicate 22 0) i characters))
+Inv-loop sheet first characters₀ i₀ characters i = Passes sheet × ((i ≤ 22) ×
+    ((first ≡ stylePlace sheet + 1) × Copied (textAt sheet (stylePlace sheet)) (replicate 22 0) i characters))
 
 abbrev μ-loop : tie.MeasureT-loop
 μ-loop sheet first characters₀ i₀ characters i = 22 - i
@@ -31,5 +32,8 @@ style-spec =
     (λ c. search needs)
     (λ c. search needs)
     (λ c. search needs)
-    (λ c. let r = room _ (c .before .before .loop .inv .0) in let n = style-inside _ (c .before .before .loop .inv .0) in (c .before .before .loop .inv .0, (omega arith, (c .before .before .loop .inv .1 .1 .0, copied-again 0 _ _ _ _ _ (omega arith) (omega arith) (style-character _ _ _ (c .before .before .loop .inv .0) (c .before .before .loop .inv .1 .1 .0) (omega arith)) (c .before .before .loop .inv .1 .1 .1)))))
+    (λ c. let r = room _ (c .before .before .loop .inv .0) in let n = style-inside _ (c .before .before .loop .inv .0) in
+        (c .before .before .loop .inv .0, (omega arith, (c .before .before .loop .inv .1 .1 .0, copied-again 0 _ _ _ _ _ (omega arith) (omega arith)
+        (style-character _ _ _ (c .before .before .loop .inv .0) (c .before .before .loop .inv .1 .1 .0) (omega arith))
+        (c .before .before .loop .inv .1 .1 .1)))))
     (λ c. style-whole _ _ _ (c .before .loop .inv .0) (omega arith) (c .before .loop .inv .1 .1 .1)))

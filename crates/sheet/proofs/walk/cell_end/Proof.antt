@@ -26,8 +26,10 @@ cell-end-spec =
     (λ c κs. search needs)
     (λ c. let h = cell-onward (c .before .before .before .args .sheet .now) (c .before .before .before .args .at) in omega arith)
     (λ c. (cell-begin _ _ _ (c .size .ensures .0), c .before .before .before .pre))
-    (λ c κs. let h = passing-inside _ _ _ _ _ (lines-onward _) (c .loop-test .taken) (c .before .loop .inv .0) in omega (arith, c .before .loop .inv .1))
+    (λ c κs. let h = passing-inside _ _ _ _ _ (lines-onward _) (c .loop-test .taken) (c .before .loop .inv .0) in
+        omega (arith, c .before .loop .inv .1))
     (λ c. search needs)
     (λ c. search needs)
-    (λ c. (passing-again _ _ _ _ _ _ (c .before .loop-test .taken) (c .before .before .loop .inv .0) (c .line-end .ensures), c .before .before .loop .inv .1))
+    (λ c. let loop = c .before .before .loop in (passing-again _ _ _ _ _ _ (c .before .loop-test .taken) (loop .inv .0) (c .line-end .ensures),
+        loop .inv .1))
     (λ c. passing-done _ _ _ _ _ (c .loop-test .left) (c .before .loop .inv .0)))
