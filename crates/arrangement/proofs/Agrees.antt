@@ -3,7 +3,7 @@ use Prim.Native.Nat.{ℕ, zero, suc, _+_, _-_, _^_, _≤_, _<_}
 use mathlib.Core.Path.{_≡_, refl, sym, ap, _∙_}
 use mathlib.Core.Bool.{Bool, true, false, not}
 use mathlib.Core.List.{List, [], _∷_}
-use mathlib.Core.Option.{Option, none, some}
+use mathlib.Core.Option.{Option}
 use native.Mathlib.Nat.{not-suc-le-zero, le-of-suc-le-suc}
 use native.Mathlib.Omega.{arith}
 use lib.ListN.{length, getD, take, set, length-set, length-take}
@@ -11,7 +11,7 @@ use lib.Seq.{getD-set-same, getD-set-other, getD-take, take-set-lt}
 use lib.Dec.{eqb}
 use lib.Count.{ones}
 use borrow.Author.Tests.{eqb-true, eqb-false, eq-eqb, ne-eqb}
-use Rattle.rules.specs.Sheet.{Table, isHidden}
+use Rattle.rules.specs.Sheet.{Table, isHidden, mostColumns}
 use Rattle.rules.specs.Widths as doc
 use Rattle.rules.specs.Widths.{lifted, zeros, isUndecided, fix, fixAt, visit, passes, aboveAverage, averageIsSome, fittingAverage, splitAtAverage, longestPart}
 use Rattle.rules.proofs.Settled.{zeros-le, settled, settled-again, settled-last, settled-none, passes-settled}
@@ -20,7 +20,7 @@ use Rattle.constraint.specs.declared.Layout.{Layout}
 use Rattle.constraint.specs.declared.State.{State}
 use Rattle.constraint.specs.declared.Offer.{Offer}
 use Rattle.constraint.specs.declared.Offer.the-variants.{Keep, Take}
-use Rattle.constraint.specs.Widths.{choose, inOrder, column, average, bit, decided, fixed, taking, step, pass}
+use Rattle.constraint.specs.Widths.{choose, inOrder, column, average, bit, decided, fixed, taking, step, pass, setWidth}
 use Rattle.constraint.proofs.Bits.{add-lt, count-add, bit-same, bit-other}
 use Rattle.constraint.proofs.Laws.{open-bit}
 use Rattle.arrangement.specs.Arrange.{again, repeated, lowerRule, fitRule, fitPass, splitRule, step1, step2, step3}
@@ -31,8 +31,8 @@ use Rattle.arrangement.proofs.Offers.{offered, SameRule, lower-same, fi
 
 -- the same widths, none past the columns; what is decided is noted; what is undecided and what is in the set make up the visible columns
 pub record Agrees (l : Layout) (t : Table) (s : State) (u : doc.State) : Type 0 where
-  pub long : length (s .widths) ≡ 12
-  pub fits : s .decided < 2 ^ 16
+  pub long : length (s .widths) ≡ mostColumns
+  pub fits : s .decided < 2 ^ setWidth
   pub widths : take (l .count) (s .widths) ≡ u .widths
   pub past : (j : ℕ) → l .count ≤ j → getD (s .widths) j 0 ≡ 0
   pub noted : (j : ℕ) → j < l .count → decided l j s ≡ not (isUndecided u j)
@@ -93,7 +93,7 @@ module _ (l : Layout) (t : Table) (d : Describes l t) where
       fix-agrees =
           record {
             long = length-set (s .widths) i (lifted (w .0)) ∙ a .long;
-            fits = add-lt 16 (s .decided) i (omega (arith, d .few)) (a .fits) z;
+            fits = add-lt setWidth (s .decided) i (omega (arith, d .few)) (a .fits) z;
             widths = take-set-lt (l .count) (s .widths) i (lifted (w .0)) h ∙ ap (λ (ws : List ℕ). set ws i (lifted (w .0))) (a .widths);
             past = λ j k. getD-set-other (s .widths) i j (lifted (w .0)) 0 (λ e. omega arith) ∙ a .past j k;
             noted = λ j k. by-place (λ (x : ℕ). x < l .count → decided l x (fixed s i w) ≡ not (isUndecided (fix i (w .0) u) x)) j i (λ q. now-noted) (λ n q. still-noted j q n) k;
@@ -165,7 +165,7 @@ module _ (l : Layout) (t : Table) (d : Describes l t) where
     pub repeated-agrees : (s : State) (u : doc.State) → Agrees l t s u → Agrees l t (repeated f s) (passes begins r (length (t .columns)) (suc (length (t .columns))) u)
     repeated-agrees s u a =
         let n = length-as s u a in
-        rw (← d .count, passes-settled begins r (l .count) u n) (again-agrees 17 s u (omega (arith, zeros-le (u .widths), d .few)) a)
+        rw (← d .count, passes-settled begins r (l .count) u n) (again-agrees (suc setWidth) s u (omega (arith, zeros-le (u .widths), d .few)) a)
 
   -- steps 1 to 3
   pub step1-agrees : (s : State) (u : doc.State) → Agrees l t s u → Agrees l t (step1 l s) (doc.step1 t u)

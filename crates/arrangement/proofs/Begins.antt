@@ -12,7 +12,7 @@ use lib.Dec.{eqb}
 use lib.Count.{ones, onesIn}
 use borrow.Author.Tests.{eqb-true, ne-eqb}
 use Rattle.rules.specs.Text.{upFrom, keep, sum}
-use Rattle.rules.specs.Sheet.{Table, columnAt, padding, isHidden}
+use Rattle.rules.specs.Sheet.{Table, columnAt, padding, isHidden, mostColumns}
 use Rattle.rules.specs.Widths as doc
 use Rattle.rules.specs.Widths.{lifted, zeros, evaluate, noted, taken}
 use Rattle.rules.proofs.Lists.{getD-map, getD-upFrom, length-upFrom, upFrom-last, map-append, keep-yes, keep-no}
@@ -21,7 +21,7 @@ use Rattle.constraint.specs.declared.Layout.{Layout}
 use Rattle.constraint.specs.declared.State.{State}
 use Rattle.constraint.specs.declared.Offer.{Offer}
 use Rattle.constraint.specs.declared.Offer.the-variants.{Keep, Take}
-use Rattle.constraint.specs.Widths.{choose, inOrder, column, longest, borders, bit, decided, fixed, taking, step, first, hide, evaluated, visible}
+use Rattle.constraint.specs.Widths.{choose, inOrder, column, longest, borders, bit, decided, fixed, taking, step, first, hide, evaluated, visible, setWidth}
 use Rattle.constraint.proofs.Bits.{add-lt, count-add, bit-same, bit-other, zero-bit}
 use Rattle.arrangement.specs.Arrange.{begun, started, charged, remaining, targeted}
 use Rattle.arrangement.specs.Describes.{Describes}
@@ -83,8 +83,8 @@ taken-shown t j e = rw (e, taken)
 module _ (l : Layout) (t : Table) (d : Describes l t) where
   -- i columns have had their first step
   record Begun (i : ℕ) (s : State) : Type 0 where
-    long : length (s .widths) ≡ 12
-    fits : s .decided < 2 ^ 16
+    long : length (s .widths) ≡ mostColumns
+    fits : s .decided < 2 ^ setWidth
     seen : s .visible ≡ length (doc.visible t)
     unspent : s .remaining ≡ 0
     done : (j : ℕ) → j < i → getD (s .widths) j 0 ≡ doc.first t j
@@ -156,7 +156,7 @@ module _ (l : Layout) (t : Table) (d : Describes l t) where
         let z : bit (s .decided) i ≡ 0 = b .out i (omega arith) in
         record {
           long = length-set (s .widths) i _ ∙ b .long;
-          fits = add-lt 16 (s .decided) i (omega (arith, d .few)) (b .fits) z;
+          fits = add-lt setWidth (s .decided) i (omega (arith, d .few)) (b .fits) z;
           seen = b .seen;
           unspent = omega (arith, b .unspent);
           done = set-done (lifted (w .0)) (sym v);
@@ -187,7 +187,7 @@ module _ (l : Layout) (t : Table) (d : Describes l t) where
         seen = visible-as l t d;
         unspent = refl;
         done = λ j k. absurd (not-suc-le-zero k);
-        todo = λ j k. no-width 12 j;
+        todo = λ j k. no-width mostColumns j;
         known = λ j k. absurd (not-suc-le-zero k);
         out = λ j k. zero-bit j;
         counted = refl;

@@ -11,7 +11,7 @@ use lib.Seq.{set-getD, take-suc, take-all}
 use lib.Dec.{eqb, ltb}
 use borrow.Author.Tests.{eqb-true, eqb-false, lt-ltb, le-ltb}
 use Rattle.rules.specs.Text.{upFrom, keep, oneIf, orElse, All}
-use Rattle.rules.specs.Sheet.{Table, columnAt, isHidden}
+use Rattle.rules.specs.Sheet.{Table, columnAt, isHidden, mostColumns}
 use Rattle.rules.specs.Widths as doc
 use Rattle.rules.specs.Widths.{lifted, contentOf, zeros, isUndecided, fix, fixAt, visit, shared}
 use Rattle.rules.proofs.Lists.{map-below, below-upFrom, all-keep, all-imp, keep-append, keep-yes, keep-no}
@@ -33,7 +33,7 @@ use Rattle.arrangement.proofs.Placed.{placed, length-placed, placed-abo
 
 -- the widths of the columns are cs, and none stands past them
 pub record Widths (l : Layout) (cs : List ℕ) (s : State) : Type 0 where
-  pub long : length (s .widths) ≡ 12
+  pub long : length (s .widths) ≡ mostColumns
   pub widths : take (l .count) (s .widths) ≡ cs
   pub past : (j : ℕ) → l .count ≤ j → getD (s .widths) j 0 ≡ 0
 

@@ -39,7 +39,7 @@ style-at S a b c d e f h i j k m n = rw (h, i, j, k, m, n)
 
 module _ (t : Table) (limits : TableLimits t) (x : Columns) (columns : x ≡ columnsOf t) where
   -- no more columns than there can be
-  pub count-fits : x .count ≤ 12
+  pub count-fits : x .count ≤ mostColumns
   unfolding columnsOf
   count-fits = omega (arith, ap (λ (y : Columns). y .count) columns, limits .columns)
 

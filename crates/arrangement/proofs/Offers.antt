@@ -15,7 +15,7 @@ use Rattle.rules.specs.Style.{anyLeft, anyRight, anyJunction, bordersOf}
 use Rattle.rules.specs.Widths as doc
 use Rattle.rules.specs.Widths.{contentOf, percentOf, widthOf, valueOf, lowerWidth, upperWidth, absoluteWidth, covering, evaluate, aboveAverage, withinAverage, fittingAverage, shorterBy3, splitAtAverage, longestPart}
 use Rattle.rules.proofs.Lists.{keep-yes, keep-no}
-use Rattle.style.specs.Choice.{content}
+use Rattle.style.specs.Column.{content}
 use Rattle.style.specs.declared.column.ContentWidth.{ContentWidth}
 use Rattle.constraint.specs.declared.Layout.{Layout}
 use Rattle.constraint.specs.declared.State.{State}

@@ -12,7 +12,7 @@ use Rattle.constraint.specs.Widths.{choose, inOrder, column, decided, fixed, vi
 use Rattle.constraint.proofs.Cases.{if-true, if-false, if-eq, if-ne, if-lt, if-ge}
 use Rattle.arrangement.specs.declared.dynamic.Sharing.{Sharing}
 use Rattle.arrangement.specs.Arrange.{remaining, targeted, share, sharing, undecided, distributed, widened, widening, filled, finished, untargeted, begun, started, dynamic, arranged}
-use Rattle.rules.specs.Sheet.{isHidden}
+use Rattle.rules.specs.Sheet.{isHidden, mostColumns}
 
 pub share-more : (n parts k : ℕ) → 0 < parts → k < n % parts → n / parts + 1 ≤ n
 share-more n parts k h l = omega (arith, div-add-mod' n parts, mul-le-mul-left (n / parts) h)
@@ -99,8 +99,8 @@ module _ (t : Layout) (s : State) where
     unfolding finished
     finished-shared u h q = if-ne (undecided s) 0 _ _ u (λ e. h (z ∙ e)) q
 
-pub begun-at : (t : Layout) (v : ℕ) → v ≡ visible t → _≡_ {A = State} (record { widths = replicate 12 0; decided = 0; remaining = 0; visible = v }) (begun t)
-begun-at t v e = ap (λ (k : ℕ). record { widths = replicate 12 0; decided = 0; remaining = 0; visible = k }) e
+pub begun-at : (t : Layout) (v : ℕ) → v ≡ visible t → _≡_ {A = State} (record { widths = replicate mostColumns 0; decided = 0; remaining = 0; visible = v }) (begun t)
+begun-at t v e = ap (λ (k : ℕ). record { widths = replicate mostColumns 0; decided = 0; remaining = 0; visible = k }) e
 
 module _ (parts : ℕ → ℕ → ℕ) (t : Layout) (s u : State) (e : s ≡ started t) where
   pub arranged-untargeted : t .target ≡ 0 → u ≡ pass untargeted t s → u ≡ arranged parts t

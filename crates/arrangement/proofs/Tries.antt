@@ -1,5 +1,5 @@
 -- What is found so far and what is still to come make the whole: one law for each way out of the walk's functions. Assumes nothing.
-use Prim.Native.Nat.{ℕ, zero, suc, _+_, _-_, _≤_, _<_, max}
+use Prim.Native.Nat.{ℕ, _+_, _-_, _≤_, _<_, max}
 use mathlib.Core.Path.{_≡_, refl, sym, ap, _∙_}
 use mathlib.Core.List.{List, [], _∷_}
 use mathlib.Core.Bool.{Bool, true, false}
@@ -31,14 +31,6 @@ use Rattle.arrangement.specs.declared.after_split.Tried.{Tried}
 use Rattle.arrangement.specs.Arrange.{spared}
 use Rattle.arrangement.specs.Trial.{ofLine, ofLines, ofCells, ofRows, otherwise, Skipped, RowTried, Enough, RowsTried}
 use Rattle.arrangement.proofs.Trials.{lines-cons, lines-nil, cells-there, cells-short, rows-le, rows-append, longest-part}
-
--- a delimiter that is set, or none
-pub or-else-none : (a b : ℕ) → a ≡ 0 → b ≡ orElse a b
-or-else-none a b e = rw e
-
-pub or-else-some : (a b : ℕ) → (a ≡ 0 → ⊥) → a ≡ orElse a b
-or-else-some zero b n = absurd (n refl)
-or-else-some (suc a) b n = refl
 
 -- a list of as many as are left
 nothing : {A : Type 0} (l : List A) → length l ≤ 0 → l ≡ []

@@ -18,7 +18,7 @@ use Rattle.constraint.specs.Widths.{column, longest, lower, upper, average, bit
 use Rattle.constraint.proofs.Cases.{if-true, if-false, if-eq, if-ne, if-le, if-gt, if-lt, if-ge}
 use Rattle.arrangement.specs.Arrange.{trimmed, untargeted, charged, raised, lowerRule, short, fitting, fitRule, spared, splitRule, fitPass}
 use Rattle.rules.specs.Sheet.{padding, isHidden}
-use Rattle.style.specs.Choice.{content}
+use Rattle.style.specs.Column.{content}
 
 pub untargeted-rule : (t : Layout) (i : ℕ) (s : State) (b : Bound) (n : ContentWidth) → b ≡ upper t (s .visible) (column t i) → n ≡ trimmed (column t i) (longest t i) b → Take n ≡ untargeted t i s
 unfolding untargeted

@@ -12,19 +12,19 @@ use Rattle.constraint.specs.declared.Bound.{Bound}
 use Rattle.constraint.specs.declared.Bound.the-variants.{Unset, At}
 use Rattle.constraint.specs.declared.Offer.{Offer}
 use Rattle.constraint.specs.declared.Offer.the-variants.{Keep, Take}
-use Rattle.constraint.specs.Widths.{choose, inOrder, column, longest, visible, borders, lower, upper, average, bit, decided, fixed, pass, evaluated}
+use Rattle.constraint.specs.Widths.{choose, inOrder, column, longest, visible, borders, lower, upper, average, setWidth, bit, decided, fixed, pass, evaluated}
 use Rattle.arrangement.specs.declared.dynamic.Sharing.{Sharing}
-use Rattle.rules.specs.Sheet.{padding, isHidden}
-use Rattle.style.specs.Choice.{content}
+use Rattle.rules.specs.Sheet.{mostColumns, padding, isHidden}
+use Rattle.style.specs.Column.{content}
 
 -- a pass that fixed a column is repeated
 unfoldable pub again : ℕ → (State → State) → State → State
 again zero f s = s
 again (suc fuel) f s = elim (eqb (f s .decided) (s .decided)) [ true ↦ f s | false ↦ again fuel f (f s) ]
 
--- each pass but the last fixes a column, and there are at most 16
+-- each pass but the last fixes a column, and there are at most as many as the set can hold
 abbrev pub repeated : (State → State) → State → State
-repeated f s = again 17 f s
+repeated f s = again (suc setWidth) f s
 
 -- No target, or `Disabled`: the longest; if an upper bound is below the longest, the bound made content
 abbrev pub trimmed : Column → ContentWidth → Bound → ContentWidth
@@ -129,7 +129,7 @@ abbrev pub dynamic : (ℕ → ℕ → ℕ) → Layout → State → State
 dynamic parts t s = finished t (step3 parts t (step2 t (step1 t (targeted t s))))
 
 abbrev pub begun : Layout → State
-begun t = record { widths = replicate 12 0; decided = 0; remaining = 0; visible = visible t }
+begun t = record { widths = replicate mostColumns 0; decided = 0; remaining = 0; visible = visible t }
 
 -- the first step, for each column
 abbrev pub started : Layout → State

@@ -1,14 +1,13 @@
 // What a column would need after a split: `longest_line_after_split` of comfy-table's `arrangement/dynamic.rs`, a function for each of
 // its loops. No text is copied: each line is the part of the sheet that holds it.
 ghost use mathlib.Core.Path.{_≡_};
-ghost use Prim.Native.Nat.{_+_, _≤_, _<_, max};
+ghost use Prim.Native.Nat.{_+_, _≤_};
 ghost use lib.Dec.{ltb};
 ghost use lib.ListN.{length};
-ghost use Rattle.rules.specs.Text.{orElse};
 ghost use Rattle.rules.specs.Sheet.{columnAt};
-ghost use Rattle.rules.specs.Widths.{lifted, longestPart};
+ghost use Rattle.rules.specs.Widths.{longestPart};
 ghost use Rattle.sheet.specs.Held.{Passes, tableOf};
-ghost use Rattle.sheet.specs.Walk.{rowsIn, cellsIn, linesIn, rowsEnd, cellsEnd, linesEnd};
+ghost use Rattle.sheet.specs.Walk.{linesIn, rowsEnd, cellsEnd, linesEnd};
 ghost use Rattle.arrangement.specs.Arrange.{spared};
 ghost use Rattle.arrangement.specs.Trial.{ofLine, ofLines, Enough, RowTried, RowsTried, Skipped};
 use rules::Column;
@@ -24,25 +23,6 @@ pub struct Tried {
     pub end: usize,
 }
 
-fn greater(a: usize, b: usize) -> usize
-    ensures { λ r. ⌜ r ≡ max a b ⌝ }
-{
-    if a < b {
-        return b;
-    }
-    a
-}
-
-// A delimiter, or the one that stands in for it.
-fn or_else(a: u8, b: u8) -> u8
-    ensures { λ r. ⌜ r ≡ orElse a b ⌝ }
-{
-    if a == 0 {
-        return b;
-    }
-    a
-}
-
 // A line that is no longer than the average isn't split; at an average of 0 the others are split at 1.
 fn of_line(line: &[u8], average: usize, delimiter: u8) -> usize
     ensures { λ r. ⌜ r ≡ ofLine average delimiter (now (line .entry)) ⌝ }
@@ -51,7 +31,7 @@ fn of_line(line: &[u8], average: usize, delimiter: u8) -> usize
     if n <= average {
         return n;
     }
-    let width = greater(1, average);
+    let width = numbers::greater(1, average);
     content_split::longest_part(line, width, delimiter)
 }
 
@@ -77,7 +57,7 @@ fn of_lines(sheet: &[u8], lines: Lines, average: usize, delimiter: u8) -> usize
             return longest;
         }
         let line = walk::line(sheet, c);
-        longest = greater(longest, of_line(line, average, delimiter));
+        longest = numbers::greater(longest, of_line(line, average, delimiter));
         c = walk::next_line(sheet, c);
     }
     longest
@@ -114,7 +94,12 @@ fn of_row(sheet: &[u8], cells: Cells, column: usize, average: usize, otherwise: 
     }
     let cell = walk::cell(sheet, c);
     let lines = cell.lines;
-    let longest = of_lines(sheet, lines, average, or_else(cell.delimiter, otherwise));
+    let longest = of_lines(
+        sheet,
+        lines,
+        average,
+        numbers::or_else(cell.delimiter, otherwise),
+    );
     if saves_too_little(average, longest) {
         return Tried { longest, end: c.at };
     }
@@ -136,7 +121,7 @@ fn of_rows(sheet: &[u8], rows: Rows, column: usize, average: usize, otherwise: u
         let row = walk::row(sheet, c);
         let cells = row.cells;
         let found = of_row(sheet, cells, column, average, otherwise);
-        longest = greater(longest, found.longest);
+        longest = numbers::greater(longest, found.longest);
         if saves_too_little(average, longest) {
             return Tried {
                 longest,
@@ -157,7 +142,7 @@ pub fn longest_line_after_split(sheet: &[u8], c: Column, column: usize, average:
     ensures { λ r. ⌜ spared average (record { 0 = r }) ≡ spared average (record { 0 = longestPart (tableOf (now (sheet .entry))) column average }) ⌝ }
 {
     let table = settings::settings(sheet);
-    let otherwise = or_else(c.delimiter, or_else(table.delimiter, b' '));
+    let otherwise = numbers::or_else(c.delimiter, numbers::or_else(table.delimiter, b' '));
     let a = average as usize;
     let header = walk::header(sheet);
     let first = of_rows(sheet, header, column, a, otherwise);
@@ -170,5 +155,5 @@ pub fn longest_line_after_split(sheet: &[u8], c: Column, column: usize, average:
     };
     let rows = walk::rows(sheet, behind);
     let others = of_rows(sheet, rows, column, a, otherwise);
-    greater(first.longest, others.longest) as u16
+    numbers::greater(first.longest, others.longest) as u16
 }

@@ -21,7 +21,7 @@ use Rattle.constraint.specs.Widths.{choose, column, longest, visible, bo
 use Rattle.constraint.proofs.Cases.{if-true, if-eq, if-ne, if-le, if-gt}
 use Rattle.rules.specs.Sheet.{padding, isHidden}
 use Rattle.rules.specs.Widths.{lifted}
-use Rattle.style.specs.Choice.{content}
+use Rattle.style.specs.Column.{content}
 
 pub between-set : (b : Bool) (v r : ℕ) → b ≡ true → r ≡ v - 1 → v < 65536 → (r ≡ choose b (v - 1) 0) × (r < 65536)
 between-set b v r e q h = (rw e q, omega arith)

@@ -1,21 +1,17 @@
 -- Laws of the definitions: content, percent, the loop over columns. Assumes nothing.
-use Prim.Native.Nat.{ℕ, _+_, _-_, _*_, _/_, _≤_, _<_, min, max}
+use Prim.Native.Nat.{ℕ, _+_, _-_, _*_, _/_, _≤_, _<_, min}
 use mathlib.Core.Path.{_≡_, refl, sym, ap, _∙_}
 use mathlib.Core.Bool.{Bool, true, false}
 use native.Mathlib.Omega.{arith}
 use native.Mathlib.Numerals.{add-one}
 use native.Mathlib.Nat.{mul-le-mul-left}
-use Rattle.rules.specs.declared.Column.{Column}
-use Rattle.style.specs.declared.column.ContentWidth.{ContentWidth}
-use Rattle.style.specs.declared.column.ConstraintWidth.{ConstraintWidth}
 use lib.Dec.{eqb}
 use Rattle.constraint.specs.declared.Layout.{Layout}
 use Rattle.constraint.specs.declared.State.{State}
 use Rattle.constraint.specs.declared.Offer.{Offer}
 use Rattle.constraint.specs.Widths.{choose, column, decided, bit, inOrder, percent, step, taking}
 use Rattle.constraint.proofs.Bits.{bit-zero}
-use Rattle.rules.specs.Sheet.{padding, isHidden}
-use Rattle.style.specs.Choice.{content}
+use Rattle.rules.specs.Sheet.{isHidden}
 
 module _ {A : Type 0} (f : ℕ → A → A) (x₀ : A) where
   pub order-begin : x₀ ≡ inOrder f 0 x₀

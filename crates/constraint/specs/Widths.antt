@@ -1,20 +1,17 @@
 -- Widths: padding, borders, percent, bounds, the average, and fixing a column. Assumes nothing.
-use Prim.Native.Nat.{ℕ, zero, suc, _+_, _-_, _*_, _/_, _%_, _^_, _≤_, _<_, min, max}
-use mathlib.Core.Path.{_≡_}
+use Prim.Native.Nat.{ℕ, zero, suc, _+_, _-_, _*_, _/_, _%_, _^_, min}
 use mathlib.Core.Bool.{Bool, true, false}
-use mathlib.Core.List.{List}
 use lib.ListN.{getD, set}
-use lib.Dec.{eqb, leb, ltb}
+use lib.Dec.{eqb, leb}
 use lib.Count.{ones}
 use Rattle.rules.specs.declared.Width.{Width}
 use Rattle.rules.specs.declared.Column.{Column}
 use Rattle.rules.specs.Sheet.{noColumn, padding, isHidden}
 use Rattle.rules.specs.Widths.{lifted}
-use Rattle.style.specs.Choice.{content}
+use Rattle.style.specs.Column.{content}
 use Rattle.constraint.specs.declared.Layout.{Layout}
 use Rattle.constraint.specs.declared.State.{State}
 use Rattle.style.specs.declared.column.ContentWidth.{ContentWidth}
-use Rattle.style.specs.declared.column.ConstraintWidth.{ConstraintWidth}
 use Rattle.constraint.specs.declared.Bound.{Bound}
 use Rattle.constraint.specs.declared.Bound.the-variants.{Unset, At}
 use Rattle.constraint.specs.declared.Offer.{Offer}
@@ -74,6 +71,10 @@ upper t v c =
 -- what is left for each undecided column; 0 if there is none
 abbrev pub average : State → ℕ
 average s = s .remaining / (s .visible - ones (s .decided))
+
+-- the set of decided visible columns is a 16-bit number, which has a bit for each column
+abbrev pub setWidth : ℕ
+setWidth = 16
 
 abbrev pub bit : ℕ → ℕ → ℕ
 bit s i = s / 2 ^ i % 2

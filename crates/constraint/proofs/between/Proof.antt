@@ -11,5 +11,5 @@ between-spec =
     (tie.spec
     (λ c κs. search needs)
     (λ c. search needs)
-    (λ c. between-set _ (c .before .before .args .v) _ (c .before .if1 .taken) (c .minus .ensures) (omega arith))
+    (λ c. between-set _ (c .before .before .args .v) _ (c .before .if1 .taken) (c .minus-u16 .ensures) (omega arith))
     (λ c. search needs))

@@ -7,10 +7,10 @@ use Rattle.constraint.specs.Widths.{inOrder, column, counting, visible}
 use Rattle.constraint.proofs.Laws.{order-begin, order-again, order-done}
 use Rattle.constraint.proofs.count_visible_columns.Statement.{statement}
 use Rattle.constraint.proofs.count_visible_columns.Tie as tie
-use Rattle.rules.specs.Sheet.{isHidden}
+use Rattle.rules.specs.Sheet.{isHidden, mostColumns}
 
 abbrev Inv-loop : tie.InvT-loop
-Inv-loop t n v₀ i₀ v i = (i ≤ n) × (n ≤ 12) × (v ≤ i) × (v ≡ inOrder (counting t) i 0)
+Inv-loop t n v₀ i₀ v i = (i ≤ n) × (n ≤ mostColumns) × (v ≤ i) × (v ≡ inOrder (counting t) i 0)
 
 abbrev μ-loop : tie.MeasureT-loop
 μ-loop t n v₀ i₀ v i = n - i

@@ -25,14 +25,14 @@ distribute-remaining-space-spec =
     (λ c κs. search needs)
     (λ c κs. search needs)
     (λ c. let a = c .before .before .before .args in
-    (omega arith, refl, omega arith, order-begin (sharing (a .t) (c .greater .result) (c .before .undecided-columns .result)) (record { state = a .s; given = 0 })))
+    (omega arith, refl, omega arith, order-begin (sharing (a .t) (c .greater-u16 .result) (c .before .undecided-columns .result)) (record { state = a .s; given = 0 })))
     (λ c κs. (omega arith, omega (arith, c .before .before .before .undecided-columns .ensures), omega arith))
     (λ c. omega arith)
     (λ c. omega arith)
     (λ c. let l = c .before .before in
     let g = l .before in
     let a = g .before .before .before .args in
-    let n = g .greater .result in
+    let n = g .greater-u16 .result in
     let k = g .before .undecided-columns .result in (
       omega arith,
       l .loop .inv .1,
@@ -42,7 +42,7 @@ distribute-remaining-space-spec =
     (λ c. let l = c .before .before in
     let g = l .before in
     let a = g .before .before .before .args in
-    let n = g .greater .result in
+    let n = g .greater-u16 .result in
     let k = g .before .undecided-columns .result in
-    distributed-at (a .t) (a .s) k n (l .loop .x) (g .before .undecided-columns .ensures) (g .greater .ensures)
+    distributed-at (a .t) (a .s) k n (l .loop .x) (g .before .undecided-columns .ensures) (g .greater-u16 .ensures)
     (order-done (sharing (a .t) n k) (record { state = a .s; given = 0 }) (l .loop .i) (a .t .count) (l .loop .x) (omega arith) (l .loop .inv .3))))
