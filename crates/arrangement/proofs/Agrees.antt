@@ -3,7 +3,7 @@ use Prim.Native.Nat.{ℕ, zero, suc, _+_, _-_, _^_, _≤_, _<_}
 use mathlib.Core.Path.{_≡_, refl, sym, ap, _∙_}
 use mathlib.Core.Bool.{Bool, true, false, not}
 use mathlib.Core.List.{List, [], _∷_}
-use mathlib.Core.Option.{Option}
+use mathlib.Core.Option.{Option, none, some}
 use native.Mathlib.Nat.{not-suc-le-zero, le-of-suc-le-suc}
 use native.Mathlib.Omega.{arith}
 use lib.ListN.{length, getD, take, set, length-set, length-take}
@@ -15,19 +15,16 @@ use Rattle.rules.specs.Sheet.{Table, isHidden, mostColumns}
 use Rattle.rules.specs.Widths as doc
 use Rattle.rules.specs.Widths.{lifted, zeros, isUndecided, fix, fixAt, visit, passes, aboveAverage, averageIsSome, fittingAverage, splitAtAverage, longestPart}
 use Rattle.rules.proofs.Settled.{zeros-le, settled, settled-again, settled-last, settled-none, passes-settled}
-use Rattle.style.specs.declared.column.ContentWidth.{ContentWidth}
 use Rattle.constraint.specs.declared.Layout.{Layout}
 use Rattle.constraint.specs.declared.State.{State}
-use Rattle.constraint.specs.declared.Offer.{Offer}
-use Rattle.constraint.specs.declared.Offer.the-variants.{Keep, Take}
-use Rattle.constraint.specs.Widths.{choose, inOrder, column, average, bit, decided, fixed, taking, step, pass, setWidth}
+use Rattle.constraint.specs.Widths.{choose, inOrder, column, average, bit, decided, fixed, taking, Rule, step, pass, setWidth}
 use Rattle.constraint.proofs.Bits.{add-lt, count-add, bit-same, bit-other}
 use Rattle.constraint.proofs.Laws.{open-bit}
 use Rattle.arrangement.specs.Arrange.{again, repeated, lowerRule, fitRule, fitPass, splitRule, step1, step2, step3}
 use Rattle.arrangement.specs.Describes.{Describes}
 use Rattle.arrangement.proofs.Rounds.{pass-grew, again-stop, again-go}
 use Rattle.arrangement.proofs.Cases.{by-place, unlike, not-true}
-use Rattle.arrangement.proofs.Offers.{offered, SameRule, lower-same, fit-same, split-same}
+use Rattle.arrangement.proofs.Offers.{SameRule, lower-same, fit-same, split-same}
 
 -- the same widths, none past the columns; what is decided is noted; what is undecided and what is in the set make up the visible columns
 pub record Agrees (l : Layout) (t : Table) (s : State) (u : doc.State) : Type 0 where
@@ -69,63 +66,64 @@ module _ (l : Layout) (t : Table) (d : Describes l t) where
     pub width-as : (j : ℕ) → j < l .count → getD (s .widths) j 0 ≡ getD (u .widths) j 0
     width-as j h = sym (getD-take (l .count) (s .widths) j 0 h) ∙ ap (λ (ws : List ℕ). getD ws j 0) (a .widths)
 
-    module _ (i : ℕ) (w : ContentWidth) (h : i < l .count) (o : decided l i s ≡ false) where
+    module _ (i w : ℕ) (h : i < l .count) (o : decided l i s ≡ false) where
       z : bit (s .decided) i ≡ 0
       z = open-bit l i s o
 
       was : getD (u .widths) i 0 ≡ 0
       was = eqb-true (getD (u .widths) i 0) 0 (not-true (isUndecided u i) (sym o ∙ a .noted i h))
 
-      now-noted : decided l i (fixed s i w) ≡ not (isUndecided (fix i (w .0) u) i)
+      now-noted : decided l i (fixed s i w) ≡ not (isUndecided (fix i w u) i)
       unfolding fix
       now-noted =
           let k = length-as in
-          let n : eqb (lifted (w .0)) 0 ≡ false = ne-eqb (lifted (w .0)) 0 (omega arith) in
-          rw (undecided-shown l i s o, bit-same i (s .decided) z, getD-set-same (u .widths) i (lifted (w .0)) 0 (omega arith), n)
+          let n : eqb (lifted w) 0 ≡ false = ne-eqb (lifted w) 0 (omega arith) in
+          rw (undecided-shown l i s o, bit-same i (s .decided) z, getD-set-same (u .widths) i (lifted w) 0 (omega arith), n)
 
-      still-noted : (j : ℕ) → j < l .count → (j ≡ i → ⊥) → decided l j (fixed s i w) ≡ not (isUndecided (fix i (w .0) u) j)
+      still-noted : (j : ℕ) → j < l .count → (j ≡ i → ⊥) → decided l j (fixed s i w) ≡ not (isUndecided (fix i w u) j)
       unfolding fix
-      still-noted j k n = rw (bit-other i j (s .decided) z n, getD-set-other (u .widths) i j (lifted (w .0)) 0 n) (a .noted j k)
+      still-noted j k n = rw (bit-other i j (s .decided) z n, getD-set-other (u .widths) i j (lifted w) 0 n) (a .noted j k)
 
       -- a column is fixed
-      pub fix-agrees : Agrees l t (fixed s i w) (fix i (w .0) u)
+      pub fix-agrees : Agrees l t (fixed s i w) (fix i w u)
       unfolding fix
       fix-agrees =
           record {
-            long = length-set (s .widths) i (lifted (w .0)) ∙ a .long;
+            long = length-set (s .widths) i (lifted w) ∙ a .long;
             fits = add-lt setWidth (s .decided) i (omega (arith, d .few)) (a .fits) z;
-            widths = take-set-lt (l .count) (s .widths) i (lifted (w .0)) h ∙ ap (λ (ws : List ℕ). set ws i (lifted (w .0))) (a .widths);
-            past = λ j k. getD-set-other (s .widths) i j (lifted (w .0)) 0 (λ e. omega arith) ∙ a .past j k;
-            noted = λ j k. by-place (λ (x : ℕ). x < l .count → decided l x (fixed s i w) ≡ not (isUndecided (fix i (w .0) u) x)) j i (λ q. now-noted) (λ n q. still-noted j q n) k;
+            widths = take-set-lt (l .count) (s .widths) i (lifted w) h ∙ ap (λ (ws : List ℕ). set ws i (lifted w)) (a .widths);
+            past = λ j k. getD-set-other (s .widths) i j (lifted w) 0 (λ e. omega arith) ∙ a .past j k;
+            noted = λ j k. by-place (λ (x : ℕ). x < l .count → decided l x (fixed s i w) ≡ not (isUndecided (fix i w u) x)) j i (λ q. now-noted) (λ n q. still-noted j q n) k;
             seen = a .seen;
-            counted = omega (arith, a .counted, count-add i (s .decided) z, zeros-set (u .widths) i (lifted (w .0)) (omega (arith, length-as)) was (omega arith));
-            remaining = ap (λ (n : ℕ). n - w .0) (a .remaining);
+            counted = omega (arith, a .counted, count-add i (s .decided) z, zeros-set (u .widths) i (lifted w) (omega (arith, length-as)) was (omega arith));
+            remaining = ap (λ (n : ℕ). n - w) (a .remaining);
           }
 
-    visit-go : (i : ℕ) → i < l .count → (b c : Bool) (o : Offer) (p : Option ℕ) → decided l i s ≡ b → b ≡ not c → offered o ≡ p
-        → Agrees l t (choose b s (taking s i o)) (elim c as (λ x. doc.State) [ true ↦ fixAt i p u | false ↦ u ])
+    visit-go : (i : ℕ) → i < l .count → (b c : Bool) (o : Option ℕ) → decided l i s ≡ b → b ≡ not c
+        → Agrees l t (choose b s (taking s i o)) (elim c as (λ x. doc.State) [ true ↦ fixAt i o u | false ↦ u ])
     unfolding fixAt
-    visit-go i h true true o p e n q = absurd (unlike true refl n)
-    visit-go i h true false o p e n q = a
-    visit-go i h false true Keep p e n q = rw (← q) a
-    visit-go i h false true (Take w) p e n q = rw (← q) (fix-agrees i w h e)
-    visit-go i h false false o p e n q = absurd (unlike true refl (sym n))
+    visit-go i h true true o e n = absurd (unlike true refl n)
+    visit-go i h true false o e n = a
+    visit-go i h false true none e n = a
+    visit-go i h false true (some w) e n = fix-agrees i w h e
+    visit-go i h false false o e n = absurd (unlike true refl (sym n))
 
   -- an undecided column is visited by the same rule
-  pub visit-agrees : (rule : Layout → ℕ → State → Offer) (r : doc.Rule) → SameRule l t d rule r → (i : ℕ) → i < l .count → (s : State) (u : doc.State) → Agrees l t s u → Agrees l t (step rule l i s) (visit r i u)
+  pub visit-agrees : (rule : Rule) (r : doc.Rule) → SameRule l t d rule r → (i : ℕ) → i < l .count → (s : State) (u : doc.State) → Agrees l t s u → Agrees l t (step rule l i s) (visit r i u)
   unfolding step visit
   visit-agrees rule r same i h s u a =
-      visit-go s u a i h (decided l i s) (isUndecided u i) (rule l i s) (r i (doc.average u)) refl (a .noted i h) (same i s h (a .seen) ∙ ap (r i) (average-as s u a))
+      let e : rule l i s ≡ r i (doc.average u) = same i s h (a .seen) ∙ ap (r i) (average-as s u a) in
+      rw e (visit-go s u a i h (decided l i s) (isUndecided u i) (r i (doc.average u)) refl (a .noted i h))
 
-  pass-below : (rule : Layout → ℕ → State → Offer) (r : doc.Rule) → SameRule l t d rule r → (s : State) (u : doc.State) → Agrees l t s u → (n : ℕ) → n ≤ l .count → Agrees l t (inOrder (step rule l) n s) (doc.pass r n u)
+  pass-below : (rule : Rule) (r : doc.Rule) → SameRule l t d rule r → (s : State) (u : doc.State) → Agrees l t s u → (n : ℕ) → n ≤ l .count → Agrees l t (inOrder (step rule l) n s) (doc.pass r n u)
   unfolding inOrder doc.pass
   pass-below rule r same s u a zero h = a
   pass-below rule r same s u a (suc n) h = visit-agrees rule r same n h (inOrder (step rule l) n s) (doc.pass r n u) (pass-below rule r same s u a n (omega arith))
 
-  pub pass-agrees : (rule : Layout → ℕ → State → Offer) (r : doc.Rule) → SameRule l t d rule r → (s : State) (u : doc.State) → Agrees l t s u → Agrees l t (pass rule l s) (doc.pass r (l .count) u)
+  pub pass-agrees : (rule : Rule) (r : doc.Rule) → SameRule l t d rule r → (s : State) (u : doc.State) → Agrees l t s u → Agrees l t (pass rule l s) (doc.pass r (l .count) u)
   pass-agrees rule r same s u a = pass-below rule r same s u a (l .count) (omega arith)
 
-  module _ (f : State → State) (begins : doc.State → Bool) (rule : Layout → ℕ → State → Offer) (r : doc.Rule) (same : SameRule l t d rule r)
+  module _ (f : State → State) (begins : doc.State → Bool) (rule : Rule) (r : doc.Rule) (same : SameRule l t d rule r)
       (turn : (s : State) (u : doc.State) → Agrees l t s u → begins u ≡ true → f s ≡ pass rule l s)
       (stay : (s : State) (u : doc.State) → Agrees l t s u → begins u ≡ false → f s ≡ s) where
     -- a pass that leaves the set as it was has fixed no column

@@ -3,7 +3,7 @@ use Prim.Native.Nat.{ℕ, zero, suc, _+_, _-_, _^_, _≤_, _<_}
 use mathlib.Core.Path.{_≡_, refl, sym, ap, _∙_}
 use mathlib.Core.Bool.{Bool, true, false, not}
 use mathlib.Core.List.{List, [], _∷_, _++_, map}
-use mathlib.Core.Option.{none, some}
+use mathlib.Core.Option.{Option, none, some}
 use native.Mathlib.Nat.{not-suc-le-zero}
 use native.Mathlib.Omega.{arith}
 use lib.ListN.{length, getD, take, set, replicate, length-set, length-take, length-map, length-append}
@@ -16,18 +16,15 @@ use Rattle.rules.specs.Sheet.{Table, columnAt, padding, isHidden, mostColumns}
 use Rattle.rules.specs.Widths as doc
 use Rattle.rules.specs.Widths.{lifted, zeros, evaluate, noted, taken}
 use Rattle.rules.proofs.Lists.{getD-map, getD-upFrom, length-upFrom, upFrom-last, map-append, keep-yes, keep-no}
-use Rattle.style.specs.declared.column.ContentWidth.{ContentWidth}
 use Rattle.constraint.specs.declared.Layout.{Layout}
 use Rattle.constraint.specs.declared.State.{State}
-use Rattle.constraint.specs.declared.Offer.{Offer}
-use Rattle.constraint.specs.declared.Offer.the-variants.{Keep, Take}
 use Rattle.constraint.specs.Widths.{choose, inOrder, column, longest, borders, bit, decided, fixed, taking, step, first, hide, evaluated, visible, setWidth}
 use Rattle.constraint.proofs.Bits.{add-lt, count-add, bit-same, bit-other, zero-bit}
 use Rattle.arrangement.specs.Arrange.{begun, started, charged, remaining, targeted}
 use Rattle.arrangement.specs.Describes.{Describes}
 use Rattle.arrangement.proofs.Rounds.{order-induct}
 use Rattle.arrangement.proofs.Cases.{by-place, not-true}
-use Rattle.arrangement.proofs.Offers.{offered, shown, hidden-as, visible-as, room-as, first-as}
+use Rattle.arrangement.proofs.Offers.{shown, hidden-as, visible-as, room-as, first-as}
 use Rattle.arrangement.proofs.Agrees.{Agrees}
 
 pub zeros-append : (xs ys : List ℕ) → zeros (xs ++ ys) ≡ zeros xs + zeros ys
@@ -119,8 +116,8 @@ module _ (l : Layout) (t : Table) (d : Describes l t) where
           fits = b .fits;
           seen = b .seen;
           unspent = b .unspent;
-          done = set-done (lifted (longest l i .0)) (ap lifted (d .longest i h) ∙ sym v);
-          todo = set-todo (lifted (longest l i .0));
+          done = set-done (lifted (longest l i)) (ap lifted (d .longest i h) ∙ sym v);
+          todo = set-todo (lifted (longest l i));
           known = now-known (hide l i s) (rw (n, hidden-as l t d i h, e)) (λ j k. refl);
           out = λ j k. b .out j (omega arith);
           counted = omega (arith, b .counted, zeros-some (doc.first t) i (omega arith), ap length (keep-no (shown t) i (ap not e)));
@@ -148,10 +145,10 @@ module _ (l : Layout) (t : Table) (d : Describes l t) where
           counted = omega (arith, b .counted, zeros-none (doc.first t) i v, length-shown e);
         }
 
-    take-begun : (w : ContentWidth) → isHidden (columnAt t i) ≡ false → evaluate t i ≡ some (w .0) → Begun (suc i) (fixed s i w)
+    take-begun : (w : ℕ) → isHidden (columnAt t i) ≡ false → evaluate t i ≡ some w → Begun (suc i) (fixed s i w)
     unfolding doc.first noted
     take-begun w e n =
-        let v : doc.first t i ≡ lifted (w .0) = rw n in
+        let v : doc.first t i ≡ lifted w = rw n in
         let m : eqb (doc.first t i) 0 ≡ false = ne-eqb (doc.first t i) 0 (omega arith) in
         let z : bit (s .decided) i ≡ 0 = b .out i (omega arith) in
         record {
@@ -159,16 +156,16 @@ module _ (l : Layout) (t : Table) (d : Describes l t) where
           fits = add-lt setWidth (s .decided) i (omega (arith, d .few)) (b .fits) z;
           seen = b .seen;
           unspent = omega (arith, b .unspent);
-          done = set-done (lifted (w .0)) (sym v);
-          todo = set-todo (lifted (w .0));
+          done = set-done (lifted w) (sym v);
+          todo = set-todo (lifted w);
           known = now-known (fixed s i w) (rw (m, hidden-as l t d i h, e, bit-same i (s .decided) z)) (λ j k. rw (bit-other i j (s .decided) z (λ q. omega arith)));
           out = λ j k. bit-other i j (s .decided) z (λ q. omega arith) ∙ b .out j (omega arith);
           counted = omega (arith, b .counted, count-add i (s .decided) z, zeros-some (doc.first t) i (omega arith), length-shown e);
         }
 
-    taking-begun : (o : Offer) → isHidden (columnAt t i) ≡ false → evaluate t i ≡ offered o → Begun (suc i) (taking s i o)
-    taking-begun Keep e n = keep-begun e n
-    taking-begun (Take w) e n = take-begun w e n
+    taking-begun : (o : Option ℕ) → isHidden (columnAt t i) ≡ false → evaluate t i ≡ o → Begun (suc i) (taking s i o)
+    taking-begun none e n = keep-begun e n
+    taking-begun (some w) e n = take-begun w e n
 
     evaluated-begun : Begun (suc i) (evaluated l i s)
     unfolding evaluated step

@@ -22,7 +22,7 @@ use Rattle.constraint.specs.Widths.{choose, inOrder, column, decided, fixed, pa
 use Rattle.constraint.proofs.Bits.{bit-other}
 use Rattle.constraint.proofs.Laws.{open-bit}
 use Rattle.arrangement.specs.declared.dynamic.Sharing.{Sharing}
-use Rattle.arrangement.specs.Arrange.{untargeted, share, sharing, undecided, distributed, widened, widening, filled, finished, started}
+use Rattle.arrangement.specs.Arrange.{trimmed, untargeted, share, sharing, undecided, distributed, widened, widening, filled, finished, started}
 use Rattle.arrangement.specs.Describes.{Describes}
 use Rattle.arrangement.proofs.Rounds.{order-induct}
 use Rattle.arrangement.proofs.Cases.{by-place, unlike, not-true}
@@ -105,20 +105,26 @@ module _ (l : Layout) (t : Table) (d : Describes l t) where
   settledAt : ℕ → ℕ → ℕ
   settledAt j w = orElse w (doc.untargeted t j)
 
-  fix-untrimmed : (j a : ℕ) (u : doc.State) → fixAt j (untrimmed l t d j a) u .widths ≡ set (u .widths) j (doc.untargeted t j)
-  unfolding untrimmed doc.untargeted fixAt fix
-  fix-untrimmed j a u = go (doc.upper t (columnAt t j))
+  -- what is offered, 0 made 1
+  untrimmed-lifted : (j : ℕ) → lifted (trimmed (columnAt t j) (doc.longest t j) (doc.upper t (columnAt t j))) ≡ doc.untargeted t j
+  unfolding doc.untargeted
+  untrimmed-lifted j = go (doc.upper t (columnAt t j))
     where
-      inner : (b : ℕ) (x : Bool) → fixAt j (elim x as (λ x. Option ℕ) [ true ↦ some (contentOf (columnAt t j) b) | false ↦ some (doc.longest t j) ]) u .widths
-          ≡ set (u .widths) j (elim x as (λ x. ℕ) [ true ↦ contentOf (columnAt t j) b | false ↦ lifted (doc.longest t j) ])
-      inner b true = let e : lifted (contentOf (columnAt t j) b) ≡ contentOf (columnAt t j) b = omega arith in ap (λ (v : ℕ). set (u .widths) j v) e
-      inner b false = refl
+      by-test : (b : ℕ) (x : Bool) → lifted (elim x as (λ x. ℕ) [ true ↦ contentOf (columnAt t j) b | false ↦ doc.longest t j ])
+          ≡ elim x as (λ x. ℕ) [ true ↦ contentOf (columnAt t j) b | false ↦ lifted (doc.longest t j) ]
+      by-test b true = omega arith
+      by-test b false = refl
 
-      go : (o : Option ℕ)
-          → fixAt j (elim o as (λ x. Option ℕ) [ some b ↦ elim (ltb b (doc.longest t j)) as (λ x. Option ℕ) [ true ↦ some (contentOf (columnAt t j) b) | false ↦ some (doc.longest t j) ] | none ↦ some (doc.longest t j) ]) u .widths
-          ≡ set (u .widths) j (elim o as (λ x. ℕ) [ some b ↦ elim (ltb b (doc.longest t j)) as (λ x. ℕ) [ true ↦ contentOf (columnAt t j) b | false ↦ lifted (doc.longest t j) ] | none ↦ lifted (doc.longest t j) ])
-      go (some b) = inner b (ltb b (doc.longest t j))
+      go : (o : Option ℕ) → lifted (trimmed (columnAt t j) (doc.longest t j) o) ≡ elim o as (λ x. ℕ) [
+        | some b ↦ elim (ltb b (doc.longest t j)) as (λ x. ℕ) [ true ↦ contentOf (columnAt t j) b | false ↦ lifted (doc.longest t j) ]
+        | none ↦ lifted (doc.longest t j)
+      ]
+      go (some b) = by-test b (ltb b (doc.longest t j))
       go none = refl
+
+  fix-untrimmed : (j a : ℕ) (u : doc.State) → fixAt j (untrimmed l t d j a) u .widths ≡ set (u .widths) j (doc.untargeted t j)
+  unfolding untrimmed fixAt fix
+  fix-untrimmed j a u = ap (λ (v : ℕ). set (u .widths) j v) (untrimmed-lifted j)
 
   visit-untrimmed : (j : ℕ) (u : doc.State) → visit (untrimmed l t d) j u .widths ≡ set (u .widths) j (settledAt j (getD (u .widths) j 0))
   unfolding visit settledAt
@@ -202,7 +208,7 @@ module _ (l : Layout) (t : Table) (d : Describes l t) where
           }
 
       given-open : (v : ℕ) → v ≡ doc.share amount (doc.undecided u) (zeros (take i (u .widths))) → 1 ≤ v → getD (u .widths) i 0 ≡ 0 → decided l i (x .state) ≡ false
-          → Given (suc i) (record { state = fixed (x .state) i (record { 0 = v }); given = x .given + 1 })
+          → Given (suc i) (record { state = fixed (x .state) i v; given = x .given + 1 })
       unfolding placed sharedAt
       given-open v p q z o =
           let b = open-bit l i (x .state) o in
@@ -227,7 +233,7 @@ module _ (l : Layout) (t : Table) (d : Describes l t) where
           p = share-as (max (s .remaining) (undecided s)) (undecided s) (x .given) ∙ rw (c, parts-as, g .given)
 
           go : (b : Bool) → decided l i (x .state) ≡ b
-              → Given (suc i) (choose b x (record { state = fixed (x .state) i (record { 0 = share (max (s .remaining) (undecided s)) (undecided s) (x .given) }); given = x .given + 1 }))
+              → Given (suc i) (choose b x (record { state = fixed (x .state) i (share (max (s .remaining) (undecided s)) (undecided s) (x .given)); given = x .given + 1 }))
           go true e = given-decided (λ z. unlike true refl (sym e ∙ told ∙ rw z))
           go false e =
               let z = eqb-true (getD (u .widths) i 0) 0 (not-true (isUndecided u i) (sym e ∙ told)) in

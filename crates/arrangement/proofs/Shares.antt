@@ -1,5 +1,5 @@
 -- Sharing: the parts, and the ways out of the functions that hand them out. Assumes nothing.
-use Prim.Native.Nat.{ℕ, _+_, _-_, _/_, _%_, _≤_, _<_, max}
+use Prim.Native.Nat.{ℕ, _+_, _/_, _%_, _≤_, _<_, max}
 use mathlib.Core.Path.{_≡_, refl, sym, ap, _∙_, subst}
 use mathlib.Core.Bool.{Bool, true, false}
 use native.Mathlib.Nat.{div-le-self, div-add-mod', mul-le-mul-left}
@@ -28,11 +28,11 @@ module _ (t : Layout) (n parts i : ℕ) (x : Sharing) (r : Bool) where
   unfolding sharing
   sharing-decided e h = if-true (decided t i (x .state)) r x _ x e h refl
 
-  pub sharing-open : (k : ℕ) (u : State) → r ≡ decided t i (x .state) → r ≡ false → k ≡ share n parts (x .given) → u ≡ fixed (x .state) i (record { 0 = k }) → _≡_ {A = Sharing} (record { state = u; given = x .given + 1 }) (sharing t n parts i x)
+  pub sharing-open : (k : ℕ) (u : State) → r ≡ decided t i (x .state) → r ≡ false → k ≡ share n parts (x .given) → u ≡ fixed (x .state) i k → _≡_ {A = Sharing} (record { state = u; given = x .given + 1 }) (sharing t n parts i x)
   unfolding sharing
   sharing-open k u e h p q =
       if-false (decided t i (x .state)) r x _ _ e h
-      (ap (λ (z : State). record { state = z; given = x .given + 1 }) (q ∙ ap (λ (z : ℕ). fixed (x .state) i (record { 0 = z })) p))
+      (ap (λ (z : State). record { state = z; given = x .given + 1 }) (q ∙ ap (fixed (x .state) i) p))
 
   pub widening-hidden : r ≡ isHidden (column t i) → r ≡ true → x ≡ widening t n parts i x
   unfolding widening

@@ -11,7 +11,7 @@ use borrow.Author.Tests.{leb-true, leb-false, ltb-true, ltb-false, lt-ltb, le-lt
 use Rattle.rules.specs.Text.{orElse}
 use Rattle.rules.specs.Sheet as sheet
 use Rattle.rules.specs.Sheet.{Table, noCell, noRow, columnAt}
-use Rattle.rules.specs.Widths.{lifted, longestPart}
+use Rattle.rules.specs.Widths.{lifted, shorterBy3, longestPart}
 use Rattle.rules.proofs.Places.{textAt, lineStop, cellHere, cellStop, rowHere, rowStop, rowsPlace}
 use Rattle.rules.proofs.Stands.{parts-count}
 use Rattle.rules.specs.declared.Column.{Column}
@@ -25,11 +25,9 @@ use Rattle.sheet.specs.declared.records.Row.{Row}
 use Rattle.sheet.specs.declared.records.Cell.{Cell}
 use Rattle.sheet.proofs.Held.{room}
 use Rattle.sheet.proofs.Walks.{cells-none, rows-none, rows-next, row-whole, cell-whole}
-use Rattle.constraint.specs.declared.Offer.the-variants.{Keep, Take}
-use Rattle.constraint.proofs.Cases.{if-gt}
 use Rattle.arrangement.specs.declared.after_split.Tried.{Tried}
-use Rattle.arrangement.specs.Arrange.{spared}
 use Rattle.arrangement.specs.Trial.{ofLine, ofLines, ofCells, ofRows, otherwise, Skipped, RowTried, Enough, RowsTried}
+use Rattle.arrangement.proofs.Ways.{shorter-kept}
 use Rattle.arrangement.proofs.Trials.{lines-cons, lines-nil, cells-there, cells-short, rows-le, rows-append, longest-part}
 
 -- a list of as many as are left
@@ -62,14 +60,12 @@ module _ (a m : ℕ) (b : Bool) (e : b ≡ ltb a (m + 3)) where
   part-enough n t h = record { part = h; all = saves-less t }
 
 -- what is enough is offered, or not, as the longest part is
-pub enough-spares : (a n m : ℕ) → Enough a n m → spared a (record { 0 = m }) ≡ spared a (record { 0 = n })
+pub enough-spares : (a n m : ℕ) → Enough a n m → shorterBy3 m a ≡ shorterBy3 n a
 enough-spares a n m e = go (leb (m + 3) a) refl
   where
-    go : (b : Bool) → leb (m + 3) a ≡ b → spared a (record { 0 = m }) ≡ spared a (record { 0 = n })
-    go true t = ap (λ (k : ℕ). spared a (record { 0 = k })) (e .all (leb-true (m + 3) a t))
-    go false t =
-        let l = leb-false (m + 3) a t in
-        sym (if-gt (m + 3) a (Take (record { 0 = m })) Keep Keep (omega arith) refl) ∙ if-gt (n + 3) a (Take (record { 0 = n })) Keep Keep (omega (arith, e .part)) refl
+    go : (b : Bool) → leb (m + 3) a ≡ b → shorterBy3 m a ≡ shorterBy3 n a
+    go true t = ap (λ (k : ℕ). shorterBy3 k a) (e .all (leb-true (m + 3) a t))
+    go false t = let l = leb-false (m + 3) a t in sym (shorter-kept a m l) ∙ shorter-kept a n (omega (arith, e .part))
 
 -- ---- lines
 
@@ -240,10 +236,10 @@ module _ (s : List ℕ) (j a d : ℕ) (h : Rows) (first : Tried) (x : RowsTried 
   both : longestPart t j a ≡ max (ofRows j a d (rowsIn s h)) (ofRows j a d (t .rows))
   both = longest-part t j a ∙ rw (← o, f) (rows-append j a d (t .header) (t .rows))
 
-  pub tried-header : (b : Bool) → b ≡ ltb a (first .longest + 3) → b ≡ true → spared a (record { 0 = first .longest }) ≡ spared a (record { 0 = longestPart t j a })
+  pub tried-header : (b : Bool) → b ≡ ltb a (first .longest + 3) → b ≡ true → shorterBy3 (first .longest) a ≡ shorterBy3 (longestPart t j a) a
   tried-header b e k = enough-spares a (longestPart t j a) (first .longest) (part-enough a (first .longest) b e _ k (omega (arith, both, x .longest .part)))
 
-  pub tried-both : (c : Rows) (others : Tried) (m : ℕ) → RowsTried s c j a d others → m ≡ max (first .longest) (others .longest) → rowsIn s c ≡ t .rows → spared a (record { 0 = m }) ≡ spared a (record { 0 = longestPart t j a })
+  pub tried-both : (c : Rows) (others : Tried) (m : ℕ) → RowsTried s c j a d others → m ≡ max (first .longest) (others .longest) → rowsIn s c ≡ t .rows → shorterBy3 m a ≡ shorterBy3 (longestPart t j a) a
   tried-both c others m y e g =
       enough-spares a (longestPart t j a) m (rw (e, both, ← g) (both-enough a _ _ _ _ (x .longest) (y .longest)))
 

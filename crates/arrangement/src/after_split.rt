@@ -5,10 +5,9 @@ ghost use Prim.Native.Nat.{_+_, _≤_};
 ghost use lib.Dec.{ltb};
 ghost use lib.ListN.{length};
 ghost use Rattle.rules.specs.Sheet.{columnAt};
-ghost use Rattle.rules.specs.Widths.{longestPart};
+ghost use Rattle.rules.specs.Widths.{shorterBy3, longestPart};
 ghost use Rattle.sheet.specs.Held.{Passes, tableOf};
 ghost use Rattle.sheet.specs.Walk.{linesIn, rowsEnd, cellsEnd, linesEnd};
-ghost use Rattle.arrangement.specs.Arrange.{spared};
 ghost use Rattle.arrangement.specs.Trial.{ofLine, ofLines, Enough, RowTried, RowsTried, Skipped};
 use rules::Column;
 use sheet::records::Cells;
@@ -139,7 +138,7 @@ fn of_rows(sheet: &[u8], rows: Rows, column: usize, average: usize, otherwise: u
 // The longest part of the column's lines, over header and rows, split at the average; or one that saves too little as well.
 pub fn longest_line_after_split(sheet: &[u8], c: Column, column: usize, average: u16) -> u16
     requires { ⌜ Passes (now sheet) × (c ≡ columnAt (tableOf (now sheet)) column) ⌝ }
-    ensures { λ r. ⌜ spared average (record { 0 = r }) ≡ spared average (record { 0 = longestPart (tableOf (now (sheet .entry))) column average }) ⌝ }
+    ensures { λ r. ⌜ shorterBy3 r average ≡ shorterBy3 (longestPart (tableOf (now (sheet .entry))) column average) average ⌝ }
 {
     let table = settings::settings(sheet);
     let otherwise = numbers::or_else(c.delimiter, numbers::or_else(table.delimiter, b' '));

@@ -2,7 +2,7 @@
 ghost use mathlib.Core.Path.{_≡_};
 ghost use Prim.Native.Nat.{_≤_, _<_};
 ghost use Rattle.rules.specs.Sheet.{mostColumns};
-ghost use Rattle.constraint.specs.Widths.{pass, step};
+ghost use Rattle.constraint.specs.Widths.{bound, pass, step};
 ghost use Rattle.arrangement.specs.Arrange.{trimmed, untargeted};
 use constraint::Bound;
 use constraint::Layout;
@@ -14,7 +14,7 @@ use style::column::ContentWidth;
 
 // The longest, or an upper bound that is below it; padding isn't counted in this test.
 fn trimmed_width(c: Column, n: ContentWidth, b: Bound) -> ContentWidth
-    ensures { λ r. ⌜ r ≡ trimmed c n b ⌝ }
+    ensures { λ r. ⌜ r .0 ≡ trimmed c (n .0) (bound b) ⌝ }
 {
     match b {
         Bound::Unset => n,

@@ -2,12 +2,12 @@
 ghost use mathlib.Core.Path.{_≡_};
 ghost use Prim.Native.Nat.{_+_, _≤_, _<_};
 ghost use lib.ListN.{getD};
-ghost use Rattle.constraint.specs.Widths.{pass, step, average};
+ghost use Rattle.constraint.specs.Widths.{bound, offered, pass, step, average};
 ghost use Rattle.arrangement.specs.Limits.{Small};
-ghost use Rattle.arrangement.specs.Arrange.{charged, remaining, targeted, raised, lowerRule, step1, short, fitting, fitRule, fitPass, step2, spared, splitRule, step3, share, sharing, undecided, distributed, widened, widening, filled, finished, dynamic, started};
+ghost use Rattle.arrangement.specs.Arrange.{charged, remaining, targeted, raised, lowerRule, step1, fitting, fitRule, fitPass, step2, splitRule, step3, share, sharing, undecided, distributed, widened, widening, filled, finished, dynamic, started};
 ghost use Rattle.arrangement.specs.Describes.{Describes};
 ghost use Rattle.rules.specs.Sheet.{mostColumns};
-ghost use Rattle.rules.specs.Widths.{longestPart};
+ghost use Rattle.rules.specs.Widths.{withinAverage, shorterBy3, longestPart};
 ghost use Rattle.sheet.specs.Held.{Passes, tableOf};
 use super::after_split;
 use constraint::Bound;
@@ -64,7 +64,7 @@ fn target(t: Layout, s: State) -> State
 
 // A lower bound, padding counted, is compared with the average as it stands.
 fn raised_offer(a: u16, c: Column, b: Bound) -> Offer
-    ensures { λ r. ⌜ r ≡ raised a c b ⌝ }
+    ensures { λ r. ⌜ offered r ≡ raised a c (bound b) ⌝ }
 {
     match b {
         Bound::Unset => Offer::Keep,
@@ -118,7 +118,7 @@ fn enforce_lower_boundary_constraints(t: Layout, s: State) -> State
 }
 
 fn short_offer(a: u16, n: ContentWidth) -> Offer
-    ensures { λ r. ⌜ r ≡ short a n ⌝ }
+    ensures { λ r. ⌜ offered r ≡ withinAverage (n .0) a ⌝ }
 {
     if n.0 <= a {
         return Offer::Take(n);
@@ -128,7 +128,7 @@ fn short_offer(a: u16, n: ContentWidth) -> Offer
 
 // An upper bound that the content reaches and the average allows comes before the longest.
 fn fitting_offer(a: u16, c: Column, n: ContentWidth, b: Bound) -> Offer
-    ensures { λ r. ⌜ r ≡ fitting a c n b ⌝ }
+    ensures { λ r. ⌜ offered r ≡ fitting a c (n .0) (bound b) ⌝ }
 {
     match b {
         Bound::Unset => short_offer(a, n),
@@ -205,7 +205,7 @@ fn find_columns_that_fit_into_average(t: Layout, s: State) -> State
 
 // Splitting pays only if it saves three columns.
 fn spared_offer(a: u16, n: ContentWidth) -> Offer
-    ensures { λ r. ⌜ r ≡ spared a n ⌝ }
+    ensures { λ r. ⌜ offered r ≡ shorterBy3 (n .0) a ⌝ }
 {
     if n.0 as u32 + 3 <= a as u32 {
         return Offer::Take(n);

@@ -1,7 +1,7 @@
 -- A set of columns in a number's binary digits, and adding an absent one. Assumes nothing.
 use mathlib.Core.Path.{_≡_, refl, sym, ap, _∙_}
 use mathlib.Core.Bool.{false}
-use Prim.Native.Nat.{ℕ, zero, suc, _+_, _-_, _*_, _/_, _%_, _^_, _<_}
+use Prim.Native.Nat.{ℕ, zero, suc, _+_, _*_, _/_, _%_, _^_, _<_}
 use native.Mathlib.Nat.{pow-suc, not-suc-le-zero, le-of-suc-le-suc, one-mul}
 use native.Mathlib.Numerals.{one-add}
 use native.Mathlib.Omega.{arith}

@@ -1,5 +1,5 @@
 -- Laws of the definitions: content, percent, the loop over columns. Assumes nothing.
-use Prim.Native.Nat.{ℕ, _+_, _-_, _*_, _/_, _≤_, _<_, min}
+use Prim.Native.Nat.{ℕ, _+_, _*_, _/_, _≤_, _<_, min}
 use mathlib.Core.Path.{_≡_, refl, sym, ap, _∙_}
 use mathlib.Core.Bool.{Bool, true, false}
 use native.Mathlib.Omega.{arith}
@@ -9,7 +9,7 @@ use lib.Dec.{eqb}
 use Rattle.constraint.specs.declared.Layout.{Layout}
 use Rattle.constraint.specs.declared.State.{State}
 use Rattle.constraint.specs.declared.Offer.{Offer}
-use Rattle.constraint.specs.Widths.{choose, column, decided, bit, inOrder, percent, step, taking}
+use Rattle.constraint.specs.Widths.{choose, column, decided, bit, inOrder, percent, offered, Rule, step, taking}
 use Rattle.constraint.proofs.Bits.{bit-zero}
 use Rattle.rules.specs.Sheet.{isHidden}
 
@@ -69,10 +69,11 @@ module _ (t : Layout) (i : ℕ) (s : State) where
   open-by r e h = open-bit (sym e ∙ h)
 
   -- a step's two ways out
-  pub step-decided : (rule : Layout → ℕ → State → Offer) (r : Bool) → r ≡ decided t i s → r ≡ true → s ≡ step rule t i s
+  pub step-decided : (rule : Rule) (r : Bool) → r ≡ decided t i s → r ≡ true → s ≡ step rule t i s
   unfolding step
   step-decided rule r e h = let q : decided t i s ≡ true = sym e ∙ h in rw q
 
-  pub step-open : (rule : Layout → ℕ → State → Offer) (r : Bool) (o : Offer) (u : State) → r ≡ decided t i s → r ≡ false → o ≡ rule t i s → u ≡ taking s i o → u ≡ step rule t i s
+  pub step-open : (rule : Rule) (r : Bool) (o : Offer) (u : State) → r ≡ decided t i s → r ≡ false
+      → offered o ≡ rule t i s → u ≡ taking s i (offered o) → u ≡ step rule t i s
   unfolding step
   step-open rule r o u e h p q = let z : decided t i s ≡ false = sym e ∙ h in q ∙ ap (taking s i) p ∙ sym (rw z)

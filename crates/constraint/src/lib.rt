@@ -2,7 +2,7 @@
 ghost use mathlib.Core.Path.{_≡_};
 ghost use Prim.Native.Nat.{_+_, _-_, _≤_, _<_};
 ghost use lib.Dec.{eqb};
-ghost use Rattle.constraint.specs.Widths.{choose, visible, borders, percent, value, lower, upper, average, bit, decided, fixed, taking, absolute, covered, first, evaluated, hide, setWidth};
+ghost use Rattle.constraint.specs.Widths.{choose, visible, borders, percent, bound, offered, value, lower, upper, average, bit, decided, fixed, taking, absolute, covered, first, evaluated, hide, setWidth};
 ghost use Rattle.rules.specs.Sheet.{mostColumns, isHidden};
 use rules::Column;
 use rules::MOST_COLUMNS;
@@ -124,7 +124,7 @@ pub fn percent_of(room: u16, p: u16) -> u16
 
 // A percent of no target is no width.
 pub fn absolute_value_from_width(t: Layout, w: Width, v: u16) -> Bound
-    ensures { λ r. ⌜ r ≡ value t v w ⌝ }
+    ensures { λ r. ⌜ bound r ≡ value t v w ⌝ }
 {
     if w.unit == 0 {
         return Bound::At(ConstraintWidth(w.value));
@@ -137,7 +137,7 @@ pub fn absolute_value_from_width(t: Layout, w: Width, v: u16) -> Bound
 
 // The lower bound.
 pub fn min(t: Layout, c: Column, v: u16) -> Bound
-    ensures { λ r. ⌜ r ≡ lower t v c ⌝ }
+    ensures { λ r. ⌜ bound r ≡ lower t v c ⌝ }
 {
     let code = c.constraint;
     let w = c.first;
@@ -159,7 +159,7 @@ fn upper_width(c: Column) -> Width
 
 // The upper bound.
 pub fn max(t: Layout, c: Column, v: u16) -> Bound
-    ensures { λ r. ⌜ r ≡ upper t v c ⌝ }
+    ensures { λ r. ⌜ bound r ≡ upper t v c ⌝ }
 {
     let code = c.constraint;
     match code {
@@ -201,7 +201,7 @@ pub fn is_decided(t: Layout, i: usize, s: State) -> bool
 // The width offered is taken off before 0 becomes 1: a column without cells costs nothing.
 pub fn fix_column(s: State, i: usize, w: ContentWidth) -> State
     requires { ⌜ (i < mostColumns) × (bit (s .decided) i ≡ 0) ⌝ }
-    ensures { λ r. ⌜ r ≡ fixed s i w ⌝ }
+    ensures { λ r. ⌜ r ≡ fixed s i (w .0) ⌝ }
 {
     let width = numbers::greater_u16(1, w.0);
     let mut r = s;
@@ -214,7 +214,7 @@ pub fn fix_column(s: State, i: usize, w: ContentWidth) -> State
 // An offer that keeps the column open changes nothing.
 pub fn take(s: State, i: usize, o: Offer) -> State
     requires { ⌜ (i < mostColumns) × (bit (s .decided) i ≡ 0) ⌝ }
-    ensures { λ r. ⌜ r ≡ taking s i o ⌝ }
+    ensures { λ r. ⌜ r ≡ taking s i (offered o) ⌝ }
 {
     match o {
         Offer::Keep => s,
@@ -223,7 +223,7 @@ pub fn take(s: State, i: usize, o: Offer) -> State
 }
 
 fn absolute_offer(c: Column, b: Bound) -> Offer
-    ensures { λ r. ⌜ r ≡ absolute c b ⌝ }
+    ensures { λ r. ⌜ offered r ≡ absolute c (bound b) ⌝ }
 {
     match b {
         Bound::Unset => Offer::Keep,
@@ -232,7 +232,7 @@ fn absolute_offer(c: Column, b: Bound) -> Offer
 }
 
 fn covered_offer(c: Column, n: ContentWidth, b: Bound) -> Offer
-    ensures { λ r. ⌜ r ≡ covered c n b ⌝ }
+    ensures { λ r. ⌜ offered r ≡ covered c (n .0) (bound b) ⌝ }
 {
     match b {
         Bound::Unset => Offer::Keep,
@@ -247,7 +247,7 @@ fn covered_offer(c: Column, n: ContentWidth, b: Bound) -> Offer
 
 fn first_offer(t: Layout, i: usize, s: State) -> Offer
     requires { ⌜ i < mostColumns ⌝ }
-    ensures { λ r. ⌜ r ≡ first t i s ⌝ }
+    ensures { λ r. ⌜ offered r ≡ first t i s ⌝ }
 {
     let c = t.columns[i];
     let v = s.visible;

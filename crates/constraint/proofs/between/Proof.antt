@@ -1,5 +1,4 @@
 use Rattle.constraint.proofs.Exits.{between-set}
-use Prim.Native.Nat.{_-_}
 use native.Mathlib.Omega.{arith}
 use borrow.Author.Needs.{needs}
 use Rattle.constraint.proofs.between.Statement.{statement}

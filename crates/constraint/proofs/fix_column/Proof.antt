@@ -1,6 +1,6 @@
 use Rattle.constraint.proofs.Exits.{fixed-at}
 use mathlib.Core.Path.{ap}
-use Prim.Native.Nat.{ℕ, _+_, _-_, _*_, _%_, _^_}
+use Prim.Native.Nat.{ℕ, _+_, _*_, _%_, _^_}
 use native.Mathlib.Omega.{arith}
 use Rattle.constraint.specs.Widths.{decided, setWidth}
 use Rattle.constraint.proofs.Bits.{add-lt, shift}
@@ -27,4 +27,4 @@ fix-column-spec =
     let i = b .args .i in
     let lifted = c .before .before .greater-u16 in
     let added = ap (λ (d : ℕ). s .decided + d) (shift i (omega arith)) in
-    fixed-at s i (b .args .w) (lifted .result) (s .decided + 1 * 2 ^ i % 65536) (c .minus-u16 .result) (lifted .ensures) added (c .minus-u16 .ensures)))
+    fixed-at s i (b .args .w .0) (lifted .result) (s .decided + 1 * 2 ^ i % 65536) (c .minus-u16 .result) (lifted .ensures) added (c .minus-u16 .ensures)))

@@ -1,5 +1,4 @@
 use Rattle.constraint.proofs.Exits.{hide-at}
-use Prim.Native.Nat.{_-_}
 use borrow.Author.Needs.{needs}
 use Rattle.constraint.proofs.hidden_column.Statement.{statement}
 use Rattle.constraint.proofs.hidden_column.Tie as tie

@@ -1,4 +1,3 @@
-use Prim.Native.Nat.{_-_}
 use native.Mathlib.Omega.{arith}
 use Rattle.arrangement.proofs.Shares.{share-more, share-first, share-rest}
 use borrow.Author.Needs.{needs}

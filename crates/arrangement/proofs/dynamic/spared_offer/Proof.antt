@@ -1,5 +1,4 @@
-use Prim.Native.Nat.{_-_}
-use Rattle.constraint.proofs.Cases.{cases}
+use Rattle.arrangement.proofs.Ways.{shorter-taken, shorter-kept}
 use borrow.Author.Needs.{needs}
 use Rattle.arrangement.proofs.dynamic.spared_offer.Statement.{statement}
 use Rattle.arrangement.proofs.dynamic.spared_offer.Tie as tie
@@ -10,5 +9,5 @@ spared-offer-spec =
     (tie.spec
     (λ c. search needs)
     (λ c. search needs)
-    (λ c. search (needs, cases))
-    (λ c. search (needs, cases)))
+    (λ c. search (needs, shorter-taken))
+    (λ c. search (needs, shorter-kept)))

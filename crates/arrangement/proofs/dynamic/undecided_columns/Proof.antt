@@ -1,5 +1,4 @@
 use lib.Count.{ones-le}
-use Prim.Native.Nat.{_-_}
 use native.Mathlib.Omega.{arith}
 use Rattle.constraint.specs.Widths.{decided, setWidth}
 use borrow.Author.Needs.{needs}
