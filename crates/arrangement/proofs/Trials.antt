@@ -34,10 +34,13 @@ pub lines-nil : (a d : ℕ) → ofLines a d [] ≡ 0
 unfolding ofLines flat greatest
 lines-nil a d = refl
 
--- a line longer than the average is split, at 1 where the average is 0
-pub line-split : (a d w m : ℕ) (l : List ℕ) → a < length l → w ≡ lifted a → m ≡ greatest (map textWidth (split w d l)) → m ≡ ofLine a d l
+-- a line longer than the average is split
+pub line-split : (a d m : ℕ) (l : List ℕ) → 0 < a → a < length l → m ≡ greatest (map textWidth (split a d l)) → m ≡ ofLine a d l
 unfolding ofLine trialParts
-line-split a d w m l h e q = let k : ltb a (textWidth l) ≡ true = rw width-length (lt-ltb a (length l) h) in rw (k, trialParts) (q ∙ rw e)
+line-split a d m l p h q =
+    let k : ltb a (textWidth l) ≡ true = rw width-length (lt-ltb a (length l) h) in
+    let e : lifted a ≡ a = omega arith in
+    rw (k, trialParts, e) q
 
 pub line-whole : (a d : ℕ) (l : List ℕ) → length l ≤ a → length l ≡ ofLine a d l
 unfolding ofLine trialParts greatest

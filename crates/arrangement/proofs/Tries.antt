@@ -53,6 +53,9 @@ module _ (a m : ℕ) (b : Bool) (e : b ≡ ltb a (m + 3)) where
   saves-three : b ≡ false → m + 3 ≤ a
   saves-three f = ltb-false a (m + 3) (sym e ∙ f)
 
+  pub saves-some : b ≡ false → 0 < a
+  saves-some f = omega (arith, saves-three f)
+
   saves-less : {A : Type 0} → b ≡ true → m + 3 ≤ a → A
   saves-less t k = absurd (omega (arith, ltb-true a (m + 3) (sym e ∙ t)))
 

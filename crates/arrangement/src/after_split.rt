@@ -1,7 +1,7 @@
 // What a column would need after a split: `longest_line_after_split` of comfy-table's `arrangement/dynamic.rs`, a function for each of
 // its loops. No text is copied: each line is the part of the sheet that holds it.
 ghost use mathlib.Core.Path.{_≡_};
-ghost use Prim.Native.Nat.{_+_, _≤_};
+ghost use Prim.Native.Nat.{_+_, _≤_, _<_};
 ghost use lib.Dec.{ltb};
 ghost use lib.ListN.{length};
 ghost use Rattle.rules.specs.Sheet.{columnAt};
@@ -22,16 +22,16 @@ pub struct Tried {
     pub end: usize,
 }
 
-// A line that is no longer than the average isn't split; at an average of 0 the others are split at 1.
-fn of_line(line: &[u8], average: usize, delimiter: u8) -> usize
+// A line that is no longer than the average isn't split. Below an average of 3 no split pays, and no line is looked at.
+fn longest_part_of_line(line: &[u8], average: usize, delimiter: u8) -> usize
+    requires { ⌜ 0 < average ⌝ }
     ensures { λ r. ⌜ r ≡ ofLine average delimiter (now (line .entry)) ⌝ }
 {
     let n = line.len();
     if n <= average {
         return n;
     }
-    let width = numbers::greater(1, average);
-    content_split::longest_part(line, width, delimiter)
+    content_split::longest_part(line, average, delimiter)
 }
 
 // Splitting pays only if it saves three columns: with such a part it doesn't, whatever the others are.
@@ -45,7 +45,7 @@ fn saves_too_little(average: usize, longest: usize) -> bool
 }
 
 // The lines after such a part aren't split.
-fn of_lines(sheet: &[u8], lines: Lines, average: usize, delimiter: u8) -> usize
+fn longest_part_of_lines(sheet: &[u8], lines: Lines, average: usize, delimiter: u8) -> usize
     requires { ⌜ linesEnd (now sheet) lines ≤ length (now sheet) ⌝ }
     ensures { λ r. ⌜ Enough average (ofLines average delimiter (linesIn (now (sheet .entry)) lines)) r ⌝ }
 {
@@ -56,7 +56,7 @@ fn of_lines(sheet: &[u8], lines: Lines, average: usize, delimiter: u8) -> usize
             return longest;
         }
         let line = walk::line(sheet, c);
-        longest = numbers::greater(longest, of_line(line, average, delimiter));
+        longest = numbers::greater(longest, longest_part_of_line(line, average, delimiter));
         c = walk::next_line(sheet, c);
     }
     longest
@@ -80,7 +80,13 @@ fn skip(sheet: &[u8], cells: Cells, n: usize) -> Cells
 }
 
 // A row that is short has no cell in the column. After such a part the row's end isn't looked for.
-fn of_row(sheet: &[u8], cells: Cells, column: usize, average: usize, otherwise: u8) -> Tried
+fn longest_part_of_row(
+    sheet: &[u8],
+    cells: Cells,
+    column: usize,
+    average: usize,
+    otherwise: u8,
+) -> Tried
     requires { ⌜ cellsEnd (now sheet) cells ≤ length (now sheet) ⌝ }
     ensures { λ r. ⌜ RowTried (now (sheet .entry)) cells column average otherwise r ⌝ }
 {
@@ -93,7 +99,7 @@ fn of_row(sheet: &[u8], cells: Cells, column: usize, average: usize, otherwise: 
     }
     let cell = walk::cell(sheet, c);
     let lines = cell.lines;
-    let longest = of_lines(
+    let longest = longest_part_of_lines(
         sheet,
         lines,
         average,
@@ -110,7 +116,13 @@ fn of_row(sheet: &[u8], cells: Cells, column: usize, average: usize, otherwise: 
 }
 
 // The rows after such a part aren't walked.
-fn of_rows(sheet: &[u8], rows: Rows, column: usize, average: usize, otherwise: u8) -> Tried
+fn longest_part_of_rows(
+    sheet: &[u8],
+    rows: Rows,
+    column: usize,
+    average: usize,
+    otherwise: u8,
+) -> Tried
     requires { ⌜ rowsEnd (now sheet) rows ≤ length (now sheet) ⌝ }
     ensures { λ r. ⌜ RowsTried (now (sheet .entry)) rows column average otherwise r ⌝ }
 {
@@ -119,7 +131,7 @@ fn of_rows(sheet: &[u8], rows: Rows, column: usize, average: usize, otherwise: u
     while 0 < c.left {
         let row = walk::row(sheet, c);
         let cells = row.cells;
-        let found = of_row(sheet, cells, column, average, otherwise);
+        let found = longest_part_of_row(sheet, cells, column, average, otherwise);
         longest = numbers::greater(longest, found.longest);
         if saves_too_little(average, longest) {
             return Tried {
@@ -144,7 +156,7 @@ pub fn longest_line_after_split(sheet: &[u8], c: Column, column: usize, average:
     let otherwise = numbers::or_else(c.delimiter, numbers::or_else(table.delimiter, b' '));
     let a = average as usize;
     let header = walk::header(sheet);
-    let first = of_rows(sheet, header, column, a, otherwise);
+    let first = longest_part_of_rows(sheet, header, column, a, otherwise);
     if saves_too_little(a, first.longest) {
         return first.longest as u16;
     }
@@ -153,6 +165,6 @@ pub fn longest_line_after_split(sheet: &[u8], c: Column, column: usize, average:
         left: 0,
     };
     let rows = walk::rows(sheet, behind);
-    let others = of_rows(sheet, rows, column, a, otherwise);
+    let others = longest_part_of_rows(sheet, rows, column, a, otherwise);
     numbers::greater(first.longest, others.longest) as u16
 }

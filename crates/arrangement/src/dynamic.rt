@@ -1,6 +1,7 @@
 // Widths that are to make up a target: comfy-table's `arrangement/dynamic.rs`.
 ghost use mathlib.Core.Path.{_≡_};
-ghost use Prim.Native.Nat.{_+_, _≤_, _<_};
+ghost use Prim.Native.Nat.{_+_, _%_, _≤_, _<_};
+ghost use lib.Dec.{ltb};
 ghost use lib.ListN.{getD};
 ghost use Rattle.constraint.specs.Widths.{bound, offered, pass, step, average};
 ghost use Rattle.arrangement.specs.Limits.{Small};
@@ -204,7 +205,7 @@ fn find_columns_that_fit_into_average(t: Layout, s: State) -> State
 }
 
 // Splitting pays only if it saves three columns.
-fn spared_offer(a: u16, n: ContentWidth) -> Offer
+fn split_offer(a: u16, n: ContentWidth) -> Offer
     ensures { λ r. ⌜ offered r ≡ shorterBy3 (n .0) a ⌝ }
 {
     if n.0 as u32 + 3 <= a as u32 {
@@ -222,7 +223,7 @@ fn split_step(sheet: &[u8], t: Layout, i: usize, s: State, a: u16) -> State
     }
     let c = t.columns[i];
     let n = after_split::longest_line_after_split(sheet, c, i, a);
-    constraint::take(s, i, spared_offer(a, ContentWidth(n)))
+    constraint::take(s, i, split_offer(a, ContentWidth(n)))
 }
 
 fn split_pass(sheet: &[u8], t: Layout, s: State) -> State
@@ -252,13 +253,21 @@ fn optimize_space_after_split(sheet: &[u8], t: Layout, s: State) -> State
     r
 }
 
-// Part k of n shared evenly: the first parts take the excess.
+// The first parts take the excess, 1 each.
+fn takes_excess(n: u16, parts: u16, k: u16) -> bool
+    requires { ⌜ 0 < parts ⌝ }
+    ensures { λ r. ⌜ r ≡ ltb k (n % parts) ⌝ }
+{
+    k < n % parts
+}
+
+// Part k of n shared evenly.
 fn share_of(n: u16, parts: u16, k: u16) -> u16
     requires { ⌜ 0 < parts ⌝ }
     ensures { λ r. ⌜ (r ≡ share n parts k) × (r ≤ n) ⌝ }
 {
     let base = n / parts;
-    if k < n % parts {
+    if takes_excess(n, parts, k) {
         return base + 1;
     }
     base

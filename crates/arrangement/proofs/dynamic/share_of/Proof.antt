@@ -9,7 +9,13 @@ share-of-spec =
     tie.close
     (tie.spec
     (λ c. search needs)
-    (λ c. search needs)
-    (λ c. record { fits = omega (arith, share-more (c .before .args .n) (c .before .args .parts) (c .before .args .k) (search needs) (search needs)) })
-    (λ c. share-first (c .before .args .n) (c .before .args .parts) (c .before .args .k) (search needs) (search needs))
-    (λ c. share-rest (c .before .args .n) (c .before .args .parts) (c .before .args .k) (search needs)))
+    (λ c κs. search needs)
+    (λ c. let x = c .before .takes-excess in
+    let a = c .before .before .args in
+    record { fits = omega (arith, share-more (a .n) (a .parts) (a .k) (x .result) (x .ensures) (search needs) (c .if1 .taken)) })
+    (λ c. let x = c .before .takes-excess in
+    let a = c .before .before .args in
+    share-first (a .n) (a .parts) (a .k) (x .result) (x .ensures) (search needs) (c .if1 .taken))
+    (λ c. let x = c .before .takes-excess in
+    let a = c .before .before .args in
+    share-rest (a .n) (a .parts) (a .k) (x .result) (x .ensures) (c .if1 .left)))

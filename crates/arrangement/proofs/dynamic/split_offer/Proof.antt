@@ -1,10 +1,10 @@
 use Rattle.arrangement.proofs.Ways.{shorter-taken, shorter-kept}
 use borrow.Author.Needs.{needs}
-use Rattle.arrangement.proofs.dynamic.spared_offer.Statement.{statement}
-use Rattle.arrangement.proofs.dynamic.spared_offer.Tie as tie
+use Rattle.arrangement.proofs.dynamic.split_offer.Statement.{statement}
+use Rattle.arrangement.proofs.dynamic.split_offer.Tie as tie
 
-pub spared-offer-spec : {M : Type 1} → statement M
-spared-offer-spec =
+pub split-offer-spec : {M : Type 1} → statement M
+split-offer-spec =
     tie.close
     (tie.spec
     (λ c. search needs)

@@ -1,10 +1,10 @@
 use borrow.Author.Needs.{needs}
 use Rattle.arrangement.proofs.Tries.{row-short, row-inside, row-enough, row-there}
-use Rattle.arrangement.proofs.after_split.of_row.Statement.{statement}
-use Rattle.arrangement.proofs.after_split.of_row.Tie as tie
+use Rattle.arrangement.proofs.after_split.longest_part_of_row.Statement.{statement}
+use Rattle.arrangement.proofs.after_split.longest_part_of_row.Tie as tie
 
-pub of-row-spec : {M : Type 1} → statement M
-of-row-spec =
+pub longest-part-of-row-spec : {M : Type 1} → statement M
+longest-part-of-row-spec =
     tie.close
     (tie.spec
     (λ c κs. search needs)
@@ -18,9 +18,9 @@ of-row-spec =
     (λ c. let y = c .before in
     let o = y .before .before in
     let e = o .before .before .before in
-    row-enough _ _ _ _ _ _ (e .before .before .skip .ensures) _ _ _ (e .if1 .left) (o .before .before .cell .ensures) (o .or-else .ensures) (y .before .of-lines .ensures) _ (y .saves-too-little .ensures) _ (c .if2 .taken))
+    row-enough _ _ _ _ _ _ (e .before .before .skip .ensures) _ _ _ (e .if1 .left) (o .before .before .cell .ensures) (o .or-else .ensures) (y .before .longest-part-of-lines .ensures) _ (y .saves-too-little .ensures) _ (c .if2 .taken))
     (λ c κs. search needs)
     (λ c. let y = c .before .before in
     let o = y .before .before in
     let e = o .before .before .before in
-    row-there _ _ _ _ _ _ (e .before .before .skip .ensures) _ _ _ (e .if1 .left) (o .before .before .cell .ensures) (o .or-else .ensures) (y .before .of-lines .ensures) _ (y .saves-too-little .ensures) _ (c .skip2 .ensures)))
+    row-there _ _ _ _ _ _ (e .before .before .skip .ensures) _ _ _ (e .if1 .left) (o .before .before .cell .ensures) (o .or-else .ensures) (y .before .longest-part-of-lines .ensures) _ (y .saves-too-little .ensures) _ (c .skip2 .ensures)))
