@@ -93,7 +93,8 @@ module _ (l : Layout) (t : Table) (d : Describes l t) where
             fits = add-lt setWidth (s .decided) i (omega (arith, d .few)) (a .fits) z;
             widths = take-set-lt (l .count) (s .widths) i (lifted w) h ∙ ap (λ (ws : List ℕ). set ws i (lifted w)) (a .widths);
             past = λ j k. getD-set-other (s .widths) i j (lifted w) 0 (λ e. omega arith) ∙ a .past j k;
-            noted = λ j k. by-place (λ (x : ℕ). x < l .count → decided l x (fixed s i w) ≡ not (isUndecided (fix i w u) x)) j i (λ q. now-noted) (λ n q. still-noted j q n) k;
+            noted = λ j k. by-place (λ (x : ℕ). x < l .count → decided l x (fixed s i w) ≡ not (isUndecided (fix i w u) x)) j i (λ q. now-noted)
+                (λ n q. still-noted j q n) k;
             seen = a .seen;
             counted = omega (arith, a .counted, count-add i (s .decided) z, zeros-set (u .widths) i (lifted w) (omega (arith, length-as)) was (omega arith));
             remaining = ap (λ (n : ℕ). n - w) (a .remaining);
@@ -109,25 +110,30 @@ module _ (l : Layout) (t : Table) (d : Describes l t) where
     visit-go i h false false o e n = absurd (unlike true refl (sym n))
 
   -- an undecided column is visited by the same rule
-  pub visit-agrees : (rule : Rule) (r : doc.Rule) → SameRule l t d rule r → (i : ℕ) → i < l .count → (s : State) (u : doc.State) → Agrees l t s u → Agrees l t (step rule l i s) (visit r i u)
+  pub visit-agrees : (rule : Rule) (r : doc.Rule) → SameRule l t d rule r → (i : ℕ) → i < l .count → (s : State) (u : doc.State) → Agrees l t s u
+      → Agrees l t (step rule l i s) (visit r i u)
   unfolding step visit
   visit-agrees rule r same i h s u a =
       let e : rule l i s ≡ r i (doc.average u) = same i s h (a .seen) ∙ ap (r i) (average-as s u a) in
       rw e (visit-go s u a i h (decided l i s) (isUndecided u i) (r i (doc.average u)) refl (a .noted i h))
 
-  pass-below : (rule : Rule) (r : doc.Rule) → SameRule l t d rule r → (s : State) (u : doc.State) → Agrees l t s u → (n : ℕ) → n ≤ l .count → Agrees l t (inOrder (step rule l) n s) (doc.pass r n u)
+  pass-below : (rule : Rule) (r : doc.Rule) → SameRule l t d rule r → (s : State) (u : doc.State) → Agrees l t s u → (n : ℕ) → n ≤ l .count
+      → Agrees l t (inOrder (step rule l) n s) (doc.pass r n u)
   unfolding inOrder doc.pass
   pass-below rule r same s u a zero h = a
-  pass-below rule r same s u a (suc n) h = visit-agrees rule r same n h (inOrder (step rule l) n s) (doc.pass r n u) (pass-below rule r same s u a n (omega arith))
+  pass-below rule r same s u a (suc n) h =
+      visit-agrees rule r same n h (inOrder (step rule l) n s) (doc.pass r n u) (pass-below rule r same s u a n (omega arith))
 
-  pub pass-agrees : (rule : Rule) (r : doc.Rule) → SameRule l t d rule r → (s : State) (u : doc.State) → Agrees l t s u → Agrees l t (pass rule l s) (doc.pass r (l .count) u)
+  pub pass-agrees : (rule : Rule) (r : doc.Rule) → SameRule l t d rule r → (s : State) (u : doc.State) → Agrees l t s u
+      → Agrees l t (pass rule l s) (doc.pass r (l .count) u)
   pass-agrees rule r same s u a = pass-below rule r same s u a (l .count) (omega arith)
 
   module _ (f : State → State) (begins : doc.State → Bool) (rule : Rule) (r : doc.Rule) (same : SameRule l t d rule r)
       (turn : (s : State) (u : doc.State) → Agrees l t s u → begins u ≡ true → f s ≡ pass rule l s)
       (stay : (s : State) (u : doc.State) → Agrees l t s u → begins u ≡ false → f s ≡ s) where
     -- a pass that leaves the set as it was has fixed no column
-    ends : (s : State) (u : doc.State) → Agrees l t s u → begins u ≡ true → pass rule l s .decided ≡ s .decided → Agrees l t (pass rule l s) (settled begins r (l .count) u)
+    ends : (s : State) (u : doc.State) → Agrees l t s u → begins u ≡ true → pass rule l s .decided ≡ s .decided
+        → Agrees l t (pass rule l s) (settled begins r (l .count) u)
     ends s u a b e =
         let p = pass-agrees rule r same s u a in
         let k : doc.undecided u ≤ doc.undecided (doc.pass r (l .count) u) = omega (arith, p .counted, a .counted, ap ones e) in
@@ -144,7 +150,9 @@ module _ (l : Layout) (t : Table) (d : Describes l t) where
     -- passes by the set are passes by the undecided count
     again-agrees : (k : ℕ) (s : State) (u : doc.State) → doc.undecided u < k → Agrees l t s u → Agrees l t (again k f s) (settled begins r (l .count) u)
     again-agrees zero s u h a = absurd (not-suc-le-zero h)
-    again-agrees (suc k) s u h a = go (begins u) (eqb (f s .decided) (s .decided)) refl refl (λ m. again-agrees k (pass rule l s) (doc.pass r (l .count) u) m (pass-agrees rule r same s u a))
+    again-agrees (suc k) s u h a =
+        go (begins u) (eqb (f s .decided) (s .decided)) refl refl
+        (λ m. again-agrees k (pass rule l s) (doc.pass r (l .count) u) m (pass-agrees rule r same s u a))
       where
         go : (b c : Bool) → begins u ≡ b → eqb (f s .decided) (s .decided) ≡ c
             → (doc.undecided (doc.pass r (l .count) u) < k → Agrees l t (again k f (pass rule l s)) (settled begins r (l .count) (doc.pass r (l .count) u)))
@@ -160,7 +168,8 @@ module _ (l : Layout) (t : Table) (d : Describes l t) where
             let e = stay s u a b in
             rw (again-stop k f s (rw e (eq-eqb (s .decided) (s .decided) refl)), e, settled-none begins r (l .count) u b) a
 
-    pub repeated-agrees : (s : State) (u : doc.State) → Agrees l t s u → Agrees l t (repeated f s) (passes begins r (length (t .columns)) (suc (length (t .columns))) u)
+    pub repeated-agrees : (s : State) (u : doc.State) → Agrees l t s u
+        → Agrees l t (repeated f s) (passes begins r (length (t .columns)) (suc (length (t .columns))) u)
     repeated-agrees s u a =
         let n = length-as s u a in
         rw (← d .count, passes-settled begins r (l .count) u n) (again-agrees (suc setWidth) s u (omega (arith, zeros-le (u .widths), d .few)) a)
@@ -168,7 +177,9 @@ module _ (l : Layout) (t : Table) (d : Describes l t) where
   -- steps 1 to 3
   pub step1-agrees : (s : State) (u : doc.State) → Agrees l t s u → Agrees l t (step1 l s) (doc.step1 t u)
   unfolding doc.step1
-  step1-agrees s u a = repeated-agrees (pass lowerRule l) (λ s. true) lowerRule (aboveAverage t) (lower-same l t d) (λ s u a e. refl) (λ s u a e. absurd (unlike true refl e)) s u a
+  step1-agrees s u a =
+      repeated-agrees (pass lowerRule l) (λ s. true) lowerRule (aboveAverage t) (lower-same l t d) (λ s u a e. refl)
+      (λ s u a e. absurd (unlike true refl e)) s u a
 
   pub step2-agrees : (s : State) (u : doc.State) → Agrees l t s u → Agrees l t (step2 l s) (doc.step2 t u)
   unfolding doc.step2
@@ -188,6 +199,9 @@ module _ (l : Layout) (t : Table) (d : Describes l t) where
           go true q = refl
           go false q = absurd (unlike true refl q)
 
-  pub step3-agrees : (parts : ℕ → ℕ → ℕ) → ((j a : ℕ) → j < l .count → parts j a ≡ longestPart t j a) → (s : State) (u : doc.State) → Agrees l t s u → Agrees l t (step3 parts l s) (doc.step3 t u)
+  pub step3-agrees : (parts : ℕ → ℕ → ℕ) → ((j a : ℕ) → j < l .count → parts j a ≡ longestPart t j a) → (s : State) (u : doc.State) → Agrees l t s u
+      → Agrees l t (step3 parts l s) (doc.step3 t u)
   unfolding doc.step3
-  step3-agrees parts p s u a = repeated-agrees (pass (splitRule parts) l) (λ s. true) (splitRule parts) (splitAtAverage t) (split-same l t d parts p) (λ s u a e. refl) (λ s u a e. absurd (unlike true refl e)) s u a
+  step3-agrees parts p s u a =
+      repeated-agrees (pass (splitRule parts) l) (λ s. true) (splitRule parts) (splitAtAverage t) (split-same l t d parts p) (λ s u a e. refl)
+      (λ s u a e. absurd (unlike true refl e)) s u a

@@ -30,5 +30,6 @@ longest-part-of-lines-spec =
     (λ c. let g = c .before in
     let r = g .before .before in
     let e = r .before .before .before in
-    lines-again _ _ _ _ _ _ _ _ _ _ (e .if1 .taken) (r .line .ensures) (g .before .longest-part-of-line .ensures) (g .greater .ensures) (c .next-line .ensures) (e .before .before .loop .inv))
+    let found = g .before .longest-part-of-line .ensures in
+    lines-again _ _ _ _ _ _ _ _ _ _ (e .if1 .taken) (r .line .ensures) found (g .greater .ensures) (c .next-line .ensures) (e .before .before .loop .inv))
     (λ c. lines-done _ _ _ _ _ _ (c .if1 .left) (c .before .before .loop .inv)))

@@ -18,9 +18,15 @@ longest-part-of-row-spec =
     (λ c. let y = c .before in
     let o = y .before .before in
     let e = o .before .before .before in
-    row-enough _ _ _ _ _ _ (e .before .before .skip .ensures) _ _ _ (e .if1 .left) (o .before .before .cell .ensures) (o .or-else .ensures) (y .before .longest-part-of-lines .ensures) _ (y .saves-too-little .ensures) _ (c .if2 .taken))
+    let skipped = e .before .before .skip .ensures in
+    let cell = o .before .before .cell .ensures in
+    let found = y .before .longest-part-of-lines .ensures in
+    row-enough _ _ _ _ _ _ skipped _ _ _ (e .if1 .left) cell (o .or-else .ensures) found _ (y .saves-too-little .ensures) _ (c .if2 .taken))
     (λ c κs. search needs)
     (λ c. let y = c .before .before in
     let o = y .before .before in
     let e = o .before .before .before in
-    row-there _ _ _ _ _ _ (e .before .before .skip .ensures) _ _ _ (e .if1 .left) (o .before .before .cell .ensures) (o .or-else .ensures) (y .before .longest-part-of-lines .ensures) _ (y .saves-too-little .ensures) _ (c .skip2 .ensures)))
+    let skipped = e .before .before .skip .ensures in
+    let cell = o .before .before .cell .ensures in
+    let found = y .before .longest-part-of-lines .ensures in
+    row-there _ _ _ _ _ _ skipped _ _ _ (e .if1 .left) cell (o .or-else .ensures) found _ (y .saves-too-little .ensures) _ (c .skip2 .ensures)))

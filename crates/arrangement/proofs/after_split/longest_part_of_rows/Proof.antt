@@ -22,10 +22,16 @@ longest-part-of-rows-spec =
     (λ c κs. search needs)
     (λ c. let y = c .before in
     let r = y .before .before .before .before in
-    rows-enough _ _ _ _ _ _ _ _ _ _ (r .before .if1 .taken) (r .row .ensures) (y .before .before .longest-part-of-row .ensures) (y .before .greater .ensures) (r .before .before .before .loop .inv) _ (y .saves-too-little .ensures) _ (c .if2 .taken))
+    let found = y .before .before .longest-part-of-row .ensures in
+    let greater = y .before .greater .ensures in
+    let so = r .before .before .before .loop .inv in
+    rows-enough _ _ _ _ _ _ _ _ _ _ (r .before .if1 .taken) (r .row .ensures) found greater so _ (y .saves-too-little .ensures) _ (c .if2 .taken))
     (λ c. search needs)
     (λ c. search needs)
     (λ c. let y = c .before .before in
     let r = y .before .before .before .before in
-    rows-again _ _ _ _ _ _ _ _ _ _ (r .before .if1 .taken) (r .row .ensures) (y .before .before .longest-part-of-row .ensures) (y .before .greater .ensures) (r .before .before .before .loop .inv) _ (y .saves-too-little .ensures) (c .before .if2 .left))
+    let found = y .before .before .longest-part-of-row .ensures in
+    let greater = y .before .greater .ensures in
+    let so = r .before .before .before .loop .inv in
+    rows-again _ _ _ _ _ _ _ _ _ _ (r .before .if1 .taken) (r .row .ensures) found greater so _ (y .saves-too-little .ensures) (c .before .if2 .left))
     (λ c. rows-done _ _ _ _ _ _ _ (c .if1 .left) (c .before .before .loop .inv)))
