@@ -101,7 +101,8 @@ module _ (l : Layout) (t : Table) (d : Describes l t) where
     set-todo v j k = getD-set-other (s .widths) i j v 0 (λ e. omega arith) ∙ b .todo j (omega arith)
 
     -- the others are decided as they were
-    now-known : (u : State) → decided l i u ≡ not (eqb (doc.first t i) 0) → ((j : ℕ) → j < i → decided l j u ≡ decided l j s) → (j : ℕ) → j < suc i → decided l j u ≡ not (eqb (doc.first t j) 0)
+    now-known : (u : State) → decided l i u ≡ not (eqb (doc.first t i) 0) → ((j : ℕ) → j < i → decided l j u ≡ decided l j s) → (j : ℕ) → j < suc i
+        → decided l j u ≡ not (eqb (doc.first t j) 0)
     now-known u e f j k =
         by-place (λ (x : ℕ). x < suc i → decided l x u ≡ not (eqb (doc.first t x) 0)) j i
         (λ q. e) (λ n q. f j (omega arith) ∙ b .known j (omega arith)) k
@@ -138,7 +139,8 @@ module _ (l : Layout) (t : Table) (d : Describes l t) where
           fits = b .fits;
           seen = b .seen;
           unspent = b .unspent;
-          done = λ j k. by-place (λ (x : ℕ). x < suc i → getD (s .widths) x 0 ≡ doc.first t x) j i (λ q. b .todo i (omega arith) ∙ sym v) (λ m q. b .done j (omega arith)) k;
+          done = λ j k. by-place (λ (x : ℕ). x < suc i → getD (s .widths) x 0 ≡ doc.first t x) j i (λ q. b .todo i (omega arith) ∙ sym v)
+              (λ m q. b .done j (omega arith)) k;
           todo = λ j k. b .todo j (omega arith);
           known = now-known s (rw v (open-visible e)) (λ j k. refl);
           out = λ j k. b .out j (omega arith);
@@ -158,7 +160,8 @@ module _ (l : Layout) (t : Table) (d : Describes l t) where
           unspent = omega (arith, b .unspent);
           done = set-done (lifted w) (sym v);
           todo = set-todo (lifted w);
-          known = now-known (fixed s i w) (rw (m, hidden-as l t d i h, e, bit-same i (s .decided) z)) (λ j k. rw (bit-other i j (s .decided) z (λ q. omega arith)));
+          known = now-known (fixed s i w) (rw (m, hidden-as l t d i h, e, bit-same i (s .decided) z))
+              (λ j k. rw (bit-other i j (s .decided) z (λ q. omega arith)));
           out = λ j k. bit-other i j (s .decided) z (λ q. omega arith) ∙ b .out j (omega arith);
           counted = omega (arith, b .counted, count-add i (s .decided) z, zeros-some (doc.first t) i (omega arith), length-shown e);
         }
@@ -171,7 +174,8 @@ module _ (l : Layout) (t : Table) (d : Describes l t) where
     unfolding evaluated step
     evaluated-begun = go (isHidden (columnAt t i)) refl
       where
-        go : (x : Bool) → isHidden (columnAt t i) ≡ x → Begun (suc i) (choose (isHidden (column l i)) (hide l i s) (choose (decided l i s) s (taking s i (first l i s))))
+        go : (x : Bool) → isHidden (columnAt t i) ≡ x
+            → Begun (suc i) (choose (isHidden (column l i)) (hide l i s) (choose (decided l i s) s (taking s i (first l i s))))
         go true e = rw (hidden-as l t d i h, e) (hide-begun e)
         go false e = let o = open-visible e in rw (o, hidden-as l t d i h, e) (taking-begun (first l i s) e (sym (first-as l t d i s h (b .seen) e)))
 
@@ -212,7 +216,9 @@ module _ (l : Layout) (t : Table) (d : Describes l t) where
         ext-getD 0 (take (l .count) (s .widths)) (map (doc.first t) (doc.numbers t)) (n ∙ sym length-first)
         (λ j h. (let k : j < l .count = omega arith in getD-take (l .count) (s .widths) j 0 k ∙ b .done j k ∙ sym (first-at j k)))
 
-    begun-agrees : (r q : ℕ) → r ≡ q → Agrees l t (record { widths = s .widths; decided = s .decided; remaining = r; visible = s .visible }) (record { widths = map (doc.first t) (doc.numbers t); remaining = q })
+    begun-agrees : (r q : ℕ) → r ≡ q
+        → Agrees l t (record { widths = s .widths; decided = s .decided; remaining = r; visible = s .visible })
+        (record { widths = map (doc.first t) (doc.numbers t); remaining = q })
     unfolding doc.visible doc.numbers
     begun-agrees r q e =
         record {
@@ -231,7 +237,9 @@ module _ (l : Layout) (t : Table) (d : Describes l t) where
     charged-as i r h = go (isHidden (columnAt t i)) (eqb (bit (s .decided) i) 1) refl refl
       where
         go : (x y : Bool) → isHidden (columnAt t i) ≡ x → eqb (bit (s .decided) i) 1 ≡ y
-            → choose (isHidden (column l i)) r (choose (eqb (bit (s .decided) i) 1) (r - (getD (s .widths) i 0 + padding (column l i))) (r - padding (column l i))) ≡ r - taken t i
+            → choose (isHidden (column l i)) r
+            (choose (eqb (bit (s .decided) i) 1) (r - (getD (s .widths) i 0 + padding (column l i))) (r - padding (column l i)))
+            ≡ r - taken t i
         go true y e q = rw (hidden-as l t d i h, e, taken-hidden t i e) (omega arith)
         go false true e q = rw (hidden-as l t d i h, e, q, taken-shown t i e, b .done i h, d .column i h)
         go false false e q =

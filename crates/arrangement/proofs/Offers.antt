@@ -13,11 +13,13 @@ use Rattle.rules.specs.declared.Column.{Column}
 use Rattle.rules.specs.Sheet.{Table, columnAt, isHidden}
 use Rattle.rules.specs.Style.{anyLeft, anyRight, anyJunction, bordersOf}
 use Rattle.rules.specs.Widths as doc
-use Rattle.rules.specs.Widths.{contentOf, percentOf, widthOf, valueOf, lowerWidth, upperWidth, absoluteWidth, covering, evaluate, aboveAverage, fittingAverage, splitAtAverage, longestPart}
+use Rattle.rules.specs.Widths.{contentOf, percentOf, widthOf, valueOf, lowerWidth, upperWidth, absoluteWidth, covering, evaluate, aboveAverage}
+use Rattle.rules.specs.Widths.{fittingAverage, splitAtAverage, longestPart}
 use Rattle.rules.proofs.Lists.{keep-yes, keep-no}
 use Rattle.constraint.specs.declared.Layout.{Layout}
 use Rattle.constraint.specs.declared.State.{State}
-use Rattle.constraint.specs.Widths.{choose, inOrder, column, longest, counting, visible, borders, percent, value, valued, lower, upper, average, Rule, absolute, covered, first}
+use Rattle.constraint.specs.Widths.{choose, inOrder, column, longest, counting, visible, borders, percent, value, valued, lower, upper, average, Rule}
+use Rattle.constraint.specs.Widths.{absolute, covered, first}
 use Rattle.arrangement.specs.Arrange.{trimmed, untargeted, lowerRule, fitRule, splitRule}
 use Rattle.arrangement.specs.Describes.{Describes}
 
@@ -43,7 +45,8 @@ module _ (l : Layout) (t : Table) (d : Describes l t) where
   visible-below zero h = refl
   visible-below (suc n) h = go (isHidden (columnAt t n)) refl (visible-below n (omega arith))
     where
-      go : (b : Bool) → isHidden (columnAt t n) ≡ b → inOrder (counting l) n 0 ≡ length (keep (shown t) (upFrom 0 n)) → counting l n (inOrder (counting l) n 0) ≡ length (keep (shown t) (upFrom 0 (suc n)))
+      go : (b : Bool) → isHidden (columnAt t n) ≡ b → inOrder (counting l) n 0 ≡ length (keep (shown t) (upFrom 0 n))
+          → counting l n (inOrder (counting l) n 0) ≡ length (keep (shown t) (upFrom 0 (suc n)))
       go true e i = rw (hidden-as n h, e, keep-no (shown t) n (ap not e)) i
       go false e i = rw (hidden-as n h, e, keep-yes (shown t) n (ap not e), length-append) (omega arith)
 
@@ -53,7 +56,9 @@ module _ (l : Layout) (t : Table) (d : Describes l t) where
 
   borders-as : (v : ℕ) → borders l v ≡ bordersOf (t .style) v
   unfolding bordersOf
-  borders-as v = let a = one-if (l .left) (anyLeft (t .style)) (d .left) in let b = one-if (l .right) (anyRight (t .style)) (d .right) in let c = between-if (l .junction) (anyJunction (t .style)) (v - 1) (d .junction) in cc
+  borders-as v =
+      let a = one-if (l .left) (anyLeft (t .style)) (d .left) in
+      let b = one-if (l .right) (anyRight (t .style)) (d .right) in let c = between-if (l .junction) (anyJunction (t .style)) (v - 1) (d .junction) in cc
 
   module _ (v : ℕ) (m : v ≡ length (doc.visible t)) where
     pub room-as : l .target - borders l v ≡ t .target - doc.borders t

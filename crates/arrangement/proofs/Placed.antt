@@ -43,10 +43,11 @@ module _ (f : ℕ → ℕ → ℕ) (ws : List ℕ) where
       let m : length (map (λ j. f j (getD ws j 0)) (upFrom 0 n)) ≡ n = length-map (upFrom 0 n) (λ j. f j (getD ws j 0)) ∙ length-upFrom 0 n in
       ext-getD 0 (take n (placed f n ws)) (map (λ j. f j (getD ws j 0)) (upFrom 0 n)) (k ∙ sym m)
       (λ j h. (let q : j < n = omega arith in
-      getD-take n (placed f n ws) j 0 q ∙ placed-below n j l q
-      ∙ sym (getD-map (λ j. f j (getD ws j 0)) (upFrom 0 n) j 0 0 (omega (arith, length-upFrom 0 n)) ∙ ap (λ (x : ℕ). f x (getD ws x 0)) (getD-upFrom 0 n j 0 q ∙ omega arith))))
+      let there = getD-map (λ j. f j (getD ws j 0)) (upFrom 0 n) j 0 0 (omega (arith, length-upFrom 0 n)) in
+      let number = getD-upFrom 0 n j 0 q ∙ omega arith in
+      getD-take n (placed f n ws) j 0 q ∙ placed-below n j l q ∙ sym (there ∙ ap (λ (x : ℕ). f x (getD ws x 0)) number)))
 
--- twelve widths of which those past the columns are 0
+-- as many widths as there can be columns, of which those past the columns are 0
 pub padded-as : (n : ℕ) (ws cs : List ℕ) → length ws ≡ mostColumns → n ≤ mostColumns → take n ws ≡ cs → ((j : ℕ) → n ≤ j → getD ws j 0 ≡ 0) → ws ≡ padded 0 cs
 unfolding padded
 padded-as n ws cs l h e p =

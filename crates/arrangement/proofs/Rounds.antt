@@ -17,7 +17,8 @@ use Rattle.arrangement.specs.Arrange.{again, repeated, fitRule, fitPass}
 use Rattle.rules.specs.Sheet.{mostColumns}
 
 -- what holds after i columns, by the columns
-pub order-induct : {A : Type 0} (P : ℕ → A → Type 0) (f : ℕ → A → A) (n : ℕ) (x : A) → ((i : ℕ) (y : A) → i < n → P i y → P (suc i) (f i y)) → P 0 x → P n (inOrder f n x)
+pub order-induct : {A : Type 0} (P : ℕ → A → Type 0) (f : ℕ → A → A) (n : ℕ) (x : A) → ((i : ℕ) (y : A) → i < n → P i y → P (suc i) (f i y)) → P 0 x
+    → P n (inOrder f n x)
 unfolding inOrder
 order-induct P f zero x h p = p
 order-induct P f (suc n) x h p = h n (inOrder f n x) (omega arith) (order-induct P f n x (λ i y l q. h i y (omega arith) q) p)
@@ -137,4 +138,5 @@ module _ (f : State → State) (end r : State) (more : Bool) (g : Going f end r 
     falls false z = omega (arith, left-falls r u grown z)
 
     pub round-less : left u + weight (not (eqb (u .decided) (r .decided))) < left r + weight more
-    round-less = subst (λ (b : Bool). left u + weight (not (eqb (u .decided) (r .decided))) < left r + weight b) (sym e) (falls (eqb (u .decided) (r .decided)) refl)
+    round-less =
+        subst (λ (b : Bool). left u + weight (not (eqb (u .decided) (r .decided))) < left r + weight b) (sym e) (falls (eqb (u .decided) (r .decided)) refl)

@@ -13,7 +13,8 @@ use Rattle.constraint.specs.declared.State.{State}
 use Rattle.constraint.specs.Widths.{choose, inOrder, column, decided, fixed, visible, pass}
 use Rattle.constraint.proofs.Cases.{if-true, if-false, if-eq, if-ne}
 use Rattle.arrangement.specs.declared.dynamic.Sharing.{Sharing}
-use Rattle.arrangement.specs.Arrange.{remaining, targeted, share, sharing, undecided, distributed, widened, widening, filled, finished, untargeted, begun, started, dynamic, arranged}
+use Rattle.arrangement.specs.Arrange.{remaining, targeted, share, sharing, undecided, distributed, widened, widening, filled, finished, untargeted}
+use Rattle.arrangement.specs.Arrange.{begun, started, dynamic, arranged}
 use Rattle.rules.specs.Sheet.{isHidden, mostColumns}
 
 -- r is whether part k takes one of the excess
@@ -32,7 +33,8 @@ module _ (t : Layout) (n parts i : ℕ) (x : Sharing) (r : Bool) where
   unfolding sharing
   sharing-decided e h = if-true (decided t i (x .state)) r x _ x e h refl
 
-  pub sharing-open : (k : ℕ) (u : State) → r ≡ decided t i (x .state) → r ≡ false → k ≡ share n parts (x .given) → u ≡ fixed (x .state) i k → _≡_ {A = Sharing} (record { state = u; given = x .given + 1 }) (sharing t n parts i x)
+  pub sharing-open : (k : ℕ) (u : State) → r ≡ decided t i (x .state) → r ≡ false → k ≡ share n parts (x .given) → u ≡ fixed (x .state) i k
+      → _≡_ {A = Sharing} (record { state = u; given = x .given + 1 }) (sharing t n parts i x)
   unfolding sharing
   sharing-open k u e h p q =
       if-false (decided t i (x .state)) r x _ _ e h
@@ -42,7 +44,8 @@ module _ (t : Layout) (n parts i : ℕ) (x : Sharing) (r : Bool) where
   unfolding widening
   widening-hidden e h = if-true (isHidden (column t i)) r x _ x e h refl
 
-  pub widening-visible : (k : ℕ) (u : State) → r ≡ isHidden (column t i) → r ≡ false → k ≡ share n parts (x .given) → u ≡ widened (x .state) i k → _≡_ {A = Sharing} (record { state = u; given = x .given + 1 }) (widening t n parts i x)
+  pub widening-visible : (k : ℕ) (u : State) → r ≡ isHidden (column t i) → r ≡ false → k ≡ share n parts (x .given) → u ≡ widened (x .state) i k
+      → _≡_ {A = Sharing} (record { state = u; given = x .given + 1 }) (widening t n parts i x)
   unfolding widening
   widening-visible k u e h p q =
       if-false (isHidden (column t i)) r x _ _ e h
@@ -76,7 +79,8 @@ unfolding widening
 widening-ahead t n parts i x y h e =
     subst (λ (z : Sharing). Ahead (i + 1) z) (sym e) (ahead-go (isHidden (column t i)) x i (share n parts (x .given)) (x .given + 1) h)
 
-pub targeted-at : (t : Layout) (s : State) (r : ℕ) → r ≡ remaining t s → _≡_ {A = State} (record { widths = s .widths; decided = s .decided; remaining = r; visible = s .visible }) (targeted t s)
+pub targeted-at : (t : Layout) (s : State) (r : ℕ) → r ≡ remaining t s
+    → _≡_ {A = State} (record { widths = s .widths; decided = s .decided; remaining = r; visible = s .visible }) (targeted t s)
 targeted-at t s r e = ap (λ (k : ℕ). record { widths = s .widths; decided = s .decided; remaining = k; visible = s .visible }) e
 
 module _ (t : Layout) (s : State) where
@@ -84,7 +88,8 @@ module _ (t : Layout) (s : State) where
   unfolding filled
   filled-none e = if-eq (s .visible) 0 s _ s e refl
 
-  pub filled-some : (x : Sharing) → (s .visible ≡ 0 → ⊥) → x ≡ inOrder (widening t (s .remaining) (s .visible)) (t .count) (record { state = s; given = 0 }) → x .state ≡ filled t s
+  pub filled-some : (x : Sharing) → (s .visible ≡ 0 → ⊥) → x ≡ inOrder (widening t (s .remaining) (s .visible)) (t .count) (record { state = s; given = 0 })
+      → x .state ≡ filled t s
   unfolding filled
   filled-some x h e = if-ne (s .visible) 0 s _ (x .state) h (ap (λ (z : Sharing). z .state) e)
 
@@ -103,7 +108,8 @@ module _ (t : Layout) (s : State) where
     unfolding finished
     finished-shared u h q = if-ne (undecided s) 0 _ _ u (λ e. h (z ∙ e)) q
 
-pub begun-at : (t : Layout) (v : ℕ) → v ≡ visible t → _≡_ {A = State} (record { widths = replicate mostColumns 0; decided = 0; remaining = 0; visible = v }) (begun t)
+pub begun-at : (t : Layout) (v : ℕ) → v ≡ visible t
+    → _≡_ {A = State} (record { widths = replicate mostColumns 0; decided = 0; remaining = 0; visible = v }) (begun t)
 begun-at t v e = ap (λ (k : ℕ). record { widths = replicate mostColumns 0; decided = 0; remaining = 0; visible = k }) e
 
 module _ (parts : ℕ → ℕ → ℕ) (t : Layout) (s u : State) (e : s ≡ started t) where
@@ -121,7 +127,8 @@ module _ (parts : ℕ → ℕ → ℕ) (t : Layout) (s u : State) (e : s ≡ sta
   arranged-dynamic h a q =
       if-ne (t .target) 0 _ _ u h (if-ne (t .arrangement) 0 _ _ u a (q ∙ ap (dynamic parts t) e))
 
-pub distributed-at : (t : Layout) (s : State) (parts total : ℕ) (x : Sharing) → parts ≡ undecided s → total ≡ max (s .remaining) parts → x ≡ inOrder (sharing t total parts) (t .count) (record { state = s; given = 0 }) → x .state ≡ distributed t s
+pub distributed-at : (t : Layout) (s : State) (parts total : ℕ) (x : Sharing) → parts ≡ undecided s → total ≡ max (s .remaining) parts
+    → x ≡ inOrder (sharing t total parts) (t .count) (record { state = s; given = 0 }) → x .state ≡ distributed t s
 unfolding distributed
 distributed-at t s parts total x e f q =
     ap (λ (z : Sharing). z .state) q

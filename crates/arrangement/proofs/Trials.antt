@@ -52,12 +52,16 @@ unfolding trialParts
 trial-short a d l = go (ltb a (textWidth l)) refl
   where
     go : (b : Bool) → ltb a (textWidth l) ≡ b → All (Short (lifted a)) (elim b as (λ x. List (List ℕ)) [ true ↦ split (lifted a) d l | false ↦ l ∷ [] ])
-    go true e = all-imp (λ m. (1 ≤ textWidth m) × (textWidth m ≤ lifted a)) (Short (lifted a)) (λ m k. k .1) (split (lifted a) d l) (split-fits (lifted a) d (omega arith) l)
+    go true e =
+        all-imp (λ m. (1 ≤ textWidth m) × (textWidth m ≤ lifted a)) (Short (lifted a)) (λ m k. k .1) (split (lifted a) d l)
+        (split-fits (lifted a) d (omega arith) l)
     go false e = (omega (arith, ltb-false a (textWidth l) e), tt)
 
 line-le : (a d : ℕ) (l : List ℕ) → ofLine a d l ≤ lifted a
 unfolding ofLine
-line-le a d l = greatest-le (lifted a) (map textWidth (trialParts a d l)) (all-map-imp (Short (lifted a)) (Most (lifted a)) textWidth (λ p h. h) (trialParts a d l) (trial-short a d l))
+line-le a d l =
+    greatest-le (lifted a) (map textWidth (trialParts a d l))
+    (all-map-imp (Short (lifted a)) (Most (lifted a)) textWidth (λ p h. h) (trialParts a d l) (trial-short a d l))
 
 pub lines-le : (a d : ℕ) (ls : List (List ℕ)) → ofLines a d ls ≤ lifted a
 lines-le a d [] = omega (arith, lines-nil a d)
@@ -99,8 +103,11 @@ module _ (t : Table) (j a : ℕ) where
     where
       go : (b : Bool) → greatest (map textWidth (flat (map (cellParts t j a) (cellsOf j rs)))) ≡ ofRows j a (otherwise t j) rs
           → greatest (map textWidth (flat (map (cellParts t j a) (elim b as (λ x. List Cell) [ true ↦ cellAt r j ∷ cellsOf j rs | false ↦ cellsOf j rs ]))))
-          ≡ max (elim b as (λ x. ℕ) [ true ↦ ofLines a (orElse (cellAt r j .delimiter) (otherwise t j)) (cellAt r j .lines) | false ↦ 0 ]) (ofRows j a (otherwise t j) rs)
-      go true i = parts-append (cellParts t j a (cellAt r j)) (flat (map (cellParts t j a) (cellsOf j rs))) ∙ ap (max (greatest (map textWidth (cellParts t j a (cellAt r j))))) i
+          ≡ max (elim b as (λ x. ℕ) [ true ↦ ofLines a (orElse (cellAt r j .delimiter) (otherwise t j)) (cellAt r j .lines) | false ↦ 0 ])
+          (ofRows j a (otherwise t j) rs)
+      go true i =
+          parts-append (cellParts t j a (cellAt r j)) (flat (map (cellParts t j a) (cellsOf j rs)))
+          ∙ ap (max (greatest (map textWidth (cellParts t j a (cellAt r j))))) i
       go false i = omega arith
 
   pub longest-part : longestPart t j a ≡ ofRows j a (otherwise t j) (allRows t)

@@ -85,10 +85,12 @@ module _ (s : List ℕ) (a d : ℕ) (all : Lines) where
   pub lines-begin : linesEnd s all ≤ length s → LinesSoFar s a d all all 0
   lines-begin h = record { whole = omega arith; inside = h }
 
-  pub lines-again : (c r : Lines) (l : List ℕ) (m n k : ℕ) → 0 < c .left → l ≡ firstLine s c → n ≡ ofLine a d l → k ≡ max m n → LinesNext s c r → LinesSoFar s a d all c m → LinesSoFar s a d all r k
+  pub lines-again : (c r : Lines) (l : List ℕ) (m n k : ℕ) → 0 < c .left → l ≡ firstLine s c → n ≡ ofLine a d l → k ≡ max m n → LinesNext s c r
+      → LinesSoFar s a d all c m → LinesSoFar s a d all r k
   lines-again c r l m n k some f e q next so =
       let w = drop-cons (linesIn s c) 0 [] (omega (arith, lines-number s c)) in
-      let g : ofLines a d (linesIn s c) ≡ max n (ofLines a d (linesIn s r)) = ap (ofLines a d) w ∙ lines-cons a d (firstLine s c) (drop 1 (linesIn s c)) ∙ rw (e, f, next .lines) in
+      let g : ofLines a d (linesIn s c) ≡ max n (ofLines a d (linesIn s r)) = ap (ofLines a d) w ∙ lines-cons a d (firstLine s c) (drop 1 (linesIn s c))
+      ∙ rw (e, f, next .lines) in
       record { whole = omega (arith, so .whole, g); inside = omega (arith, so .inside, next .ends) }
 
   pub lines-enough : (c : Lines) (m : ℕ) (b : Bool) → b ≡ ltb a (m + 3) → b ≡ true → LinesSoFar s a d all c m → Enough a (ofLines a d (linesIn s all)) m
@@ -143,7 +145,8 @@ module _ (s : List ℕ) (all : Cells) (n : ℕ) where
 -- ---- a row
 
 -- the cell's lines are inside the sheet
-pub row-inside : (s : List ℕ) (all c : Cells) (j : ℕ) (x : Cell) → Skipped s all j c → (c .left ≡ 0 → ⊥) → CellIs s c x → cellsEnd s all ≤ length s → linesEnd s (x .lines) ≤ length s
+pub row-inside : (s : List ℕ) (all c : Cells) (j : ℕ) (x : Cell) → Skipped s all j c → (c .left ≡ 0 → ⊥) → CellIs s c x → cellsEnd s all ≤ length s
+    → linesEnd s (x .lines) ≤ length s
 row-inside s all c j x skipped n is h = omega (arith, is .ends, cell-whole s c (omega arith) (omega (arith, skipped .ends)))
 
 module _ (s : List ℕ) (all : Cells) (j a d : ℕ) (c : Cells) (skipped : Skipped s all j c) where
@@ -154,7 +157,8 @@ module _ (s : List ℕ) (all : Cells) (j a d : ℕ) (c : Cells) (skipped : Skipp
         ends = λ k. sym (cells-none s c (omega arith)) ∙ skipped .ends;
       }
 
-  module _ (x : Cell) (e m : ℕ) (n : c .left ≡ 0 → ⊥) (is : CellIs s c x) (q : e ≡ orElse (x .delimiter) d) (f : Enough a (ofLines a e (linesIn s (x .lines))) m) (b : Bool) (u : b ≡ ltb a (m + 3)) where
+  module _ (x : Cell) (e m : ℕ) (n : c .left ≡ 0 → ⊥) (is : CellIs s c x) (q : e ≡ orElse (x .delimiter) d)
+      (f : Enough a (ofLines a e (linesIn s (x .lines))) m) (b : Bool) (u : b ≡ ltb a (m + 3)) where
     row-cell : Enough a (ofCells j a d (cellsIn s all)) m
     row-cell =
         let k = cells-number s all in
@@ -196,7 +200,8 @@ module _ (s : List ℕ) (j a d : ℕ) (all : Rows) where
   row-fits c row m some is so = omega (arith, is .ends, row-whole s c some (so .inside))
 
   -- the walk ends after a row, or goes on
-  module _ (c : Rows) (row : Row) (found : Tried) (m k : ℕ) (some : 0 < c .left) (is : RowIs s c row) (tried : RowTried s (row .cells) j a d found) (q : k ≡ max m (found .longest)) (so : RowsSoFar s j a d all c m) (b : Bool) (u : b ≡ ltb a (k + 3)) where
+  module _ (c : Rows) (row : Row) (found : Tried) (m k : ℕ) (some : 0 < c .left) (is : RowIs s c row) (tried : RowTried s (row .cells) j a d found)
+      (q : k ≡ max m (found .longest)) (so : RowsSoFar s j a d all c m) (b : Bool) (u : b ≡ ltb a (k + 3)) where
     rows-first : ofRows j a d (rowsIn s c) ≡ max (ofCells j a d (cellsIn s (row .cells))) (ofRows j a d (drop 1 (rowsIn s c)))
     rows-first =
         let w = drop-cons (rowsIn s c) 0 noRow (omega (arith, rows-number s c)) in
@@ -209,8 +214,13 @@ module _ (s : List ℕ) (j a d : ℕ) (all : Rows) where
     rows-again f =
         let l = saves-three a k b u f in
         let next = rows-next s c some (found .end) (tried .ends (omega arith) ∙ is .ends) in
-        let g : ofRows j a d (rowsIn s (record { at = found .end; left = c .left - 1 })) ≡ ofRows j a d (drop 1 (rowsIn s c)) = ap (ofRows j a d) (next .rows) in
-        record { whole = omega (arith, so .whole, rows-first, g, tried .longest .all (omega arith)); ends = next .ends ∙ so .ends; inside = omega (arith, so .inside, next .ends) }
+        let g : ofRows j a d (rowsIn s (record { at = found .end; left = c .left - 1 })) ≡ ofRows j a d (drop 1 (rowsIn s c)) = ap (ofRows j a d)
+        (next .rows) in
+        record {
+          whole = omega (arith, so .whole, rows-first, g, tried .longest .all (omega arith));
+          ends = next .ends ∙ so .ends;
+          inside = omega (arith, so .inside, next .ends);
+        }
 
   pub rows-done : (c : Rows) (m : ℕ) → c .left ≤ 0 → RowsSoFar s j a d all c m → RowsTried s all j a d (record { longest = m; end = c .at })
   rows-done c m h so =
@@ -223,7 +233,8 @@ module _ (s : List ℕ) (j a d : ℕ) (all : Rows) where
 pub header-inside : (s : List ℕ) (c : Rows) → Passes s → rowsEnd s c ≡ rowsPlace s → rowsEnd s c ≤ length s
 header-inside s c h e = omega (arith, room s h .inside)
 
-pub header-behind : (s : List ℕ) (c : Rows) (j a d : ℕ) (r : Tried) (b : Bool) → b ≡ ltb a (r .longest + 3) → b ≡ false → RowsTried s c j a d r → rowsEnd s c ≡ rowsPlace s → rowsEnd s (record { at = r .end; left = 0 }) ≡ rowsPlace s
+pub header-behind : (s : List ℕ) (c : Rows) (j a d : ℕ) (r : Tried) (b : Bool) → b ≡ ltb a (r .longest + 3) → b ≡ false → RowsTried s c j a d r
+    → rowsEnd s c ≡ rowsPlace s → rowsEnd s (record { at = r .end; left = 0 }) ≡ rowsPlace s
 header-behind s c j a d r b q f tried e = rows-none s (record { at = r .end; left = 0 }) (omega arith) ∙ tried .ends (saves-three a (r .longest) b q f) ∙ e
 
 -- m of the header and n of the rows
@@ -235,18 +246,21 @@ pub tried-le : (s : List ℕ) (j a d : ℕ) (c : Rows) (r : Tried) → RowsTried
 tried-le s j a d c r x = omega (arith, x .longest .part, rows-le j a d (rowsIn s c))
 
 -- after the header alone, and after header and rows
-module _ (s : List ℕ) (j a d : ℕ) (h : Rows) (first : Tried) (x : RowsTried s h j a d first) (t : Table) (f : rowsIn s h ≡ t .header) (o : d ≡ otherwise t j) where
+module _ (s : List ℕ) (j a d : ℕ) (h : Rows) (first : Tried) (x : RowsTried s h j a d first) (t : Table) (f : rowsIn s h ≡ t .header)
+    (o : d ≡ otherwise t j) where
   both : longestPart t j a ≡ max (ofRows j a d (rowsIn s h)) (ofRows j a d (t .rows))
   both = longest-part t j a ∙ rw (← o, f) (rows-append j a d (t .header) (t .rows))
 
   pub tried-header : (b : Bool) → b ≡ ltb a (first .longest + 3) → b ≡ true → shorterBy3 (first .longest) a ≡ shorterBy3 (longestPart t j a) a
   tried-header b e k = enough-spares a (longestPart t j a) (first .longest) (part-enough a (first .longest) b e _ k (omega (arith, both, x .longest .part)))
 
-  pub tried-both : (c : Rows) (others : Tried) (m : ℕ) → RowsTried s c j a d others → m ≡ max (first .longest) (others .longest) → rowsIn s c ≡ t .rows → shorterBy3 m a ≡ shorterBy3 (longestPart t j a) a
+  pub tried-both : (c : Rows) (others : Tried) (m : ℕ) → RowsTried s c j a d others → m ≡ max (first .longest) (others .longest) → rowsIn s c ≡ t .rows
+      → shorterBy3 m a ≡ shorterBy3 (longestPart t j a) a
   tried-both c others m y e g =
       enough-spares a (longestPart t j a) m (rw (e, both, ← g) (both-enough a _ _ _ _ (x .longest) (y .longest)))
 
 -- the delimiter where a cell sets none
-pub otherwise-is : (t : Table) (j : ℕ) (c : Column) (x : Settings) (p q : ℕ) → c ≡ columnAt t j → x ≡ settingsOf t → p ≡ orElse (x .delimiter) 32 → q ≡ orElse (c .delimiter) p → q ≡ otherwise t j
+pub otherwise-is : (t : Table) (j : ℕ) (c : Column) (x : Settings) (p q : ℕ) → c ≡ columnAt t j → x ≡ settingsOf t → p ≡ orElse (x .delimiter) 32
+    → q ≡ orElse (c .delimiter) p → q ≡ otherwise t j
 unfolding settingsOf
 otherwise-is t j c x p q e f g h = h ∙ rw (g, e, f)

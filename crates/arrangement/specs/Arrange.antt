@@ -8,7 +8,8 @@ use lib.Count.{ones}
 use Rattle.rules.specs.declared.Column.{Column}
 use Rattle.constraint.specs.declared.Layout.{Layout}
 use Rattle.constraint.specs.declared.State.{State}
-use Rattle.constraint.specs.Widths.{choose, inOrder, column, longest, visible, borders, lower, upper, average, setWidth, bit, decided, fixed, Rule, pass, evaluated}
+use Rattle.constraint.specs.Widths.{choose, inOrder, column, longest, visible, borders, lower, upper, average, setWidth, bit, decided, fixed, Rule, pass}
+use Rattle.constraint.specs.Widths.{evaluated}
 use Rattle.arrangement.specs.declared.dynamic.Sharing.{Sharing}
 use Rattle.rules.specs.Sheet.{mostColumns, padding, isHidden}
 use Rattle.rules.specs.Widths.{contentOf, withinAverage, shorterBy3}

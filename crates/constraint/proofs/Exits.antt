@@ -18,7 +18,8 @@ use Rattle.constraint.specs.declared.Bound.{Bound}
 use Rattle.constraint.specs.declared.Bound.the-variants.{At}
 use Rattle.constraint.specs.declared.Offer.{Offer}
 use Rattle.constraint.specs.declared.Offer.the-variants.{Take}
-use Rattle.constraint.specs.Widths.{choose, column, longest, borders, percent, bound, offered, value, valued, lower, upper, bit, fixed, taking, step, absolute, covered, first, hide, evaluated}
+use Rattle.constraint.specs.Widths.{choose, column, longest, borders, percent, bound, offered, value, valued, lower, upper, bit, fixed, taking}
+use Rattle.constraint.specs.Widths.{step, absolute, covered, first, hide, evaluated}
 use Rattle.constraint.proofs.Cases.{if-true, if-ne}
 use Rattle.rules.specs.Sheet.{padding, isHidden}
 use Rattle.rules.specs.Widths.{lifted, lowerWidth, upperWidth, covering}

@@ -2,7 +2,8 @@
 ghost use mathlib.Core.Path.{_≡_};
 ghost use Prim.Native.Nat.{_+_, _-_, _≤_, _<_};
 ghost use lib.Dec.{eqb};
-ghost use Rattle.constraint.specs.Widths.{choose, visible, borders, percent, bound, offered, value, lower, upper, average, bit, decided, fixed, taking, absolute, covered, first, evaluated, hide, setWidth};
+ghost use Rattle.constraint.specs.Widths.{choose, visible, borders, percent, bound, offered, value, lower, upper, average, setWidth, bit};
+ghost use Rattle.constraint.specs.Widths.{decided, fixed, taking, absolute, covered, first, evaluated, hide};
 ghost use Rattle.rules.specs.Sheet.{mostColumns, isHidden};
 use rules::Column;
 use rules::MOST_COLUMNS;

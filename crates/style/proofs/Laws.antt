@@ -45,5 +45,6 @@ pub more-3 : (x : Bool) (e f : ℕ) → x ≡ false → e ≡ 0 → not (eqb f 0
 more-3 x e f g h = rw (g, h, given-test f)
 
 -- padding taken off, and 0 made 1
-pub content-at : (c : Column) (w : ConstraintWidth) (p n m : ℕ) → p ≡ padding c → n ≡ w .0 - p → m ≡ max 1 n → _≡_ {A = ContentWidth} (record { 0 = m }) (content c w)
+pub content-at : (c : Column) (w : ConstraintWidth) (p n m : ℕ) → p ≡ padding c → n ≡ w .0 - p → m ≡ max 1 n
+    → _≡_ {A = ContentWidth} (record { 0 = m }) (content c w)
 content-at c w p n m e f g = ap {B = ContentWidth} (λ (x : ℕ). record { 0 = x }) (g ∙ rw (f, e))

@@ -26,7 +26,8 @@ longest-line-after-split-spec =
     let e = h .before in
     let column = e .before .before .before .before .pre .1 in
     let delimiter = otherwise-is _ _ _ _ _ _ column (e .before .before .settings .ensures) (e .before .or-else .ensures) (e .or-else2 .ensures) in
-    tried-header _ _ _ _ _ _ (y .before .longest-part-of-rows .ensures) _ (h .header .ensures .0) delimiter _ (y .saves-too-little .ensures) (c .before .if1 .taken))
+    tried-header _ _ _ _ _ _ (y .before .longest-part-of-rows .ensures) _ (h .header .ensures .0) delimiter _ (y .saves-too-little .ensures)
+    (c .before .if1 .taken))
     (λ c κs. let y = c .before in
     let h = y .before .before in
     let accepted = h .before .before .before .before .before .pre .0 in
