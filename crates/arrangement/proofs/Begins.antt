@@ -15,7 +15,7 @@ use Rattle.rules.specs.Text.{upFrom, keep, sum}
 use Rattle.rules.specs.Sheet.{Table, columnAt, padding, isHidden, mostColumns}
 use Rattle.rules.specs.Widths as doc
 use Rattle.rules.specs.Widths.{lifted, zeros, evaluate, noted, taken}
-use Rattle.rules.proofs.Lists.{getD-map, getD-upFrom, length-upFrom, upFrom-last, map-append, keep-yes, keep-no}
+use Rattle.rules.proofs.Lists.{getD-map, getD-upFrom, length-upFrom, keep-yes, keep-no}
 use Rattle.constraint.specs.declared.Layout.{Layout}
 use Rattle.constraint.specs.declared.State.{State}
 use Rattle.constraint.specs.Widths.{choose, inOrder, column, longest, borders, bit, decided, fixed, taking, step, first, hide, evaluated, visible, setWidth}
@@ -26,6 +26,7 @@ use Rattle.arrangement.proofs.Rounds.{order-induct}
 use Rattle.arrangement.proofs.Cases.{by-place, not-true}
 use Rattle.arrangement.proofs.Offers.{shown, hidden-as, visible-as, room-as, first-as}
 use Rattle.arrangement.proofs.Agrees.{Agrees}
+use Rattle.arrangement.proofs.Placed.{map-last}
 
 pub zeros-append : (xs ys : List ℕ) → zeros (xs ++ ys) ≡ zeros xs + zeros ys
 unfolding zeros
@@ -38,10 +39,6 @@ unfolding sum
 sum-append [] ys = omega arith
 sum-append (x ∷ xs) ys = omega (arith, sum-append xs ys)
 
--- one column more
-map-last : (f : ℕ → ℕ) (n : ℕ) → map f (upFrom 0 (suc n)) ≡ map f (upFrom 0 n) ++ (f n ∷ [])
-map-last f n = let e : 0 + n ≡ n = omega arith in rw (upFrom-last, e) (map-append f (upFrom 0 n) (n ∷ []))
-
 sum-last : (f : ℕ → ℕ) (n : ℕ) → sum (map f (upFrom 0 (suc n))) ≡ sum (map f (upFrom 0 n)) + f n
 unfolding sum
 sum-last f n = ap sum (map-last f n) ∙ sum-append (map f (upFrom 0 n)) (f n ∷ []) ∙ omega arith
@@ -50,13 +47,15 @@ zeros-none : (f : ℕ → ℕ) (n : ℕ) → f n ≡ 0 → zeros (map f (upFrom 
 unfolding zeros
 zeros-none f n e = ap zeros (map-last f n) ∙ zeros-append (map f (upFrom 0 n)) (f n ∷ []) ∙ rw e
 
-zeros-some : (f : ℕ → ℕ) (n : ℕ) → 1 ≤ f n → zeros (map f (upFrom 0 (suc n))) ≡ zeros (map f (upFrom 0 n))
+pub zeros-one : (x : ℕ) → (x ≡ 0 → ⊥) → zeros (x ∷ []) ≡ 0
 unfolding zeros
-zeros-some f n h = ap zeros (map-last f n) ∙ zeros-append (map f (upFrom 0 n)) (f n ∷ []) ∙ omega (arith, none-in (f n) h)
-  where
-    none-in : (x : ℕ) → 1 ≤ x → zeros (x ∷ []) ≡ 0
-    none-in zero k = absurd (not-suc-le-zero k)
-    none-in (suc x) k = refl
+zeros-one zero n = absurd (n refl)
+zeros-one (suc x) n = refl
+
+zeros-some : (f : ℕ → ℕ) (n : ℕ) → 1 ≤ f n → zeros (map f (upFrom 0 (suc n))) ≡ zeros (map f (upFrom 0 n))
+zeros-some f n h =
+    let e = zeros-one (f n) (λ z. omega arith) in
+    ap zeros (map-last f n) ∙ zeros-append (map f (upFrom 0 n)) (f n ∷ []) ∙ omega (arith, e)
 
 -- `Hidden` takes the longest
 evaluate-hidden : (t : Table) (j : ℕ) → isHidden (columnAt t j) ≡ true → evaluate t j ≡ some (doc.longest t j)

@@ -28,7 +28,7 @@ use Rattle.arrangement.proofs.Rounds.{order-induct}
 use Rattle.arrangement.proofs.Cases.{by-place, unlike, not-true}
 use Rattle.arrangement.proofs.Offers.{shown, hidden-as, untrimmed, untargeted-same}
 use Rattle.arrangement.proofs.Agrees.{Agrees, length-as, width-as, pass-agrees}
-use Rattle.arrangement.proofs.Begins.{started-agrees, first-at, zeros-append}
+use Rattle.arrangement.proofs.Begins.{started-agrees, first-at, zeros-append, zeros-one}
 use Rattle.arrangement.proofs.Placed.{placed, length-placed, placed-above, placed-take}
 
 -- the widths of the columns are cs, and none stands past them
@@ -54,11 +54,6 @@ orElse-noted (suc w) v n = refl
 zeros-take-none : (ws : List ℕ) (i : ℕ) → i < length ws → getD ws i 0 ≡ 0 → zeros (take (suc i) ws) ≡ zeros (take i ws) + 1
 unfolding zeros
 zeros-take-none ws i h e = ap zeros (take-suc ws i 0 h) ∙ zeros-append (take i ws) (getD ws i 0 ∷ []) ∙ rw e
-
-zeros-one : (x : ℕ) → (x ≡ 0 → ⊥) → zeros (x ∷ []) ≡ 0
-unfolding zeros
-zeros-one zero n = absurd (n refl)
-zeros-one (suc x) n = refl
 
 zeros-take-some : (ws : List ℕ) (i : ℕ) → i < length ws → (getD ws i 0 ≡ 0 → ⊥) → zeros (take (suc i) ws) ≡ zeros (take i ws)
 zeros-take-some ws i h n = ap zeros (take-suc ws i 0 h) ∙ zeros-append (take i ws) (getD ws i 0 ∷ []) ∙ omega (arith, zeros-one (getD ws i 0) n)

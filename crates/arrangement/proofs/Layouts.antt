@@ -1,5 +1,5 @@
 -- A layout that is read from a sheet describes its table, and what is arranged by it is the table's widths. Assumes nothing.
-use Prim.Native.Nat.{ℕ, zero, suc, _+_, _-_, _≤_, _<_}
+use Prim.Native.Nat.{ℕ, zero, suc, _-_, _≤_, _<_}
 use mathlib.Core.Path.{_≡_, refl, sym, ap, _∙_}
 use mathlib.Core.List.{List, [], _∷_, _++_, map, append-assoc}
 use mathlib.Core.Bool.{Bool, false}
@@ -13,7 +13,7 @@ use Rattle.rules.specs.Style.{anyLeft, anyRight, anyJunction}
 use Rattle.rules.specs.Calls.{padded}
 use Rattle.rules.specs.Widths as doc
 use Rattle.rules.specs.Widths.{longestPart, contents}
-use Rattle.rules.proofs.Lists.{getD-map, getD-upFrom, length-upFrom, upFrom-last, map-append, map-below}
+use Rattle.rules.proofs.Lists.{getD-map, getD-upFrom, length-upFrom, map-below}
 use Rattle.style.specs.Bytes.{bytesOf}
 use Rattle.style.specs.declared.table_style.LineStyle.{LineStyle}
 use Rattle.style.specs.declared.table_style.ContentLineStyle.{ContentLineStyle}
@@ -30,6 +30,7 @@ use Rattle.arrangement.specs.Describes.{Describes}
 use Rattle.arrangement.specs.Widths.{lineFrom, contentFrom, styleFrom, marking, marked, widthsOf}
 use Rattle.arrangement.proofs.Offers.{hidden-as}
 use Rattle.arrangement.proofs.Arranged.{arranged-contents}
+use Rattle.arrangement.proofs.Placed.{map-last}
 
 -- six parts of a style
 pub style-at : (S : List ℕ) (a : LineStyle) (b : ContentLineStyle) (c : LineStyle) (d : ContentLineStyle) (e f : LineStyle)
@@ -90,9 +91,6 @@ module _ (t : Table) (limits : TableLimits t) (x : Columns) (columns : x ≡ col
       }
 
 -- flags set one after another
-flags-last : (p : ℕ → Bool) (n : ℕ) → map p (upFrom 0 (suc n)) ≡ map p (upFrom 0 n) ++ (p n ∷ [])
-flags-last p n = let e : 0 + n ≡ n = omega arith in rw (upFrom-last, e) (map-append p (upFrom 0 n) (n ∷ []))
-
 set-padded : (n : ℕ) (xs : List Bool) (v : Bool) → length xs ≡ n → n < mostColumns → set (padded false xs) n v ≡ padded false (xs ++ (v ∷ []))
 unfolding padded
 set-padded n xs v k h =
@@ -115,7 +113,7 @@ flags-padded p zero h = none-padded ∙ ap (padded false) (sym (flags-none p))
 flags-padded p (suc n) h =
     let k : length (map p (upFrom 0 n)) ≡ n = length-map (upFrom 0 n) p ∙ length-upFrom 0 n in
     ap (λ (fs : List Bool). set fs n (p n)) (flags-padded p n (omega arith)) ∙ set-padded n (map p (upFrom 0 n)) (p n) k h
-    ∙ ap (padded false) (sym (flags-last p n))
+    ∙ ap (padded false) (sym (map-last p n))
 
 -- a column is marked
 pub marking-at : (l : Layout) (i : ℕ) (fs : List Bool) (b : Bool) → b ≡ isHidden (column l i) → set fs i b ≡ marking l i fs

@@ -1,7 +1,7 @@
 -- Widths placed one after another, each by its column and what was noted there. Assumes nothing.
 use Prim.Native.Nat.{ℕ, zero, suc, _+_, _-_, _≤_, _<_}
 use mathlib.Core.Path.{_≡_, refl, sym, ap, _∙_}
-use mathlib.Core.List.{List, map}
+use mathlib.Core.List.{List, [], _∷_, _++_, map}
 use native.Mathlib.Nat.{not-suc-le-zero}
 use native.Mathlib.Omega.{arith}
 use lib.ListN.{length, getD, take, drop, set, replicate, length-set, length-take, length-drop, length-map, getD-replicate, take-append-drop, length-replicate}
@@ -9,8 +9,12 @@ use lib.Seq.{getD-set-same, getD-set-other, getD-take, getD-drop, ext-getD}
 use Rattle.rules.specs.Text.{upFrom}
 use Rattle.rules.specs.Calls.{padded}
 use Rattle.rules.specs.Sheet.{mostColumns}
-use Rattle.rules.proofs.Lists.{getD-map, getD-upFrom, length-upFrom}
+use Rattle.rules.proofs.Lists.{getD-map, getD-upFrom, length-upFrom, upFrom-last, map-append}
 use Rattle.arrangement.proofs.Cases.{by-place}
+
+-- one number more
+pub map-last : {A : Type 0} (f : ℕ → A) (n : ℕ) → map f (upFrom 0 (suc n)) ≡ map f (upFrom 0 n) ++ (f n ∷ [])
+map-last f n = let e : 0 + n ≡ n = omega arith in rw (upFrom-last, e) (map-append f (upFrom 0 n) (n ∷ []))
 
 -- the first n places hold f of the place and of what stood there
 unfoldable pub placed : (ℕ → ℕ → ℕ) → ℕ → List ℕ → List ℕ

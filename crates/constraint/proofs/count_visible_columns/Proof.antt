@@ -1,6 +1,5 @@
 use Rattle.constraint.proofs.Exits.{counted-le}
 use borrow.Author.Needs.{needs}
-use mathlib.Core.Path.{_≡_}
 use Prim.Native.Nat.{_-_, _≤_}
 use native.Mathlib.Omega.{arith}
 use Rattle.constraint.specs.Widths.{column, counting, visible}
