@@ -6,8 +6,7 @@ use native.Mathlib.Nat.{div-le-self, div-add-mod', mul-le-mul-left}
 use native.Mathlib.Omega.{arith}
 use lib.ListN.{getD, replicate}
 use lib.Seq.{getD-set-other}
-use lib.Dec.{ltb}
-use borrow.Author.Tests.{ltb-true}
+use borrow.Author.Tests.{lt-ltb, le-ltb}
 use Rattle.constraint.specs.declared.Layout.{Layout}
 use Rattle.constraint.specs.declared.State.{State}
 use Rattle.constraint.specs.Widths.{choose, inOrder, column, decided, fixed, visible, pass}
@@ -17,16 +16,19 @@ use Rattle.arrangement.specs.Arrange.{remaining, targeted, share, sharin
 use Rattle.arrangement.specs.Arrange.{begun, started, dynamic, arranged}
 use Rattle.rules.specs.Sheet.{isHidden, mostColumns}
 
--- r is whether part k takes one of the excess
-module _ (n parts k : ℕ) (r : Bool) (e : r ≡ ltb k (n % parts)) where
-  pub share-more : 0 < parts → r ≡ true → n / parts + 1 ≤ n
-  share-more h t = omega (arith, ltb-true k (n % parts) (sym e ∙ t), div-add-mod' n parts, mul-le-mul-left (n / parts) h)
+pub share-more : (n parts k : ℕ) → 0 < parts → k < n % parts → n / parts + 1 ≤ n
+share-more n parts k h l = omega (arith, div-add-mod' n parts, mul-le-mul-left (n / parts) h)
 
-  pub share-first : 0 < parts → r ≡ true → (n / parts + 1 ≡ share n parts k) × (n / parts + 1 ≤ n)
-  share-first h t = (if-true (ltb k (n % parts)) r (n / parts + 1) (n / parts) (n / parts + 1) e t refl, share-more h t)
+-- the part that takes one of the excess, and the others
+module _ (n parts k : ℕ) where
+  abbrev part : Bool → ℕ
+  part b = choose b (n / parts + 1) (n / parts)
 
-  pub share-rest : r ≡ false → (n / parts ≡ share n parts k) × (n / parts ≤ n)
-  share-rest f = (if-false (ltb k (n % parts)) r (n / parts + 1) (n / parts) (n / parts) e f refl, div-le-self n parts)
+  pub share-first : 0 < parts → k < n % parts → (n / parts + 1 ≡ share n parts k) × (n / parts + 1 ≤ n)
+  share-first h l = (ap part (sym (lt-ltb k (n % parts) l)), share-more n parts k h l)
+
+  pub share-rest : n % parts ≤ k → (n / parts ≡ share n parts k) × (n / parts ≤ n)
+  share-rest l = (ap part (sym (le-ltb k (n % parts) l)), div-le-self n parts)
 
 module _ (t : Layout) (n parts i : ℕ) (x : Sharing) (r : Bool) where
   pub sharing-decided : r ≡ decided t i (x .state) → r ≡ true → x ≡ sharing t n parts i x

@@ -1,7 +1,6 @@
 // Widths that are to make up a target: comfy-table's `arrangement/dynamic.rs`.
 ghost use mathlib.Core.Path.{_≡_};
-ghost use Prim.Native.Nat.{_+_, _%_, _≤_, _<_};
-ghost use lib.Dec.{ltb};
+ghost use Prim.Native.Nat.{_+_, _≤_, _<_};
 ghost use lib.ListN.{getD};
 ghost use Rattle.constraint.specs.Widths.{bound, offered, pass, step, average};
 ghost use Rattle.arrangement.specs.Limits.{Small};
@@ -254,21 +253,13 @@ fn optimize_space_after_split(sheet: &[u8], t: Layout, s: State) -> State
     r
 }
 
-// The first parts take the excess, 1 each.
-fn takes_excess(n: u16, parts: u16, k: u16) -> bool
-    requires { ⌜ 0 < parts ⌝ }
-    ensures { λ r. ⌜ r ≡ ltb k (n % parts) ⌝ }
-{
-    k < n % parts
-}
-
-// Part k of n shared evenly.
+// Part k of n shared evenly: the first parts take the excess.
 fn share_of(n: u16, parts: u16, k: u16) -> u16
     requires { ⌜ 0 < parts ⌝ }
     ensures { λ r. ⌜ (r ≡ share n parts k) × (r ≤ n) ⌝ }
 {
     let base = n / parts;
-    if takes_excess(n, parts, k) {
+    if k < n % parts {
         return base + 1;
     }
     base

@@ -9,13 +9,10 @@ share-of-spec =
     tie.close
     (tie.spec
     (λ c. search needs)
-    (λ c κs. search needs)
-    (λ c. let x = c .before .takes-excess in
-    let a = c .before .before .args in
-    record { fits = omega (arith, share-more (a .n) (a .parts) (a .k) (x .result) (x .ensures) (search needs) (c .if1 .taken)) })
-    (λ c. let x = c .before .takes-excess in
-    let a = c .before .before .args in
-    share-first (a .n) (a .parts) (a .k) (x .result) (x .ensures) (search needs) (c .if1 .taken))
-    (λ c. let x = c .before .takes-excess in
-    let a = c .before .before .args in
-    share-rest (a .n) (a .parts) (a .k) (x .result) (x .ensures) (c .if1 .left)))
+    (λ c. search needs)
+    (λ c. let a = c .before .args in
+    record { fits = omega (arith, share-more (a .n) (a .parts) (a .k) (search needs) (search needs)) })
+    (λ c. let a = c .before .args in
+    share-first (a .n) (a .parts) (a .k) (search needs) (search needs))
+    (λ c. let a = c .before .args in
+    share-rest (a .n) (a .parts) (a .k) (search needs)))
