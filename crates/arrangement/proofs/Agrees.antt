@@ -11,28 +11,25 @@ use lib.Seq.{getD-set-same, getD-set-other, getD-take, take-set-lt}
 use lib.Dec.{eqb}
 use lib.Count.{ones}
 use borrow.Author.Tests.{eqb-true, eqb-false, eq-eqb, ne-eqb}
-use Rattle.rules.specs.Sheet.{Table, isHidden}
+use Rattle.rules.specs.Sheet.{Table, isHidden, mostColumns}
 use Rattle.rules.specs.Widths as doc
 use Rattle.rules.specs.Widths.{lifted, zeros, isUndecided, fix, fixAt, visit, passes, aboveAverage, averageIsSome, fittingAverage, splitAtAverage, longestPart}
 use Rattle.rules.proofs.Settled.{zeros-le, settled, settled-again, settled-last, settled-none, passes-settled}
-use Rattle.style.specs.declared.column.ContentWidth.{ContentWidth}
 use Rattle.constraint.specs.declared.Layout.{Layout}
 use Rattle.constraint.specs.declared.State.{State}
-use Rattle.constraint.specs.declared.Offer.{Offer}
-use Rattle.constraint.specs.declared.Offer.the-variants.{Keep, Take}
-use Rattle.constraint.specs.Widths.{choose, inOrder, column, average, bit, decided, fixed, taking, step, pass}
+use Rattle.constraint.specs.Widths.{choose, inOrder, column, average, bit, decided, fixed, taking, Rule, step, pass, setWidth}
 use Rattle.constraint.proofs.Bits.{add-lt, count-add, bit-same, bit-other}
 use Rattle.constraint.proofs.Laws.{open-bit}
 use Rattle.arrangement.specs.Arrange.{again, repeated, lowerRule, fitRule, fitPass, splitRule, step1, step2, step3}
 use Rattle.arrangement.specs.Describes.{Describes}
 use Rattle.arrangement.proofs.Rounds.{pass-grew, again-stop, again-go}
 use Rattle.arrangement.proofs.Cases.{by-place, unlike, not-true}
-use Rattle.arrangement.proofs.Offers.{offered, SameRule, lower-same, fit-same, split-same}
+use Rattle.arrangement.proofs.Offers.{SameRule, lower-same, fit-same, split-same}
 
 -- the same widths, none past the columns; what is decided is noted; what is undecided and what is in the set make up the visible columns
 pub record Agrees (l : Layout) (t : Table) (s : State) (u : doc.State) : Type 0 where
-  pub long : length (s .widths) ≡ 12
-  pub fits : s .decided < 2 ^ 16
+  pub long : length (s .widths) ≡ mostColumns
+  pub fits : s .decided < 2 ^ setWidth
   pub widths : take (l .count) (s .widths) ≡ u .widths
   pub past : (j : ℕ) → l .count ≤ j → getD (s .widths) j 0 ≡ 0
   pub noted : (j : ℕ) → j < l .count → decided l j s ≡ not (isUndecided u j)
@@ -69,67 +66,74 @@ module _ (l : Layout) (t : Table) (d : Describes l t) where
     pub width-as : (j : ℕ) → j < l .count → getD (s .widths) j 0 ≡ getD (u .widths) j 0
     width-as j h = sym (getD-take (l .count) (s .widths) j 0 h) ∙ ap (λ (ws : List ℕ). getD ws j 0) (a .widths)
 
-    module _ (i : ℕ) (w : ContentWidth) (h : i < l .count) (o : decided l i s ≡ false) where
+    module _ (i w : ℕ) (h : i < l .count) (o : decided l i s ≡ false) where
       z : bit (s .decided) i ≡ 0
       z = open-bit l i s o
 
       was : getD (u .widths) i 0 ≡ 0
       was = eqb-true (getD (u .widths) i 0) 0 (not-true (isUndecided u i) (sym o ∙ a .noted i h))
 
-      now-noted : decided l i (fixed s i w) ≡ not (isUndecided (fix i (w .0) u) i)
+      now-noted : decided l i (fixed s i w) ≡ not (isUndecided (fix i w u) i)
       unfolding fix
       now-noted =
           let k = length-as in
-          let n : eqb (lifted (w .0)) 0 ≡ false = ne-eqb (lifted (w .0)) 0 (omega arith) in
-          rw (undecided-shown l i s o, bit-same i (s .decided) z, getD-set-same (u .widths) i (lifted (w .0)) 0 (omega arith), n)
+          let n : eqb (lifted w) 0 ≡ false = ne-eqb (lifted w) 0 (omega arith) in
+          rw (undecided-shown l i s o, bit-same i (s .decided) z, getD-set-same (u .widths) i (lifted w) 0 (omega arith), n)
 
-      still-noted : (j : ℕ) → j < l .count → (j ≡ i → ⊥) → decided l j (fixed s i w) ≡ not (isUndecided (fix i (w .0) u) j)
+      still-noted : (j : ℕ) → j < l .count → (j ≡ i → ⊥) → decided l j (fixed s i w) ≡ not (isUndecided (fix i w u) j)
       unfolding fix
-      still-noted j k n = rw (bit-other i j (s .decided) z n, getD-set-other (u .widths) i j (lifted (w .0)) 0 n) (a .noted j k)
+      still-noted j k n = rw (bit-other i j (s .decided) z n, getD-set-other (u .widths) i j (lifted w) 0 n) (a .noted j k)
 
       -- a column is fixed
-      pub fix-agrees : Agrees l t (fixed s i w) (fix i (w .0) u)
+      pub fix-agrees : Agrees l t (fixed s i w) (fix i w u)
       unfolding fix
       fix-agrees =
           record {
-            long = length-set (s .widths) i (lifted (w .0)) ∙ a .long;
-            fits = add-lt 16 (s .decided) i (omega (arith, d .few)) (a .fits) z;
-            widths = take-set-lt (l .count) (s .widths) i (lifted (w .0)) h ∙ ap (λ (ws : List ℕ). set ws i (lifted (w .0))) (a .widths);
-            past = λ j k. getD-set-other (s .widths) i j (lifted (w .0)) 0 (λ e. omega arith) ∙ a .past j k;
-            noted = λ j k. by-place (λ (x : ℕ). x < l .count → decided l x (fixed s i w) ≡ not (isUndecided (fix i (w .0) u) x)) j i (λ q. now-noted) (λ n q. still-noted j q n) k;
+            long = length-set (s .widths) i (lifted w) ∙ a .long;
+            fits = add-lt setWidth (s .decided) i (omega (arith, d .few)) (a .fits) z;
+            widths = take-set-lt (l .count) (s .widths) i (lifted w) h ∙ ap (λ (ws : List ℕ). set ws i (lifted w)) (a .widths);
+            past = λ j k. getD-set-other (s .widths) i j (lifted w) 0 (λ e. omega arith) ∙ a .past j k;
+            noted = λ j k. by-place (λ (x : ℕ). x < l .count → decided l x (fixed s i w) ≡ not (isUndecided (fix i w u) x)) j i (λ q. now-noted)
+                (λ n q. still-noted j q n) k;
             seen = a .seen;
-            counted = omega (arith, a .counted, count-add i (s .decided) z, zeros-set (u .widths) i (lifted (w .0)) (omega (arith, length-as)) was (omega arith));
-            remaining = ap (λ (n : ℕ). n - w .0) (a .remaining);
+            counted = omega (arith, a .counted, count-add i (s .decided) z, zeros-set (u .widths) i (lifted w) (omega (arith, length-as)) was (omega arith));
+            remaining = ap (λ (n : ℕ). n - w) (a .remaining);
           }
 
-    visit-go : (i : ℕ) → i < l .count → (b c : Bool) (o : Offer) (p : Option ℕ) → decided l i s ≡ b → b ≡ not c → offered o ≡ p
-        → Agrees l t (choose b s (taking s i o)) (elim c as (λ x. doc.State) [ true ↦ fixAt i p u | false ↦ u ])
+    visit-go : (i : ℕ) → i < l .count → (b c : Bool) (o : Option ℕ) → decided l i s ≡ b → b ≡ not c
+        → Agrees l t (choose b s (taking s i o)) (elim c as (λ x. doc.State) [ true ↦ fixAt i o u | false ↦ u ])
     unfolding fixAt
-    visit-go i h true true o p e n q = absurd (unlike true refl n)
-    visit-go i h true false o p e n q = a
-    visit-go i h false true Keep p e n q = rw (← q) a
-    visit-go i h false true (Take w) p e n q = rw (← q) (fix-agrees i w h e)
-    visit-go i h false false o p e n q = absurd (unlike true refl (sym n))
+    visit-go i h true true o e n = absurd (unlike true refl n)
+    visit-go i h true false o e n = a
+    visit-go i h false true none e n = a
+    visit-go i h false true (some w) e n = fix-agrees i w h e
+    visit-go i h false false o e n = absurd (unlike true refl (sym n))
 
   -- an undecided column is visited by the same rule
-  pub visit-agrees : (rule : Layout → ℕ → State → Offer) (r : doc.Rule) → SameRule l t d rule r → (i : ℕ) → i < l .count → (s : State) (u : doc.State) → Agrees l t s u → Agrees l t (step rule l i s) (visit r i u)
+  pub visit-agrees : (rule : Rule) (r : doc.Rule) → SameRule l t d rule r → (i : ℕ) → i < l .count → (s : State) (u : doc.State) → Agrees l t s u
+      → Agrees l t (step rule l i s) (visit r i u)
   unfolding step visit
   visit-agrees rule r same i h s u a =
-      visit-go s u a i h (decided l i s) (isUndecided u i) (rule l i s) (r i (doc.average u)) refl (a .noted i h) (same i s h (a .seen) ∙ ap (r i) (average-as s u a))
+      let e : rule l i s ≡ r i (doc.average u) = same i s h (a .seen) ∙ ap (r i) (average-as s u a) in
+      rw e (visit-go s u a i h (decided l i s) (isUndecided u i) (r i (doc.average u)) refl (a .noted i h))
 
-  pass-below : (rule : Layout → ℕ → State → Offer) (r : doc.Rule) → SameRule l t d rule r → (s : State) (u : doc.State) → Agrees l t s u → (n : ℕ) → n ≤ l .count → Agrees l t (inOrder (step rule l) n s) (doc.pass r n u)
+  pass-below : (rule : Rule) (r : doc.Rule) → SameRule l t d rule r → (s : State) (u : doc.State) → Agrees l t s u → (n : ℕ) → n ≤ l .count
+      → Agrees l t (inOrder (step rule l) n s) (doc.pass r n u)
   unfolding inOrder doc.pass
   pass-below rule r same s u a zero h = a
-  pass-below rule r same s u a (suc n) h = visit-agrees rule r same n h (inOrder (step rule l) n s) (doc.pass r n u) (pass-below rule r same s u a n (omega arith))
+  pass-below rule r same s u a (suc n) h =
+      visit-agrees rule r same n h (inOrder (step rule l) n s) (doc.pass r n u) (pass-below rule r same s u a n (omega arith))
 
-  pub pass-agrees : (rule : Layout → ℕ → State → Offer) (r : doc.Rule) → SameRule l t d rule r → (s : State) (u : doc.State) → Agrees l t s u → Agrees l t (pass rule l s) (doc.pass r (l .count) u)
+  pub pass-agrees : (rule : Rule) (r : doc.Rule) → SameRule l t d rule r → (s : State) (u : doc.State) → Agrees l t s u
+      → Agrees l t (pass rule l s) (doc.pass r (l .count) u)
   pass-agrees rule r same s u a = pass-below rule r same s u a (l .count) (omega arith)
 
-  module _ (f : State → State) (begins : doc.State → Bool) (rule : Layout → ℕ → State → Offer) (r : doc.Rule) (same : SameRule l t d rule r)
+  module _ (f : State → State) (begins : doc.State → Bool) (rule : Rule) (r : doc.Rule) (same : SameRule l t d rule r)
       (turn : (s : State) (u : doc.State) → Agrees l t s u → begins u ≡ true → f s ≡ pass rule l s)
       (stay : (s : State) (u : doc.State) → Agrees l t s u → begins u ≡ false → f s ≡ s) where
     -- a pass that leaves the set as it was has fixed no column
-    ends : (s : State) (u : doc.State) → Agrees l t s u → begins u ≡ true → pass rule l s .decided ≡ s .decided → Agrees l t (pass rule l s) (settled begins r (l .count) u)
+    ends : (s : State) (u : doc.State) → Agrees l t s u → begins u ≡ true → pass rule l s .decided ≡ s .decided
+        → Agrees l t (pass rule l s) (settled begins r (l .count) u)
     ends s u a b e =
         let p = pass-agrees rule r same s u a in
         let k : doc.undecided u ≤ doc.undecided (doc.pass r (l .count) u) = omega (arith, p .counted, a .counted, ap ones e) in
@@ -146,7 +150,9 @@ module _ (l : Layout) (t : Table) (d : Describes l t) where
     -- passes by the set are passes by the undecided count
     again-agrees : (k : ℕ) (s : State) (u : doc.State) → doc.undecided u < k → Agrees l t s u → Agrees l t (again k f s) (settled begins r (l .count) u)
     again-agrees zero s u h a = absurd (not-suc-le-zero h)
-    again-agrees (suc k) s u h a = go (begins u) (eqb (f s .decided) (s .decided)) refl refl (λ m. again-agrees k (pass rule l s) (doc.pass r (l .count) u) m (pass-agrees rule r same s u a))
+    again-agrees (suc k) s u h a =
+        go (begins u) (eqb (f s .decided) (s .decided)) refl refl
+        (λ m. again-agrees k (pass rule l s) (doc.pass r (l .count) u) m (pass-agrees rule r same s u a))
       where
         go : (b c : Bool) → begins u ≡ b → eqb (f s .decided) (s .decided) ≡ c
             → (doc.undecided (doc.pass r (l .count) u) < k → Agrees l t (again k f (pass rule l s)) (settled begins r (l .count) (doc.pass r (l .count) u)))
@@ -162,15 +168,18 @@ module _ (l : Layout) (t : Table) (d : Describes l t) where
             let e = stay s u a b in
             rw (again-stop k f s (rw e (eq-eqb (s .decided) (s .decided) refl)), e, settled-none begins r (l .count) u b) a
 
-    pub repeated-agrees : (s : State) (u : doc.State) → Agrees l t s u → Agrees l t (repeated f s) (passes begins r (length (t .columns)) (suc (length (t .columns))) u)
+    pub repeated-agrees : (s : State) (u : doc.State) → Agrees l t s u
+        → Agrees l t (repeated f s) (passes begins r (length (t .columns)) (suc (length (t .columns))) u)
     repeated-agrees s u a =
         let n = length-as s u a in
-        rw (← d .count, passes-settled begins r (l .count) u n) (again-agrees 17 s u (omega (arith, zeros-le (u .widths), d .few)) a)
+        rw (← d .count, passes-settled begins r (l .count) u n) (again-agrees (suc setWidth) s u (omega (arith, zeros-le (u .widths), d .few)) a)
 
   -- steps 1 to 3
   pub step1-agrees : (s : State) (u : doc.State) → Agrees l t s u → Agrees l t (step1 l s) (doc.step1 t u)
   unfolding doc.step1
-  step1-agrees s u a = repeated-agrees (pass lowerRule l) (λ s. true) lowerRule (aboveAverage t) (lower-same l t d) (λ s u a e. refl) (λ s u a e. absurd (unlike true refl e)) s u a
+  step1-agrees s u a =
+      repeated-agrees (pass lowerRule l) (λ s. true) lowerRule (aboveAverage t) (lower-same l t d) (λ s u a e. refl)
+      (λ s u a e. absurd (unlike true refl e)) s u a
 
   pub step2-agrees : (s : State) (u : doc.State) → Agrees l t s u → Agrees l t (step2 l s) (doc.step2 t u)
   unfolding doc.step2
@@ -190,6 +199,9 @@ module _ (l : Layout) (t : Table) (d : Describes l t) where
           go true q = refl
           go false q = absurd (unlike true refl q)
 
-  pub step3-agrees : (parts : ℕ → ℕ → ℕ) → ((j a : ℕ) → j < l .count → parts j a ≡ longestPart t j a) → (s : State) (u : doc.State) → Agrees l t s u → Agrees l t (step3 parts l s) (doc.step3 t u)
+  pub step3-agrees : (parts : ℕ → ℕ → ℕ) → ((j a : ℕ) → j < l .count → parts j a ≡ longestPart t j a) → (s : State) (u : doc.State) → Agrees l t s u
+      → Agrees l t (step3 parts l s) (doc.step3 t u)
   unfolding doc.step3
-  step3-agrees parts p s u a = repeated-agrees (pass (splitRule parts) l) (λ s. true) (splitRule parts) (splitAtAverage t) (split-same l t d parts p) (λ s u a e. refl) (λ s u a e. absurd (unlike true refl e)) s u a
+  step3-agrees parts p s u a =
+      repeated-agrees (pass (splitRule parts) l) (λ s. true) (splitRule parts) (splitAtAverage t) (split-same l t d parts p) (λ s u a e. refl)
+      (λ s u a e. absurd (unlike true refl e)) s u a

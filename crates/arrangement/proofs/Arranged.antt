@@ -49,10 +49,15 @@ module _ (l : Layout) (t : Table) (d : Describes l t) where
 
     pub arranged-widths : Widths l (contents t) (arranged parts l)
     unfolding arranged contents
-    arranged-widths = go (eqb (l .target) 0) (eqb (t .target) 0) (eqb (l .arrangement) 0) (eqb (t .arrangement) 0) (ap (λ (n : ℕ). eqb n 0) (d .target)) (ap (λ (n : ℕ). eqb n 0) (d .arrangement))
+    arranged-widths =
+        go (eqb (l .target) 0) (eqb (t .target) 0) (eqb (l .arrangement) 0) (eqb (t .arrangement) 0) (ap (λ (n : ℕ). eqb n 0) (d .target))
+        (ap (λ (n : ℕ). eqb n 0) (d .arrangement))
       where
         go : (x y b c : Bool) → x ≡ y → b ≡ c
-            → Widths l (elim (y || c) as (λ x. List ℕ) [ true ↦ map (λ j. orElse (doc.first t j) (doc.untargeted t j)) (doc.numbers t) | false ↦ doc.step4 t (doc.step3 t (doc.step2 t (doc.step1 t (doc.start t)))) ])
+            → Widths l (elim (y || c) as (λ x. List ℕ) [
+              | true ↦ map (λ j. orElse (doc.first t j) (doc.untargeted t j)) (doc.numbers t)
+              | false ↦ doc.step4 t (doc.step3 t (doc.step2 t (doc.step1 t (doc.start t))))
+            ])
             (choose x (pass untargeted l (started l)) (choose b (pass untargeted l (started l)) (dynamic parts l (started l))))
         go true true b c e q = untargeted-widths l t d
         go false false true true e q = untargeted-widths l t d
@@ -67,7 +72,8 @@ module _ (l : Layout) (t : Table) (d : Describes l t) where
     arranged-contents = let w = arranged-widths in padded-as (l .count) (arranged parts l .widths) (contents t) (w .long) (d .few) (w .widths) (w .past)
 
     -- what the steps come to, and that it is small
-    module _ (m : TableLimits t) (s a b c e : State) (q : s ≡ started l) (e₀ : a ≡ targeted l s) (e₁ : b ≡ step1 l a) (e₂ : c ≡ step2 l b) (e₃ : e ≡ step3 parts l c) where
+    module _ (m : TableLimits t) (s a b c e : State) (q : s ≡ started l) (e₀ : a ≡ targeted l s) (e₁ : b ≡ step1 l a) (e₂ : c ≡ step2 l b)
+        (e₃ : e ≡ step3 parts l c) where
       all : e ≡ step3 parts l (step2 l (step1 l (targeted l (started l))))
       all = e₃ ∙ ap (step3 parts l) (e₂ ∙ ap (step2 l) (e₁ ∙ ap (step1 l) (e₀ ∙ ap (targeted l) q)))
 

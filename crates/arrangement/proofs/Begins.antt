@@ -3,7 +3,7 @@ use Prim.Native.Nat.{ℕ, zero, suc, _+_, _-_, _^_, _≤_, _<_}
 use mathlib.Core.Path.{_≡_, refl, sym, ap, _∙_}
 use mathlib.Core.Bool.{Bool, true, false, not}
 use mathlib.Core.List.{List, [], _∷_, _++_, map}
-use mathlib.Core.Option.{none, some}
+use mathlib.Core.Option.{Option, none, some}
 use native.Mathlib.Nat.{not-suc-le-zero}
 use native.Mathlib.Omega.{arith}
 use lib.ListN.{length, getD, take, set, replicate, length-set, length-take, length-map, length-append}
@@ -12,23 +12,21 @@ use lib.Dec.{eqb}
 use lib.Count.{ones, onesIn}
 use borrow.Author.Tests.{eqb-true, ne-eqb}
 use Rattle.rules.specs.Text.{upFrom, keep, sum}
-use Rattle.rules.specs.Sheet.{Table, columnAt, padding, isHidden}
+use Rattle.rules.specs.Sheet.{Table, columnAt, padding, isHidden, mostColumns}
 use Rattle.rules.specs.Widths as doc
 use Rattle.rules.specs.Widths.{lifted, zeros, evaluate, noted, taken}
-use Rattle.rules.proofs.Lists.{getD-map, getD-upFrom, length-upFrom, upFrom-last, map-append, keep-yes, keep-no}
-use Rattle.style.specs.declared.column.ContentWidth.{ContentWidth}
+use Rattle.rules.proofs.Lists.{getD-map, getD-upFrom, length-upFrom, keep-yes, keep-no}
 use Rattle.constraint.specs.declared.Layout.{Layout}
 use Rattle.constraint.specs.declared.State.{State}
-use Rattle.constraint.specs.declared.Offer.{Offer}
-use Rattle.constraint.specs.declared.Offer.the-variants.{Keep, Take}
-use Rattle.constraint.specs.Widths.{choose, inOrder, column, longest, borders, bit, decided, fixed, taking, step, first, hide, evaluated, visible}
+use Rattle.constraint.specs.Widths.{choose, inOrder, column, longest, borders, bit, decided, fixed, taking, step, first, hide, evaluated, visible, setWidth}
 use Rattle.constraint.proofs.Bits.{add-lt, count-add, bit-same, bit-other, zero-bit}
 use Rattle.arrangement.specs.Arrange.{begun, started, charged, remaining, targeted}
 use Rattle.arrangement.specs.Describes.{Describes}
 use Rattle.arrangement.proofs.Rounds.{order-induct}
 use Rattle.arrangement.proofs.Cases.{by-place, not-true}
-use Rattle.arrangement.proofs.Offers.{offered, shown, hidden-as, visible-as, room-as, first-as}
+use Rattle.arrangement.proofs.Offers.{shown, hidden-as, visible-as, room-as, first-as}
 use Rattle.arrangement.proofs.Agrees.{Agrees}
+use Rattle.arrangement.proofs.Placed.{map-last}
 
 pub zeros-append : (xs ys : List ℕ) → zeros (xs ++ ys) ≡ zeros xs + zeros ys
 unfolding zeros
@@ -41,10 +39,6 @@ unfolding sum
 sum-append [] ys = omega arith
 sum-append (x ∷ xs) ys = omega (arith, sum-append xs ys)
 
--- one column more
-map-last : (f : ℕ → ℕ) (n : ℕ) → map f (upFrom 0 (suc n)) ≡ map f (upFrom 0 n) ++ (f n ∷ [])
-map-last f n = let e : 0 + n ≡ n = omega arith in rw (upFrom-last, e) (map-append f (upFrom 0 n) (n ∷ []))
-
 sum-last : (f : ℕ → ℕ) (n : ℕ) → sum (map f (upFrom 0 (suc n))) ≡ sum (map f (upFrom 0 n)) + f n
 unfolding sum
 sum-last f n = ap sum (map-last f n) ∙ sum-append (map f (upFrom 0 n)) (f n ∷ []) ∙ omega arith
@@ -53,13 +47,15 @@ zeros-none : (f : ℕ → ℕ) (n : ℕ) → f n ≡ 0 → zeros (map f (upFrom 
 unfolding zeros
 zeros-none f n e = ap zeros (map-last f n) ∙ zeros-append (map f (upFrom 0 n)) (f n ∷ []) ∙ rw e
 
-zeros-some : (f : ℕ → ℕ) (n : ℕ) → 1 ≤ f n → zeros (map f (upFrom 0 (suc n))) ≡ zeros (map f (upFrom 0 n))
+pub zeros-one : (x : ℕ) → (x ≡ 0 → ⊥) → zeros (x ∷ []) ≡ 0
 unfolding zeros
-zeros-some f n h = ap zeros (map-last f n) ∙ zeros-append (map f (upFrom 0 n)) (f n ∷ []) ∙ omega (arith, none-in (f n) h)
-  where
-    none-in : (x : ℕ) → 1 ≤ x → zeros (x ∷ []) ≡ 0
-    none-in zero k = absurd (not-suc-le-zero k)
-    none-in (suc x) k = refl
+zeros-one zero n = absurd (n refl)
+zeros-one (suc x) n = refl
+
+zeros-some : (f : ℕ → ℕ) (n : ℕ) → 1 ≤ f n → zeros (map f (upFrom 0 (suc n))) ≡ zeros (map f (upFrom 0 n))
+zeros-some f n h =
+    let e = zeros-one (f n) (λ z. omega arith) in
+    ap zeros (map-last f n) ∙ zeros-append (map f (upFrom 0 n)) (f n ∷ []) ∙ omega (arith, e)
 
 -- `Hidden` takes the longest
 evaluate-hidden : (t : Table) (j : ℕ) → isHidden (columnAt t j) ≡ true → evaluate t j ≡ some (doc.longest t j)
@@ -83,8 +79,8 @@ taken-shown t j e = rw (e, taken)
 module _ (l : Layout) (t : Table) (d : Describes l t) where
   -- i columns have had their first step
   record Begun (i : ℕ) (s : State) : Type 0 where
-    long : length (s .widths) ≡ 12
-    fits : s .decided < 2 ^ 16
+    long : length (s .widths) ≡ mostColumns
+    fits : s .decided < 2 ^ setWidth
     seen : s .visible ≡ length (doc.visible t)
     unspent : s .remaining ≡ 0
     done : (j : ℕ) → j < i → getD (s .widths) j 0 ≡ doc.first t j
@@ -104,7 +100,8 @@ module _ (l : Layout) (t : Table) (d : Describes l t) where
     set-todo v j k = getD-set-other (s .widths) i j v 0 (λ e. omega arith) ∙ b .todo j (omega arith)
 
     -- the others are decided as they were
-    now-known : (u : State) → decided l i u ≡ not (eqb (doc.first t i) 0) → ((j : ℕ) → j < i → decided l j u ≡ decided l j s) → (j : ℕ) → j < suc i → decided l j u ≡ not (eqb (doc.first t j) 0)
+    now-known : (u : State) → decided l i u ≡ not (eqb (doc.first t i) 0) → ((j : ℕ) → j < i → decided l j u ≡ decided l j s) → (j : ℕ) → j < suc i
+        → decided l j u ≡ not (eqb (doc.first t j) 0)
     now-known u e f j k =
         by-place (λ (x : ℕ). x < suc i → decided l x u ≡ not (eqb (doc.first t x) 0)) j i
         (λ q. e) (λ n q. f j (omega arith) ∙ b .known j (omega arith)) k
@@ -119,8 +116,8 @@ module _ (l : Layout) (t : Table) (d : Describes l t) where
           fits = b .fits;
           seen = b .seen;
           unspent = b .unspent;
-          done = set-done (lifted (longest l i .0)) (ap lifted (d .longest i h) ∙ sym v);
-          todo = set-todo (lifted (longest l i .0));
+          done = set-done (lifted (longest l i)) (ap lifted (d .longest i h) ∙ sym v);
+          todo = set-todo (lifted (longest l i));
           known = now-known (hide l i s) (rw (n, hidden-as l t d i h, e)) (λ j k. refl);
           out = λ j k. b .out j (omega arith);
           counted = omega (arith, b .counted, zeros-some (doc.first t) i (omega arith), ap length (keep-no (shown t) i (ap not e)));
@@ -141,40 +138,43 @@ module _ (l : Layout) (t : Table) (d : Describes l t) where
           fits = b .fits;
           seen = b .seen;
           unspent = b .unspent;
-          done = λ j k. by-place (λ (x : ℕ). x < suc i → getD (s .widths) x 0 ≡ doc.first t x) j i (λ q. b .todo i (omega arith) ∙ sym v) (λ m q. b .done j (omega arith)) k;
+          done = λ j k. by-place (λ (x : ℕ). x < suc i → getD (s .widths) x 0 ≡ doc.first t x) j i (λ q. b .todo i (omega arith) ∙ sym v)
+              (λ m q. b .done j (omega arith)) k;
           todo = λ j k. b .todo j (omega arith);
           known = now-known s (rw v (open-visible e)) (λ j k. refl);
           out = λ j k. b .out j (omega arith);
           counted = omega (arith, b .counted, zeros-none (doc.first t) i v, length-shown e);
         }
 
-    take-begun : (w : ContentWidth) → isHidden (columnAt t i) ≡ false → evaluate t i ≡ some (w .0) → Begun (suc i) (fixed s i w)
+    take-begun : (w : ℕ) → isHidden (columnAt t i) ≡ false → evaluate t i ≡ some w → Begun (suc i) (fixed s i w)
     unfolding doc.first noted
     take-begun w e n =
-        let v : doc.first t i ≡ lifted (w .0) = rw n in
+        let v : doc.first t i ≡ lifted w = rw n in
         let m : eqb (doc.first t i) 0 ≡ false = ne-eqb (doc.first t i) 0 (omega arith) in
         let z : bit (s .decided) i ≡ 0 = b .out i (omega arith) in
         record {
           long = length-set (s .widths) i _ ∙ b .long;
-          fits = add-lt 16 (s .decided) i (omega (arith, d .few)) (b .fits) z;
+          fits = add-lt setWidth (s .decided) i (omega (arith, d .few)) (b .fits) z;
           seen = b .seen;
           unspent = omega (arith, b .unspent);
-          done = set-done (lifted (w .0)) (sym v);
-          todo = set-todo (lifted (w .0));
-          known = now-known (fixed s i w) (rw (m, hidden-as l t d i h, e, bit-same i (s .decided) z)) (λ j k. rw (bit-other i j (s .decided) z (λ q. omega arith)));
+          done = set-done (lifted w) (sym v);
+          todo = set-todo (lifted w);
+          known = now-known (fixed s i w) (rw (m, hidden-as l t d i h, e, bit-same i (s .decided) z))
+              (λ j k. rw (bit-other i j (s .decided) z (λ q. omega arith)));
           out = λ j k. bit-other i j (s .decided) z (λ q. omega arith) ∙ b .out j (omega arith);
           counted = omega (arith, b .counted, count-add i (s .decided) z, zeros-some (doc.first t) i (omega arith), length-shown e);
         }
 
-    taking-begun : (o : Offer) → isHidden (columnAt t i) ≡ false → evaluate t i ≡ offered o → Begun (suc i) (taking s i o)
-    taking-begun Keep e n = keep-begun e n
-    taking-begun (Take w) e n = take-begun w e n
+    taking-begun : (o : Option ℕ) → isHidden (columnAt t i) ≡ false → evaluate t i ≡ o → Begun (suc i) (taking s i o)
+    taking-begun none e n = keep-begun e n
+    taking-begun (some w) e n = take-begun w e n
 
     evaluated-begun : Begun (suc i) (evaluated l i s)
     unfolding evaluated step
     evaluated-begun = go (isHidden (columnAt t i)) refl
       where
-        go : (x : Bool) → isHidden (columnAt t i) ≡ x → Begun (suc i) (choose (isHidden (column l i)) (hide l i s) (choose (decided l i s) s (taking s i (first l i s))))
+        go : (x : Bool) → isHidden (columnAt t i) ≡ x
+            → Begun (suc i) (choose (isHidden (column l i)) (hide l i s) (choose (decided l i s) s (taking s i (first l i s))))
         go true e = rw (hidden-as l t d i h, e) (hide-begun e)
         go false e = let o = open-visible e in rw (o, hidden-as l t d i h, e) (taking-begun (first l i s) e (sym (first-as l t d i s h (b .seen) e)))
 
@@ -187,7 +187,7 @@ module _ (l : Layout) (t : Table) (d : Describes l t) where
         seen = visible-as l t d;
         unspent = refl;
         done = λ j k. absurd (not-suc-le-zero k);
-        todo = λ j k. no-width 12 j;
+        todo = λ j k. no-width mostColumns j;
         known = λ j k. absurd (not-suc-le-zero k);
         out = λ j k. zero-bit j;
         counted = refl;
@@ -215,7 +215,9 @@ module _ (l : Layout) (t : Table) (d : Describes l t) where
         ext-getD 0 (take (l .count) (s .widths)) (map (doc.first t) (doc.numbers t)) (n ∙ sym length-first)
         (λ j h. (let k : j < l .count = omega arith in getD-take (l .count) (s .widths) j 0 k ∙ b .done j k ∙ sym (first-at j k)))
 
-    begun-agrees : (r q : ℕ) → r ≡ q → Agrees l t (record { widths = s .widths; decided = s .decided; remaining = r; visible = s .visible }) (record { widths = map (doc.first t) (doc.numbers t); remaining = q })
+    begun-agrees : (r q : ℕ) → r ≡ q
+        → Agrees l t (record { widths = s .widths; decided = s .decided; remaining = r; visible = s .visible })
+        (record { widths = map (doc.first t) (doc.numbers t); remaining = q })
     unfolding doc.visible doc.numbers
     begun-agrees r q e =
         record {
@@ -234,7 +236,9 @@ module _ (l : Layout) (t : Table) (d : Describes l t) where
     charged-as i r h = go (isHidden (columnAt t i)) (eqb (bit (s .decided) i) 1) refl refl
       where
         go : (x y : Bool) → isHidden (columnAt t i) ≡ x → eqb (bit (s .decided) i) 1 ≡ y
-            → choose (isHidden (column l i)) r (choose (eqb (bit (s .decided) i) 1) (r - (getD (s .widths) i 0 + padding (column l i))) (r - padding (column l i))) ≡ r - taken t i
+            → choose (isHidden (column l i)) r
+            (choose (eqb (bit (s .decided) i) 1) (r - (getD (s .widths) i 0 + padding (column l i))) (r - padding (column l i)))
+            ≡ r - taken t i
         go true y e q = rw (hidden-as l t d i h, e, taken-hidden t i e) (omega arith)
         go false true e q = rw (hidden-as l t d i h, e, q, taken-shown t i e, b .done i h, d .column i h)
         go false false e q =

@@ -11,7 +11,7 @@ use lib.Seq.{set-getD, take-suc, take-all}
 use lib.Dec.{eqb, ltb}
 use borrow.Author.Tests.{eqb-true, eqb-false, lt-ltb, le-ltb}
 use Rattle.rules.specs.Text.{upFrom, keep, oneIf, orElse, All}
-use Rattle.rules.specs.Sheet.{Table, columnAt, isHidden}
+use Rattle.rules.specs.Sheet.{Table, columnAt, isHidden, mostColumns}
 use Rattle.rules.specs.Widths as doc
 use Rattle.rules.specs.Widths.{lifted, contentOf, zeros, isUndecided, fix, fixAt, visit, shared}
 use Rattle.rules.proofs.Lists.{map-below, below-upFrom, all-keep, all-imp, keep-append, keep-yes, keep-no}
@@ -22,18 +22,18 @@ use Rattle.constraint.specs.Widths.{choose, inOrder, column, decided, fixed, pa
 use Rattle.constraint.proofs.Bits.{bit-other}
 use Rattle.constraint.proofs.Laws.{open-bit}
 use Rattle.arrangement.specs.declared.dynamic.Sharing.{Sharing}
-use Rattle.arrangement.specs.Arrange.{untargeted, share, sharing, undecided, distributed, widened, widening, filled, finished, started}
+use Rattle.arrangement.specs.Arrange.{trimmed, untargeted, share, sharing, undecided, distributed, widened, widening, filled, finished, started}
 use Rattle.arrangement.specs.Describes.{Describes}
 use Rattle.arrangement.proofs.Rounds.{order-induct}
 use Rattle.arrangement.proofs.Cases.{by-place, unlike, not-true}
 use Rattle.arrangement.proofs.Offers.{shown, hidden-as, untrimmed, untargeted-same}
 use Rattle.arrangement.proofs.Agrees.{Agrees, length-as, width-as, pass-agrees}
-use Rattle.arrangement.proofs.Begins.{started-agrees, first-at, zeros-append}
+use Rattle.arrangement.proofs.Begins.{started-agrees, first-at, zeros-append, zeros-one}
 use Rattle.arrangement.proofs.Placed.{placed, length-placed, placed-above, placed-take}
 
 -- the widths of the columns are cs, and none stands past them
 pub record Widths (l : Layout) (cs : List ℕ) (s : State) : Type 0 where
-  pub long : length (s .widths) ≡ 12
+  pub long : length (s .widths) ≡ mostColumns
   pub widths : take (l .count) (s .widths) ≡ cs
   pub past : (j : ℕ) → l .count ≤ j → getD (s .widths) j 0 ≡ 0
 
@@ -55,11 +55,6 @@ zeros-take-none : (ws : List ℕ) (i : ℕ) → i < length ws → getD ws i 0 �
 unfolding zeros
 zeros-take-none ws i h e = ap zeros (take-suc ws i 0 h) ∙ zeros-append (take i ws) (getD ws i 0 ∷ []) ∙ rw e
 
-zeros-one : (x : ℕ) → (x ≡ 0 → ⊥) → zeros (x ∷ []) ≡ 0
-unfolding zeros
-zeros-one zero n = absurd (n refl)
-zeros-one (suc x) n = refl
-
 zeros-take-some : (ws : List ℕ) (i : ℕ) → i < length ws → (getD ws i 0 ≡ 0 → ⊥) → zeros (take (suc i) ws) ≡ zeros (take i ws)
 zeros-take-some ws i h n = ap zeros (take-suc ws i 0 h) ∙ zeros-append (take i ws) (getD ws i 0 ∷ []) ∙ omega (arith, zeros-one (getD ws i 0) n)
 
@@ -77,10 +72,12 @@ dropped q xs n e = let z : keep q (n ∷ []) ≡ [] = rw (e, keep) in keep-appen
 keep-below : (p : ℕ → Bool) (j m : ℕ) → keep (λ i. ltb i j) (keep p (upFrom 0 (j + m))) ≡ keep p (upFrom 0 j)
 keep-below p j zero =
     let e : j + 0 ≡ j = omega arith in
-    rw e (keep-all (λ i. ltb i j) (keep p (upFrom 0 j)) (all-keep (λ i. ltb i j ≡ true) p (upFrom 0 j) (all-imp (λ i. i < j) (λ i. ltb i j ≡ true) (λ i h. lt-ltb i j h) (upFrom 0 j) (below-upFrom 0 j j (omega arith)))))
+    let below = all-imp (λ i. i < j) (λ i. ltb i j ≡ true) (λ i h. lt-ltb i j h) (upFrom 0 j) (below-upFrom 0 j j (omega arith)) in
+    rw e (keep-all (λ i. ltb i j) (keep p (upFrom 0 j)) (all-keep (λ i. ltb i j ≡ true) p (upFrom 0 j) below))
 keep-below p j (suc m) = let e : j + suc m ≡ suc (j + m) = omega arith in rw e (go (p (j + m)) refl (keep-below p j m))
   where
-    go : (b : Bool) → p (j + m) ≡ b → keep (λ i. ltb i j) (keep p (upFrom 0 (j + m))) ≡ keep p (upFrom 0 j) → keep (λ i. ltb i j) (keep p (upFrom 0 (suc (j + m)))) ≡ keep p (upFrom 0 j)
+    go : (b : Bool) → p (j + m) ≡ b → keep (λ i. ltb i j) (keep p (upFrom 0 (j + m))) ≡ keep p (upFrom 0 j)
+        → keep (λ i. ltb i j) (keep p (upFrom 0 (suc (j + m)))) ≡ keep p (upFrom 0 j)
     go true q h = rw (keep-yes p (j + m) q) (dropped (λ i. ltb i j) (keep p (upFrom 0 (j + m))) (j + m) (le-ltb (j + m) j (omega arith)) ∙ h)
     go false q h = rw (keep-no p (j + m) q) h
 
@@ -105,33 +102,41 @@ module _ (l : Layout) (t : Table) (d : Describes l t) where
   settledAt : ℕ → ℕ → ℕ
   settledAt j w = orElse w (doc.untargeted t j)
 
-  fix-untrimmed : (j a : ℕ) (u : doc.State) → fixAt j (untrimmed l t d j a) u .widths ≡ set (u .widths) j (doc.untargeted t j)
-  unfolding untrimmed doc.untargeted fixAt fix
-  fix-untrimmed j a u = go (doc.upper t (columnAt t j))
+  -- what is offered, 0 made 1
+  untrimmed-lifted : (j : ℕ) → lifted (trimmed (columnAt t j) (doc.longest t j) (doc.upper t (columnAt t j))) ≡ doc.untargeted t j
+  unfolding doc.untargeted
+  untrimmed-lifted j = go (doc.upper t (columnAt t j))
     where
-      inner : (b : ℕ) (x : Bool) → fixAt j (elim x as (λ x. Option ℕ) [ true ↦ some (contentOf (columnAt t j) b) | false ↦ some (doc.longest t j) ]) u .widths
-          ≡ set (u .widths) j (elim x as (λ x. ℕ) [ true ↦ contentOf (columnAt t j) b | false ↦ lifted (doc.longest t j) ])
-      inner b true = let e : lifted (contentOf (columnAt t j) b) ≡ contentOf (columnAt t j) b = omega arith in ap (λ (v : ℕ). set (u .widths) j v) e
-      inner b false = refl
+      by-test : (b : ℕ) (x : Bool) → lifted (elim x as (λ x. ℕ) [ true ↦ contentOf (columnAt t j) b | false ↦ doc.longest t j ])
+          ≡ elim x as (λ x. ℕ) [ true ↦ contentOf (columnAt t j) b | false ↦ lifted (doc.longest t j) ]
+      by-test b true = omega arith
+      by-test b false = refl
 
-      go : (o : Option ℕ)
-          → fixAt j (elim o as (λ x. Option ℕ) [ some b ↦ elim (ltb b (doc.longest t j)) as (λ x. Option ℕ) [ true ↦ some (contentOf (columnAt t j) b) | false ↦ some (doc.longest t j) ] | none ↦ some (doc.longest t j) ]) u .widths
-          ≡ set (u .widths) j (elim o as (λ x. ℕ) [ some b ↦ elim (ltb b (doc.longest t j)) as (λ x. ℕ) [ true ↦ contentOf (columnAt t j) b | false ↦ lifted (doc.longest t j) ] | none ↦ lifted (doc.longest t j) ])
-      go (some b) = inner b (ltb b (doc.longest t j))
+      go : (o : Option ℕ) → lifted (trimmed (columnAt t j) (doc.longest t j) o) ≡ elim o as (λ x. ℕ) [
+        | some b ↦ elim (ltb b (doc.longest t j)) as (λ x. ℕ) [ true ↦ contentOf (columnAt t j) b | false ↦ lifted (doc.longest t j) ]
+        | none ↦ lifted (doc.longest t j)
+      ]
+      go (some b) = by-test b (ltb b (doc.longest t j))
       go none = refl
+
+  fix-untrimmed : (j a : ℕ) (u : doc.State) → fixAt j (untrimmed l t d j a) u .widths ≡ set (u .widths) j (doc.untargeted t j)
+  unfolding untrimmed fixAt fix
+  fix-untrimmed j a u = ap (λ (v : ℕ). set (u .widths) j v) (untrimmed-lifted j)
 
   visit-untrimmed : (j : ℕ) (u : doc.State) → visit (untrimmed l t d) j u .widths ≡ set (u .widths) j (settledAt j (getD (u .widths) j 0))
   unfolding visit settledAt
   visit-untrimmed j u = go (isUndecided u j) refl
     where
-      go : (b : Bool) → isUndecided u j ≡ b → (elim b as (λ x. doc.State) [ true ↦ fixAt j (untrimmed l t d j (doc.average u)) u | false ↦ u ]) .widths ≡ set (u .widths) j (orElse (getD (u .widths) j 0) (doc.untargeted t j))
+      go : (b : Bool) → isUndecided u j ≡ b → (elim b as (λ x. doc.State) [ true ↦ fixAt j (untrimmed l t d j (doc.average u)) u | false ↦ u ]) .widths
+          ≡ set (u .widths) j (orElse (getD (u .widths) j 0) (doc.untargeted t j))
       go true e = fix-untrimmed j (doc.average u) u ∙ rw (eqb-true (getD (u .widths) j 0) 0 e)
       go false e = sym (rw (orElse-noted (getD (u .widths) j 0) (doc.untargeted t j) (eqb-false (getD (u .widths) j 0) 0 e)) (set-getD (u .widths) j 0))
 
   pass-untrimmed : (u : doc.State) (n : ℕ) → doc.pass (untrimmed l t d) n u .widths ≡ placed settledAt n (u .widths)
   unfolding doc.pass placed
   pass-untrimmed u zero = refl
-  pass-untrimmed u (suc n) = visit-untrimmed n (doc.pass (untrimmed l t d) n u) ∙ ap (λ (ws : List ℕ). set ws n (settledAt n (getD ws n 0))) (pass-untrimmed u n)
+  pass-untrimmed u (suc n) =
+      visit-untrimmed n (doc.pass (untrimmed l t d) n u) ∙ ap (λ (ws : List ℕ). set ws n (settledAt n (getD ws n 0))) (pass-untrimmed u n)
 
   -- the numbers of the columns, by the layout's count
   columns-of : (f : ℕ → ℕ) → map f (upFrom 0 (l .count)) ≡ map f (doc.numbers t)
@@ -144,9 +149,12 @@ module _ (l : Layout) (t : Table) (d : Describes l t) where
       let u : doc.State = record { widths = map (doc.first t) (doc.numbers t); remaining = 0 } in
       let a = pass-agrees l t d untargeted (untrimmed l t d) (untargeted-same l t d) (started l) u (started-agrees l t d) in
       let n = length-as l t d (started l) u (started-agrees l t d) in
-      let e = map-below (λ j. orElse (getD (u .widths) j 0) (doc.untargeted t j)) (λ j. orElse (doc.first t j) (doc.untargeted t j)) 0 (l .count) (l .count) (omega arith) (λ j h. rw (first-at l t d j h)) in
-      let w : take (l .count) (placed settledAt (l .count) (u .widths)) ≡ map (λ j. orElse (getD (u .widths) j 0) (doc.untargeted t j)) (upFrom 0 (l .count)) = placed-take settledAt (u .widths) (l .count) (omega arith) in
-      let v : take (l .count) (placed settledAt (l .count) (u .widths)) ≡ placed settledAt (l .count) (u .widths) = take-all (l .count) (placed settledAt (l .count) (u .widths)) (omega (arith, length-placed settledAt (u .widths) (l .count))) in
+      let e = map-below (λ j. orElse (getD (u .widths) j 0) (doc.untargeted t j)) (λ j. orElse (doc.first t j) (doc.untargeted t j)) 0 (l .count) (l .count)
+      (omega arith) (λ j h. rw (first-at l t d j h)) in
+      let w : take (l .count) (placed settledAt (l .count) (u .widths)) ≡ map (λ j. orElse (getD (u .widths) j 0) (doc.untargeted t j))
+      (upFrom 0 (l .count)) = placed-take settledAt (u .widths) (l .count) (omega arith) in
+      let v : take (l .count) (placed settledAt (l .count) (u .widths)) ≡ placed settledAt (l .count) (u .widths) = take-all (l .count)
+      (placed settledAt (l .count) (u .widths)) (omega (arith, length-placed settledAt (u .widths) (l .count))) in
       record {
         long = a .long;
         widths = a .widths ∙ pass-untrimmed u (l .count) ∙ sym v ∙ w ∙ e ∙ columns-of (λ j. orElse (doc.first t j) (doc.untargeted t j));
@@ -161,13 +169,15 @@ module _ (l : Layout) (t : Table) (d : Describes l t) where
     parts-as = omega (arith, a .seen, a .counted)
 
     -- widths placed column by column
-    placed-widths : (f : ℕ → ℕ → ℕ) (g : ℕ → ℕ) (r : State) → r .widths ≡ placed f (l .count) (s .widths) → ((j : ℕ) → j < l .count → f j (getD (u .widths) j 0) ≡ g j) → Widths l (map g (doc.numbers t)) r
+    placed-widths : (f : ℕ → ℕ → ℕ) (g : ℕ → ℕ) (r : State) → r .widths ≡ placed f (l .count) (s .widths)
+        → ((j : ℕ) → j < l .count → f j (getD (u .widths) j 0) ≡ g j) → Widths l (map g (doc.numbers t)) r
     placed-widths f g r e h =
         let n : l .count ≤ length (s .widths) = omega (arith, a .long, d .few) in
         record {
           long = ap length e ∙ length-placed f (s .widths) (l .count) ∙ a .long;
           widths = ap (take (l .count)) e ∙ placed-take f (s .widths) (l .count) n
-              ∙ map-below (λ j. f j (getD (s .widths) j 0)) g 0 (l .count) (l .count) (omega arith) (λ j k. ap (f j) (width-as l t d s u a j k) ∙ h j k) ∙ columns-of g;
+              ∙ map-below (λ j. f j (getD (s .widths) j 0)) g 0 (l .count) (l .count) (omega arith) (λ j k. ap (f j) (width-as l t d s u a j k) ∙ h j k)
+              ∙ columns-of g;
           past = λ j k. ap (λ (ws : List ℕ). getD ws j 0) e ∙ placed-above f (s .widths) (l .count) j k ∙ a .past j k;
         }
 
@@ -194,15 +204,18 @@ module _ (l : Layout) (t : Table) (d : Describes l t) where
       given-decided : (getD (u .widths) i 0 ≡ 0 → ⊥) → Given (suc i) x
       unfolding placed sharedAt
       given-decided n =
-          let e : sharedAt i (getD (x .state .widths) i 0) ≡ getD (x .state .widths) i 0 = orElse-noted (getD (x .state .widths) i 0) _ (λ q. n (sym here ∙ q)) in
+          let e : sharedAt i (getD (x .state .widths) i 0) ≡ getD (x .state .widths) i 0 = orElse-noted (getD (x .state .widths) i 0) _
+          (λ q. n (sym here ∙ q)) in
           record {
-            widths = sym (set-getD (x .state .widths) i 0) ∙ ap (λ (v : ℕ). set (x .state .widths) i v) (sym e) ∙ ap (λ (ws : List ℕ). set ws i (sharedAt i (getD ws i 0))) (g .widths);
+            widths = sym (set-getD (x .state .widths) i 0) ∙ ap (λ (v : ℕ). set (x .state .widths) i v) (sym e)
+                ∙ ap (λ (ws : List ℕ). set ws i (sharedAt i (getD ws i 0))) (g .widths);
             given = g .given ∙ sym (zeros-take-some (u .widths) i long-enough n);
             ahead = λ j k q. g .ahead j (omega arith) q;
           }
 
-      given-open : (v : ℕ) → v ≡ doc.share amount (doc.undecided u) (zeros (take i (u .widths))) → 1 ≤ v → getD (u .widths) i 0 ≡ 0 → decided l i (x .state) ≡ false
-          → Given (suc i) (record { state = fixed (x .state) i (record { 0 = v }); given = x .given + 1 })
+      given-open : (v : ℕ) → v ≡ doc.share amount (doc.undecided u) (zeros (take i (u .widths))) → 1 ≤ v → getD (u .widths) i 0 ≡ 0
+          → decided l i (x .state) ≡ false
+          → Given (suc i) (record { state = fixed (x .state) i v; given = x .given + 1 })
       unfolding placed sharedAt
       given-open v p q z o =
           let b = open-bit l i (x .state) o in
@@ -227,7 +240,10 @@ module _ (l : Layout) (t : Table) (d : Describes l t) where
           p = share-as (max (s .remaining) (undecided s)) (undecided s) (x .given) ∙ rw (c, parts-as, g .given)
 
           go : (b : Bool) → decided l i (x .state) ≡ b
-              → Given (suc i) (choose b x (record { state = fixed (x .state) i (record { 0 = share (max (s .remaining) (undecided s)) (undecided s) (x .given) }); given = x .given + 1 }))
+              → Given (suc i) (choose b x (record {
+                state = fixed (x .state) i (share (max (s .remaining) (undecided s)) (undecided s) (x .given));
+                given = x .given + 1;
+              }))
           go true e = given-decided (λ z. unlike true refl (sym e ∙ told ∙ rw z))
           go false e =
               let z = eqb-true (getD (u .widths) i 0) 0 (not-true (isUndecided u i) (sym e ∙ told)) in
@@ -241,18 +257,22 @@ module _ (l : Layout) (t : Table) (d : Describes l t) where
     distributed-widths : 1 ≤ doc.undecided u → Widths l (map (shared u) (doc.numbers t)) (distributed l s)
     unfolding distributed shared sharedAt amount
     distributed-widths m =
-        let g = order-induct Given (sharing l (max (s .remaining) (undecided s)) (undecided s)) (l .count) (record { state = s; given = 0 }) (λ i x h g. sharing-given i x h g m) given-begin in
+        let g = order-induct Given (sharing l (max (s .remaining) (undecided s)) (undecided s)) (l .count) (record { state = s; given = 0 })
+        (λ i x h g. sharing-given i x h g m) given-begin in
         placed-widths sharedAt (shared u) (distributed l s) (g .widths) (λ j k. refl)
 
     -- the remainder, shared by all that are visible
     widenedAt : ℕ → ℕ → ℕ
-    widenedAt j w = elim (isHidden (columnAt t j)) as (λ x. ℕ) [ true ↦ w | false ↦ w + doc.share (u .remaining) (length (doc.visible t)) (length (keep (λ i. ltb i j) (doc.visible t))) ]
+    widenedAt j w =
+        elim (isHidden (columnAt t j)) as
+        (λ x. ℕ) [ true ↦ w | false ↦ w + doc.share (u .remaining) (length (doc.visible t)) (length (keep (λ i. ltb i j) (doc.visible t))) ]
 
     widened-hidden : (j w : ℕ) → isHidden (columnAt t j) ≡ true → widenedAt j w ≡ w
     unfolding widenedAt
     widened-hidden j w e = rw (e, widenedAt)
 
-    widened-shown : (j w : ℕ) → isHidden (columnAt t j) ≡ false → widenedAt j w ≡ w + doc.share (u .remaining) (length (doc.visible t)) (length (keep (λ i. ltb i j) (doc.visible t)))
+    widened-shown : (j w : ℕ) → isHidden (columnAt t j) ≡ false
+        → widenedAt j w ≡ w + doc.share (u .remaining) (length (doc.visible t)) (length (keep (λ i. ltb i j) (doc.visible t)))
     unfolding widenedAt
     widened-shown j w e = rw (e, widenedAt)
 
@@ -275,11 +295,15 @@ module _ (l : Layout) (t : Table) (d : Describes l t) where
         p = share-as (s .remaining) (s .visible) (x .given) ∙ rw (a .remaining, a .seen, g .given, before i (omega arith))
 
         go : (b : Bool) → isHidden (columnAt t i) ≡ b
-            → Widened (suc i) (choose (isHidden (column l i)) x (record { state = widened (x .state) i (share (s .remaining) (s .visible) (x .given)); given = x .given + 1 }))
+            → Widened (suc i) (choose (isHidden (column l i)) x (record {
+              state = widened (x .state) i (share (s .remaining) (s .visible) (x .given));
+              given = x .given + 1;
+            }))
         go true e =
             let v = widened-hidden i (getD (x .state .widths) i 0) e in
             rw (hidden-as l t d i h, e) (record {
-              widths = sym (set-getD (x .state .widths) i 0) ∙ ap (λ (v : ℕ). set (x .state .widths) i v) (sym v) ∙ ap (λ (ws : List ℕ). set ws i (widenedAt i (getD ws i 0))) (g .widths);
+              widths = sym (set-getD (x .state .widths) i 0) ∙ ap (λ (v : ℕ). set (x .state .widths) i v) (sym v)
+                  ∙ ap (λ (ws : List ℕ). set ws i (widenedAt i (getD ws i 0))) (g .widths);
               given = g .given ∙ sym (ap length (keep-no (shown t) i (ap not e)));
             })
         go false e =
@@ -315,17 +339,24 @@ module _ (l : Layout) (t : Table) (d : Describes l t) where
         g : Widened (l .count) (inOrder (widening l (s .remaining) (s .visible)) (l .count) (record { state = s; given = 0 }))
         g = order-induct Widened (widening l (s .remaining) (s .visible)) (l .count) (record { state = s; given = 0 }) widening-widened widened-begin
 
-        go : (b : Bool) → eqb (s .visible) 0 ≡ b → Widths l (map (doc.widened t u) (doc.numbers t)) (choose b s (inOrder (widening l (s .remaining) (s .visible)) (l .count) (record { state = s; given = 0 }) .state))
+        go : (b : Bool) → eqb (s .visible) 0 ≡ b
+            → Widths l (map (doc.widened t u) (doc.numbers t))
+            (choose b s (inOrder (widening l (s .remaining) (s .visible)) (l .count) (record { state = s; given = 0 }) .state))
         go true e = unwidened (sym (a .seen) ∙ eqb-true (s .visible) 0 e)
         go false e = placed-widths widenedAt (doc.widened t u) _ (g .widths) (λ j k. widened-as j)
 
     -- step 4
     pub finished-widths : Widths l (doc.step4 t u) (finished l s)
     unfolding finished doc.step4
-    finished-widths = go (eqb (undecided s) 0) (eqb (doc.undecided u) 0) (eqb (l .arrangement) 2) (eqb (t .arrangement) 2) (ap (λ (n : ℕ). eqb n 0) parts-as) refl (ap (λ (n : ℕ). eqb n 2) (d .arrangement))
+    finished-widths =
+        go (eqb (undecided s) 0) (eqb (doc.undecided u) 0) (eqb (l .arrangement) 2) (eqb (t .arrangement) 2) (ap (λ (n : ℕ). eqb n 0) parts-as) refl
+        (ap (λ (n : ℕ). eqb n 2) (d .arrangement))
       where
         go : (x y b c : Bool) → x ≡ y → eqb (doc.undecided u) 0 ≡ y → b ≡ c
-            → Widths l (elim y as (λ x. List ℕ) [ false ↦ map (shared u) (doc.numbers t) | true ↦ elim c as (λ x. List ℕ) [ true ↦ map (doc.widened t u) (doc.numbers t) | false ↦ u .widths ] ])
+            → Widths l (elim y as (λ x. List ℕ) [
+              | false ↦ map (shared u) (doc.numbers t)
+              | true ↦ elim c as (λ x. List ℕ) [ true ↦ map (doc.widened t u) (doc.numbers t) | false ↦ u .widths ]
+            ])
             (choose x (choose b (filled l s) s) (distributed l s))
         go true true true true e q p = filled-widths
         go true true false false e q p = record { long = a .long; widths = a .widths; past = a .past }

@@ -1,5 +1,5 @@
 -- A layout that is read from a sheet describes its table, and what is arranged by it is the table's widths. Assumes nothing.
-use Prim.Native.Nat.{ℕ, zero, suc, _+_, _-_, _≤_, _<_}
+use Prim.Native.Nat.{ℕ, zero, suc, _-_, _≤_, _<_}
 use mathlib.Core.Path.{_≡_, refl, sym, ap, _∙_}
 use mathlib.Core.List.{List, [], _∷_, _++_, map, append-assoc}
 use mathlib.Core.Bool.{Bool, false}
@@ -13,7 +13,7 @@ use Rattle.rules.specs.Style.{anyLeft, anyRight, anyJunction}
 use Rattle.rules.specs.Calls.{padded}
 use Rattle.rules.specs.Widths as doc
 use Rattle.rules.specs.Widths.{longestPart, contents}
-use Rattle.rules.proofs.Lists.{getD-map, getD-upFrom, length-upFrom, upFrom-last, map-append, map-below}
+use Rattle.rules.proofs.Lists.{getD-map, getD-upFrom, length-upFrom, map-below}
 use Rattle.style.specs.Bytes.{bytesOf}
 use Rattle.style.specs.declared.table_style.LineStyle.{LineStyle}
 use Rattle.style.specs.declared.table_style.ContentLineStyle.{ContentLineStyle}
@@ -30,30 +30,52 @@ use Rattle.arrangement.specs.Describes.{Describes}
 use Rattle.arrangement.specs.Widths.{lineFrom, contentFrom, styleFrom, marking, marked, widthsOf}
 use Rattle.arrangement.proofs.Offers.{hidden-as}
 use Rattle.arrangement.proofs.Arranged.{arranged-contents}
+use Rattle.arrangement.proofs.Placed.{map-last}
 
 -- six parts of a style
 pub style-at : (S : List ℕ) (a : LineStyle) (b : ContentLineStyle) (c : LineStyle) (d : ContentLineStyle) (e f : LineStyle)
     → a ≡ lineFrom S 0 → b ≡ contentFrom S 4 → c ≡ lineFrom S 7 → d ≡ contentFrom S 11 → e ≡ lineFrom S 14 → f ≡ lineFrom S 18
-    → _≡_ {A = TableStyle} (record { «top_border» = a; «header_lines» = b; «header_separator» = c; «content_lines» = d; «row_separator» = e; «bottom_border» = f }) (styleFrom S)
+    → _≡_ {A = TableStyle} (record {
+      «top_border» = a;
+      «header_lines» = b;
+      «header_separator» = c;
+      «content_lines» = d;
+      «row_separator» = e;
+      «bottom_border» = f;
+    }) (styleFrom S)
 style-at S a b c d e f h i j k m n = rw (h, i, j, k, m, n)
 
 module _ (t : Table) (limits : TableLimits t) (x : Columns) (columns : x ≡ columnsOf t) where
   -- no more columns than there can be
-  pub count-fits : x .count ≤ 12
+  pub count-fits : x .count ≤ mostColumns
   unfolding columnsOf
   count-fits = omega (arith, ap (λ (y : Columns). y .count) columns, limits .columns)
 
   pub column-at : (j : ℕ) → j < x .count → getD (x .each) j noColumn ≡ columnAt t j
   unfolding columnsOf padded
-  column-at j h = rw columns (List·getD-append (t .columns) (replicate (mostColumns - length (t .columns)) noColumn) noColumn j (omega (arith, ap (λ (y : Columns). y .count) columns)))
+  column-at j h =
+      let k : j < length (t .columns) = omega (arith, ap (λ (y : Columns). y .count) columns) in
+      rw columns (List·getD-append (t .columns) (replicate (mostColumns - length (t .columns)) noColumn) noColumn j k)
 
   longest-at : (j : ℕ) → j < mostColumns → getD (map (doc.longest t) (upFrom 0 mostColumns)) j 0 ≡ doc.longest t j
-  longest-at j h = getD-map (doc.longest t) (upFrom 0 mostColumns) j 0 0 (omega (arith, length-upFrom 0 mostColumns)) ∙ ap (doc.longest t) (getD-upFrom 0 mostColumns j 0 h ∙ omega arith)
+  longest-at j h =
+      getD-map (doc.longest t) (upFrom 0 mostColumns) j 0 0 (omega (arith, length-upFrom 0 mostColumns))
+      ∙ ap (doc.longest t) (getD-upFrom 0 mostColumns j 0 h ∙ omega arith)
 
   -- what was read from the sheet
-  pub describes : (h : Settings) (S : List ℕ) (y : TableStyle) (ns : List ℕ) (a b c : Bool) → h ≡ settingsOf t → S ≡ t .style → y ≡ styleFrom S → ns ≡ map (doc.longest t) (upFrom 0 mostColumns)
+  pub describes : (h : Settings) (S : List ℕ) (y : TableStyle) (ns : List ℕ) (a b c : Bool) → h ≡ settingsOf t → S ≡ t .style → y ≡ styleFrom S
+      → ns ≡ map (doc.longest t) (upFrom 0 mostColumns)
       → a ≡ anyLeft (bytesOf y) → b ≡ anyRight (bytesOf y) → c ≡ anyJunction (bytesOf y)
-      → Describes (record { arrangement = h .arrangement; target = h .target; left = a; right = b; junction = c; columns = x .each; count = x .count; longest = ns }) t
+      → Describes (record {
+        arrangement = h .arrangement;
+        target = h .target;
+        left = a;
+        right = b;
+        junction = c;
+        columns = x .each;
+        count = x .count;
+        longest = ns;
+      }) t
   unfolding settingsOf columnsOf
   describes h S y ns a b c e f g i l r m =
       record {
@@ -69,15 +91,13 @@ module _ (t : Table) (limits : TableLimits t) (x : Columns) (columns : x ≡ col
       }
 
 -- flags set one after another
-flags-last : (p : ℕ → Bool) (n : ℕ) → map p (upFrom 0 (suc n)) ≡ map p (upFrom 0 n) ++ (p n ∷ [])
-flags-last p n = let e : 0 + n ≡ n = omega arith in rw (upFrom-last, e) (map-append p (upFrom 0 n) (n ∷ []))
-
 set-padded : (n : ℕ) (xs : List Bool) (v : Bool) → length xs ≡ n → n < mostColumns → set (padded false xs) n v ≡ padded false (xs ++ (v ∷ []))
 unfolding padded
 set-padded n xs v k h =
     let m = length-append xs (v ∷ []) in
     let q : mostColumns - length xs ≡ suc (mostColumns - length (xs ++ (v ∷ []))) = omega arith in
-    rw q (set-at xs false (replicate (mostColumns - length (xs ++ (v ∷ []))) false) v n k) ∙ sym (append-assoc xs (v ∷ []) (replicate (mostColumns - length (xs ++ (v ∷ []))) false))
+    rw q (set-at xs false (replicate (mostColumns - length (xs ++ (v ∷ []))) false) v n k)
+    ∙ sym (append-assoc xs (v ∷ []) (replicate (mostColumns - length (xs ++ (v ∷ []))) false))
 
 none-padded : replicate mostColumns false ≡ padded false []
 unfolding padded
@@ -92,7 +112,8 @@ unfolding inOrder
 flags-padded p zero h = none-padded ∙ ap (padded false) (sym (flags-none p))
 flags-padded p (suc n) h =
     let k : length (map p (upFrom 0 n)) ≡ n = length-map (upFrom 0 n) p ∙ length-upFrom 0 n in
-    ap (λ (fs : List Bool). set fs n (p n)) (flags-padded p n (omega arith)) ∙ set-padded n (map p (upFrom 0 n)) (p n) k h ∙ ap (padded false) (sym (flags-last p n))
+    ap (λ (fs : List Bool). set fs n (p n)) (flags-padded p n (omega arith)) ∙ set-padded n (map p (upFrom 0 n)) (p n) k h
+    ∙ ap (padded false) (sym (map-last p n))
 
 -- a column is marked
 pub marking-at : (l : Layout) (i : ℕ) (fs : List Bool) (b : Bool) → b ≡ isHidden (column l i) → set fs i b ≡ marking l i fs
@@ -102,11 +123,13 @@ module _ (l : Layout) (t : Table) (d : Describes l t) where
   marked-as : marked l ≡ padded false (map (λ j. isHidden (columnAt t j)) (doc.numbers t))
   unfolding doc.numbers
   marked-as =
-      flags-padded (λ j. isHidden (column l j)) (l .count) (d .few)
-      ∙ ap (padded false) (map-below (λ j. isHidden (column l j)) (λ j. isHidden (columnAt t j)) 0 (l .count) (l .count) (omega arith) (hidden-as l t d) ∙ ap (λ (n : ℕ). map (λ j. isHidden (columnAt t j)) (upFrom 0 n)) (d .count))
+      let one = map-below (λ j. isHidden (column l j)) (λ j. isHidden (columnAt t j)) 0 (l .count) (l .count) (omega arith) (hidden-as l t d) in
+      let all = ap (λ (n : ℕ). map (λ j. isHidden (columnAt t j)) (upFrom 0 n)) (d .count) in
+      flags-padded (λ j. isHidden (column l j)) (l .count) (d .few) ∙ ap (padded false) (one ∙ all)
 
   -- what is answered
-  pub widths-at : (s : State) (fs : List Bool) → s ≡ arranged (longestPart t) l → fs ≡ marked l → _≡_ {A = Widths} (record { count = l .count; content = s .widths; hidden = fs }) (widthsOf t)
+  pub widths-at : (s : State) (fs : List Bool) → s ≡ arranged (longestPart t) l → fs ≡ marked l
+      → _≡_ {A = Widths} (record { count = l .count; content = s .widths; hidden = fs }) (widthsOf t)
   unfolding widthsOf
   widths-at s fs e f =
       let w : s .widths ≡ padded 0 (contents t) = ap (λ (z : State). z .widths) e ∙ arranged-contents l t d (longestPart t) (λ j a h. refl) in

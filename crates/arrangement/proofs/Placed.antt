@@ -1,7 +1,7 @@
 -- Widths placed one after another, each by its column and what was noted there. Assumes nothing.
 use Prim.Native.Nat.{ℕ, zero, suc, _+_, _-_, _≤_, _<_}
 use mathlib.Core.Path.{_≡_, refl, sym, ap, _∙_}
-use mathlib.Core.List.{List, map}
+use mathlib.Core.List.{List, [], _∷_, _++_, map}
 use native.Mathlib.Nat.{not-suc-le-zero}
 use native.Mathlib.Omega.{arith}
 use lib.ListN.{length, getD, take, drop, set, replicate, length-set, length-take, length-drop, length-map, getD-replicate, take-append-drop, length-replicate}
@@ -9,8 +9,12 @@ use lib.Seq.{getD-set-same, getD-set-other, getD-take, getD-drop, ext-getD}
 use Rattle.rules.specs.Text.{upFrom}
 use Rattle.rules.specs.Calls.{padded}
 use Rattle.rules.specs.Sheet.{mostColumns}
-use Rattle.rules.proofs.Lists.{getD-map, getD-upFrom, length-upFrom}
+use Rattle.rules.proofs.Lists.{getD-map, getD-upFrom, length-upFrom, upFrom-last, map-append}
 use Rattle.arrangement.proofs.Cases.{by-place}
+
+-- one number more
+pub map-last : {A : Type 0} (f : ℕ → A) (n : ℕ) → map f (upFrom 0 (suc n)) ≡ map f (upFrom 0 n) ++ (f n ∷ [])
+map-last f n = let e : 0 + n ≡ n = omega arith in rw (upFrom-last, e) (map-append f (upFrom 0 n) (n ∷ []))
 
 -- the first n places hold f of the place and of what stood there
 unfoldable pub placed : (ℕ → ℕ → ℕ) → ℕ → List ℕ → List ℕ
@@ -43,10 +47,11 @@ module _ (f : ℕ → ℕ → ℕ) (ws : List ℕ) where
       let m : length (map (λ j. f j (getD ws j 0)) (upFrom 0 n)) ≡ n = length-map (upFrom 0 n) (λ j. f j (getD ws j 0)) ∙ length-upFrom 0 n in
       ext-getD 0 (take n (placed f n ws)) (map (λ j. f j (getD ws j 0)) (upFrom 0 n)) (k ∙ sym m)
       (λ j h. (let q : j < n = omega arith in
-      getD-take n (placed f n ws) j 0 q ∙ placed-below n j l q
-      ∙ sym (getD-map (λ j. f j (getD ws j 0)) (upFrom 0 n) j 0 0 (omega (arith, length-upFrom 0 n)) ∙ ap (λ (x : ℕ). f x (getD ws x 0)) (getD-upFrom 0 n j 0 q ∙ omega arith))))
+      let there = getD-map (λ j. f j (getD ws j 0)) (upFrom 0 n) j 0 0 (omega (arith, length-upFrom 0 n)) in
+      let number = getD-upFrom 0 n j 0 q ∙ omega arith in
+      getD-take n (placed f n ws) j 0 q ∙ placed-below n j l q ∙ sym (there ∙ ap (λ (x : ℕ). f x (getD ws x 0)) number)))
 
--- twelve widths of which those past the columns are 0
+-- as many widths as there can be columns, of which those past the columns are 0
 pub padded-as : (n : ℕ) (ws cs : List ℕ) → length ws ≡ mostColumns → n ≤ mostColumns → take n ws ≡ cs → ((j : ℕ) → n ≤ j → getD ws j 0 ≡ 0) → ws ≡ padded 0 cs
 unfolding padded
 padded-as n ws cs l h e p =

@@ -2,6 +2,7 @@
 use Prim.Native.Nat.{ℕ, zero, suc, _+_, _-_, _^_, _≤_, _<_}
 use mathlib.Core.Path.{_≡_, refl, sym, ap, _∙_, subst}
 use mathlib.Core.Bool.{Bool, true, false, not}
+use mathlib.Core.Option.{Option, none, some}
 use native.Mathlib.Nat.{not-suc-le-zero}
 use native.Mathlib.Omega.{arith}
 use lib.Dec.{eqb}
@@ -9,15 +10,15 @@ use lib.Count.{ones, ones-le}
 use borrow.Author.Tests.{eqb-false}
 use Rattle.constraint.specs.declared.Layout.{Layout}
 use Rattle.constraint.specs.declared.State.{State}
-use Rattle.constraint.specs.declared.Offer.{Offer}
-use Rattle.constraint.specs.declared.Offer.the-variants.{Keep, Take}
-use Rattle.constraint.specs.Widths.{choose, inOrder, average, decided, taking, step, pass}
+use Rattle.constraint.specs.Widths.{choose, inOrder, average, decided, taking, Rule, step, pass, setWidth}
 use Rattle.constraint.proofs.Bits.{add-lt, count-add}
 use Rattle.constraint.proofs.Laws.{open-bit}
 use Rattle.arrangement.specs.Arrange.{again, repeated, fitRule, fitPass}
+use Rattle.rules.specs.Sheet.{mostColumns}
 
 -- what holds after i columns, by the columns
-pub order-induct : {A : Type 0} (P : ℕ → A → Type 0) (f : ℕ → A → A) (n : ℕ) (x : A) → ((i : ℕ) (y : A) → i < n → P i y → P (suc i) (f i y)) → P 0 x → P n (inOrder f n x)
+pub order-induct : {A : Type 0} (P : ℕ → A → Type 0) (f : ℕ → A → A) (n : ℕ) (x : A) → ((i : ℕ) (y : A) → i < n → P i y → P (suc i) (f i y)) → P 0 x
+    → P n (inOrder f n x)
 unfolding inOrder
 order-induct P f zero x h p = p
 order-induct P f (suc n) x h p = h n (inOrder f n x) (omega arith) (order-induct P f n x (λ i y l q. h i y (omega arith) q) p)
@@ -28,11 +29,11 @@ order-keeps P f n x h p = order-induct (λ i y. P y) f n x h p
 
 -- t comes of s by fixing columns: none, and then it is s, or some
 pub record Grew (s t : State) : Type 0 where
-  pub small : t .decided < 2 ^ 16
+  pub small : t .decided < 2 ^ setWidth
   pub more : ones (s .decided) ≤ ones (t .decided)
   pub same : ones (t .decided) ≤ ones (s .decided) → t ≡ s
 
-pub grew-none : (s : State) → s .decided < 2 ^ 16 → Grew s s
+pub grew-none : (s : State) → s .decided < 2 ^ setWidth → Grew s s
 grew-none s l = record { small = l; more = omega arith; same = λ h. refl }
 
 grew-trans : (s t u : State) → Grew s t → Grew t u → Grew s u
@@ -43,21 +44,21 @@ grew-trans s t u a b =
       same = λ h. b .same (omega (arith, a .more, b .more)) ∙ a .same (omega (arith, a .more, b .more));
     }
 
-module _ (t : Layout) (i : ℕ) (s : State) (hi : i < 16) (l : s .decided < 2 ^ 16) where
-  step-cases : (b : Bool) (o : Offer) → decided t i s ≡ b → Grew s (choose b s (taking s i o))
+module _ (t : Layout) (i : ℕ) (s : State) (hi : i < setWidth) (l : s .decided < 2 ^ setWidth) where
+  step-cases : (b : Bool) (o : Option ℕ) → decided t i s ≡ b → Grew s (choose b s (taking s i o))
   step-cases true o e = grew-none s l
-  step-cases false Keep e = grew-none s l
-  step-cases false (Take w) e =
+  step-cases false none e = grew-none s l
+  step-cases false (some w) e =
       let z = open-bit t i s e in
       let n = count-add i (s .decided) z in
-      record { small = add-lt 16 (s .decided) i hi l z; more = omega (arith, n); same = λ h. absurd (omega (arith, n)) }
+      record { small = add-lt setWidth (s .decided) i hi l z; more = omega (arith, n); same = λ h. absurd (omega (arith, n)) }
 
-  step-grew : (rule : Layout → ℕ → State → Offer) → Grew s (step rule t i s)
+  step-grew : (rule : Rule) → Grew s (step rule t i s)
   unfolding step
   step-grew rule = step-cases (decided t i s) (rule t i s) refl
 
-module _ (t : Layout) (fits : t .count ≤ 12) (s : State) (l : s .decided < 2 ^ 16) where
-  pub pass-grew : (rule : Layout → ℕ → State → Offer) → Grew s (pass rule t s)
+module _ (t : Layout) (fits : t .count ≤ mostColumns) (s : State) (l : s .decided < 2 ^ setWidth) where
+  pub pass-grew : (rule : Rule) → Grew s (pass rule t s)
   pass-grew rule =
       order-keeps (λ (u : State). Grew s u) (step rule t) (t .count) s
       (λ i u h g. grew-trans s u (step rule t i u) g (step-grew t i u (omega arith) (g .small) rule))
@@ -72,11 +73,11 @@ module _ (t : Layout) (fits : t .count ≤ 12) (s : State) (l : s .decided < 2 ^
 
 -- how many are undecided, at most
 abbrev pub left : State → ℕ
-left s = 16 - ones (s .decided)
+left s = setWidth - ones (s .decided)
 
 left-falls : (s t : State) → Grew s t → eqb (t .decided) (s .decided) ≡ false → left t < left s
 left-falls s t g e =
-    let u = ones-le 16 (t .decided) (g .small) in
+    let u = ones-le setWidth (t .decided) (g .small) in
     let n : ones (t .decided) ≤ ones (s .decided) → ⊥ = λ h. eqb-false (t .decided) (s .decided) e (ap (λ (x : State). x .decided) (g .same h)) in
     omega (arith, g .more)
 
@@ -95,7 +96,7 @@ Next f end r false = r ≡ end
 
 -- the loop's invariant
 pub record Going (f : State → State) (end r : State) (more : Bool) : Type 0 where
-  pub small : r .decided < 2 ^ 16
+  pub small : r .decided < 2 ^ setWidth
   pub next : Next f end r more
 
 abbrev pub weight : Bool → ℕ
@@ -103,9 +104,9 @@ weight true = 1
 weight false = 0
 
 module _ (f : State → State) (s : State) where
-  pub round-begin : s .decided < 2 ^ 16 → Going f (repeated f s) s true
+  pub round-begin : s .decided < 2 ^ setWidth → Going f (repeated f s) s true
   unfolding Next
-  round-begin l = record { small = l; next = (17, omega arith, refl) }
+  round-begin l = record { small = l; next = (suc setWidth, omega arith, refl) }
 
 module _ (f : State → State) (end r : State) (more : Bool) (g : Going f end r more) where
   pub round-done : more ≡ false → r ≡ end
@@ -137,4 +138,5 @@ module _ (f : State → State) (end r : State) (more : Bool) (g : Going f end r 
     falls false z = omega (arith, left-falls r u grown z)
 
     pub round-less : left u + weight (not (eqb (u .decided) (r .decided))) < left r + weight more
-    round-less = subst (λ (b : Bool). left u + weight (not (eqb (u .decided) (r .decided))) < left r + weight b) (sym e) (falls (eqb (u .decided) (r .decided)) refl)
+    round-less =
+        subst (λ (b : Bool). left u + weight (not (eqb (u .decided) (r .decided))) < left r + weight b) (sym e) (falls (eqb (u .decided) (r .decided)) refl)

@@ -1,44 +1,53 @@
 -- Sharing: the parts, and the ways out of the functions that hand them out. Assumes nothing.
-use Prim.Native.Nat.{ℕ, _+_, _-_, _/_, _%_, _≤_, _<_, max}
+use Prim.Native.Nat.{ℕ, _+_, _/_, _%_, _≤_, _<_, max}
 use mathlib.Core.Path.{_≡_, refl, sym, ap, _∙_, subst}
 use mathlib.Core.Bool.{Bool, true, false}
 use native.Mathlib.Nat.{div-le-self, div-add-mod', mul-le-mul-left}
 use native.Mathlib.Omega.{arith}
 use lib.ListN.{getD, replicate}
 use lib.Seq.{getD-set-other}
+use borrow.Author.Tests.{lt-ltb, le-ltb}
 use Rattle.constraint.specs.declared.Layout.{Layout}
 use Rattle.constraint.specs.declared.State.{State}
 use Rattle.constraint.specs.Widths.{choose, inOrder, column, decided, fixed, visible, pass}
-use Rattle.constraint.proofs.Cases.{if-true, if-false, if-eq, if-ne, if-lt, if-ge}
+use Rattle.constraint.proofs.Cases.{if-true, if-false, if-eq, if-ne}
 use Rattle.arrangement.specs.declared.dynamic.Sharing.{Sharing}
-use Rattle.arrangement.specs.Arrange.{remaining, targeted, share, sharing, undecided, distributed, widened, widening, filled, finished, untargeted, begun, started, dynamic, arranged}
-use Rattle.rules.specs.Sheet.{isHidden}
+use Rattle.arrangement.specs.Arrange.{remaining, targeted, share, sharing, undecided, distributed, widened, widening, filled, finished, untargeted}
+use Rattle.arrangement.specs.Arrange.{begun, started, dynamic, arranged}
+use Rattle.rules.specs.Sheet.{isHidden, mostColumns}
 
 pub share-more : (n parts k : ℕ) → 0 < parts → k < n % parts → n / parts + 1 ≤ n
 share-more n parts k h l = omega (arith, div-add-mod' n parts, mul-le-mul-left (n / parts) h)
 
-pub share-first : (n parts k : ℕ) → 0 < parts → k < n % parts → (n / parts + 1 ≡ share n parts k) × (n / parts + 1 ≤ n)
-share-first n parts k h l = (if-lt k (n % parts) (n / parts + 1) (n / parts) (n / parts + 1) l refl, share-more n parts k h l)
+-- the part that takes one of the excess, and the others
+module _ (n parts k : ℕ) where
+  abbrev part : Bool → ℕ
+  part b = choose b (n / parts + 1) (n / parts)
 
-pub share-rest : (n parts k : ℕ) → n % parts ≤ k → (n / parts ≡ share n parts k) × (n / parts ≤ n)
-share-rest n parts k l = (if-ge k (n % parts) (n / parts + 1) (n / parts) (n / parts) l refl, div-le-self n parts)
+  pub share-first : 0 < parts → k < n % parts → (n / parts + 1 ≡ share n parts k) × (n / parts + 1 ≤ n)
+  share-first h l = (ap part (sym (lt-ltb k (n % parts) l)), share-more n parts k h l)
+
+  pub share-rest : n % parts ≤ k → (n / parts ≡ share n parts k) × (n / parts ≤ n)
+  share-rest l = (ap part (sym (le-ltb k (n % parts) l)), div-le-self n parts)
 
 module _ (t : Layout) (n parts i : ℕ) (x : Sharing) (r : Bool) where
   pub sharing-decided : r ≡ decided t i (x .state) → r ≡ true → x ≡ sharing t n parts i x
   unfolding sharing
   sharing-decided e h = if-true (decided t i (x .state)) r x _ x e h refl
 
-  pub sharing-open : (k : ℕ) (u : State) → r ≡ decided t i (x .state) → r ≡ false → k ≡ share n parts (x .given) → u ≡ fixed (x .state) i (record { 0 = k }) → _≡_ {A = Sharing} (record { state = u; given = x .given + 1 }) (sharing t n parts i x)
+  pub sharing-open : (k : ℕ) (u : State) → r ≡ decided t i (x .state) → r ≡ false → k ≡ share n parts (x .given) → u ≡ fixed (x .state) i k
+      → _≡_ {A = Sharing} (record { state = u; given = x .given + 1 }) (sharing t n parts i x)
   unfolding sharing
   sharing-open k u e h p q =
       if-false (decided t i (x .state)) r x _ _ e h
-      (ap (λ (z : State). record { state = z; given = x .given + 1 }) (q ∙ ap (λ (z : ℕ). fixed (x .state) i (record { 0 = z })) p))
+      (ap (λ (z : State). record { state = z; given = x .given + 1 }) (q ∙ ap (fixed (x .state) i) p))
 
   pub widening-hidden : r ≡ isHidden (column t i) → r ≡ true → x ≡ widening t n parts i x
   unfolding widening
   widening-hidden e h = if-true (isHidden (column t i)) r x _ x e h refl
 
-  pub widening-visible : (k : ℕ) (u : State) → r ≡ isHidden (column t i) → r ≡ false → k ≡ share n parts (x .given) → u ≡ widened (x .state) i k → _≡_ {A = Sharing} (record { state = u; given = x .given + 1 }) (widening t n parts i x)
+  pub widening-visible : (k : ℕ) (u : State) → r ≡ isHidden (column t i) → r ≡ false → k ≡ share n parts (x .given) → u ≡ widened (x .state) i k
+      → _≡_ {A = Sharing} (record { state = u; given = x .given + 1 }) (widening t n parts i x)
   unfolding widening
   widening-visible k u e h p q =
       if-false (isHidden (column t i)) r x _ _ e h
@@ -72,7 +81,8 @@ unfolding widening
 widening-ahead t n parts i x y h e =
     subst (λ (z : Sharing). Ahead (i + 1) z) (sym e) (ahead-go (isHidden (column t i)) x i (share n parts (x .given)) (x .given + 1) h)
 
-pub targeted-at : (t : Layout) (s : State) (r : ℕ) → r ≡ remaining t s → _≡_ {A = State} (record { widths = s .widths; decided = s .decided; remaining = r; visible = s .visible }) (targeted t s)
+pub targeted-at : (t : Layout) (s : State) (r : ℕ) → r ≡ remaining t s
+    → _≡_ {A = State} (record { widths = s .widths; decided = s .decided; remaining = r; visible = s .visible }) (targeted t s)
 targeted-at t s r e = ap (λ (k : ℕ). record { widths = s .widths; decided = s .decided; remaining = k; visible = s .visible }) e
 
 module _ (t : Layout) (s : State) where
@@ -80,7 +90,8 @@ module _ (t : Layout) (s : State) where
   unfolding filled
   filled-none e = if-eq (s .visible) 0 s _ s e refl
 
-  pub filled-some : (x : Sharing) → (s .visible ≡ 0 → ⊥) → x ≡ inOrder (widening t (s .remaining) (s .visible)) (t .count) (record { state = s; given = 0 }) → x .state ≡ filled t s
+  pub filled-some : (x : Sharing) → (s .visible ≡ 0 → ⊥) → x ≡ inOrder (widening t (s .remaining) (s .visible)) (t .count) (record { state = s; given = 0 })
+      → x .state ≡ filled t s
   unfolding filled
   filled-some x h e = if-ne (s .visible) 0 s _ (x .state) h (ap (λ (z : Sharing). z .state) e)
 
@@ -99,8 +110,9 @@ module _ (t : Layout) (s : State) where
     unfolding finished
     finished-shared u h q = if-ne (undecided s) 0 _ _ u (λ e. h (z ∙ e)) q
 
-pub begun-at : (t : Layout) (v : ℕ) → v ≡ visible t → _≡_ {A = State} (record { widths = replicate 12 0; decided = 0; remaining = 0; visible = v }) (begun t)
-begun-at t v e = ap (λ (k : ℕ). record { widths = replicate 12 0; decided = 0; remaining = 0; visible = k }) e
+pub begun-at : (t : Layout) (v : ℕ) → v ≡ visible t
+    → _≡_ {A = State} (record { widths = replicate mostColumns 0; decided = 0; remaining = 0; visible = v }) (begun t)
+begun-at t v e = ap (λ (k : ℕ). record { widths = replicate mostColumns 0; decided = 0; remaining = 0; visible = k }) e
 
 module _ (parts : ℕ → ℕ → ℕ) (t : Layout) (s u : State) (e : s ≡ started t) where
   pub arranged-untargeted : t .target ≡ 0 → u ≡ pass untargeted t s → u ≡ arranged parts t
@@ -117,7 +129,8 @@ module _ (parts : ℕ → ℕ → ℕ) (t : Layout) (s u : State) (e : s ≡ sta
   arranged-dynamic h a q =
       if-ne (t .target) 0 _ _ u h (if-ne (t .arrangement) 0 _ _ u a (q ∙ ap (dynamic parts t) e))
 
-pub distributed-at : (t : Layout) (s : State) (parts total : ℕ) (x : Sharing) → parts ≡ undecided s → total ≡ max (s .remaining) parts → x ≡ inOrder (sharing t total parts) (t .count) (record { state = s; given = 0 }) → x .state ≡ distributed t s
+pub distributed-at : (t : Layout) (s : State) (parts total : ℕ) (x : Sharing) → parts ≡ undecided s → total ≡ max (s .remaining) parts
+    → x ≡ inOrder (sharing t total parts) (t .count) (record { state = s; given = 0 }) → x .state ≡ distributed t s
 unfolding distributed
 distributed-at t s parts total x e f q =
     ap (λ (z : Sharing). z .state) q

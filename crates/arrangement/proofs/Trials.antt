@@ -1,5 +1,5 @@
 -- The longest part, walked: laws of what is found of lines, cells and rows. Assumes nothing.
-use Prim.Native.Nat.{ℕ, _+_, _≤_, _<_, max}
+use Prim.Native.Nat.{ℕ, _≤_, _<_, max}
 use mathlib.Core.Path.{_≡_, refl, ap, _∙_}
 use mathlib.Core.List.{List, [], _∷_, _++_, map}
 use mathlib.Core.Bool.{Bool, true, false}
@@ -34,10 +34,13 @@ pub lines-nil : (a d : ℕ) → ofLines a d [] ≡ 0
 unfolding ofLines flat greatest
 lines-nil a d = refl
 
--- a line longer than the average is split, at 1 where the average is 0
-pub line-split : (a d w m : ℕ) (l : List ℕ) → a < length l → w ≡ lifted a → m ≡ greatest (map textWidth (split w d l)) → m ≡ ofLine a d l
+-- a line longer than the average is split
+pub line-split : (a d m : ℕ) (l : List ℕ) → 0 < a → a < length l → m ≡ greatest (map textWidth (split a d l)) → m ≡ ofLine a d l
 unfolding ofLine trialParts
-line-split a d w m l h e q = let k : ltb a (textWidth l) ≡ true = rw width-length (lt-ltb a (length l) h) in rw (k, trialParts) (q ∙ rw e)
+line-split a d m l p h q =
+    let k : ltb a (textWidth l) ≡ true = rw width-length (lt-ltb a (length l) h) in
+    let e : lifted a ≡ a = omega arith in
+    rw (k, trialParts, e) q
 
 pub line-whole : (a d : ℕ) (l : List ℕ) → length l ≤ a → length l ≡ ofLine a d l
 unfolding ofLine trialParts greatest
@@ -49,12 +52,16 @@ unfolding trialParts
 trial-short a d l = go (ltb a (textWidth l)) refl
   where
     go : (b : Bool) → ltb a (textWidth l) ≡ b → All (Short (lifted a)) (elim b as (λ x. List (List ℕ)) [ true ↦ split (lifted a) d l | false ↦ l ∷ [] ])
-    go true e = all-imp (λ m. (1 ≤ textWidth m) × (textWidth m ≤ lifted a)) (Short (lifted a)) (λ m k. k .1) (split (lifted a) d l) (split-fits (lifted a) d (omega arith) l)
+    go true e =
+        all-imp (λ m. (1 ≤ textWidth m) × (textWidth m ≤ lifted a)) (Short (lifted a)) (λ m k. k .1) (split (lifted a) d l)
+        (split-fits (lifted a) d (omega arith) l)
     go false e = (omega (arith, ltb-false a (textWidth l) e), tt)
 
 line-le : (a d : ℕ) (l : List ℕ) → ofLine a d l ≤ lifted a
 unfolding ofLine
-line-le a d l = greatest-le (lifted a) (map textWidth (trialParts a d l)) (all-map-imp (Short (lifted a)) (Most (lifted a)) textWidth (λ p h. h) (trialParts a d l) (trial-short a d l))
+line-le a d l =
+    greatest-le (lifted a) (map textWidth (trialParts a d l))
+    (all-map-imp (Short (lifted a)) (Most (lifted a)) textWidth (λ p h. h) (trialParts a d l) (trial-short a d l))
 
 pub lines-le : (a d : ℕ) (ls : List (List ℕ)) → ofLines a d ls ≤ lifted a
 lines-le a d [] = omega (arith, lines-nil a d)
@@ -96,8 +103,11 @@ module _ (t : Table) (j a : ℕ) where
     where
       go : (b : Bool) → greatest (map textWidth (flat (map (cellParts t j a) (cellsOf j rs)))) ≡ ofRows j a (otherwise t j) rs
           → greatest (map textWidth (flat (map (cellParts t j a) (elim b as (λ x. List Cell) [ true ↦ cellAt r j ∷ cellsOf j rs | false ↦ cellsOf j rs ]))))
-          ≡ max (elim b as (λ x. ℕ) [ true ↦ ofLines a (orElse (cellAt r j .delimiter) (otherwise t j)) (cellAt r j .lines) | false ↦ 0 ]) (ofRows j a (otherwise t j) rs)
-      go true i = parts-append (cellParts t j a (cellAt r j)) (flat (map (cellParts t j a) (cellsOf j rs))) ∙ ap (max (greatest (map textWidth (cellParts t j a (cellAt r j))))) i
+          ≡ max (elim b as (λ x. ℕ) [ true ↦ ofLines a (orElse (cellAt r j .delimiter) (otherwise t j)) (cellAt r j .lines) | false ↦ 0 ])
+          (ofRows j a (otherwise t j) rs)
+      go true i =
+          parts-append (cellParts t j a (cellAt r j)) (flat (map (cellParts t j a) (cellsOf j rs)))
+          ∙ ap (max (greatest (map textWidth (cellParts t j a (cellAt r j))))) i
       go false i = omega arith
 
   pub longest-part : longestPart t j a ≡ ofRows j a (otherwise t j) (allRows t)

@@ -1,5 +1,5 @@
 -- What is found so far and what is still to come make the whole: one law for each way out of the walk's functions. Assumes nothing.
-use Prim.Native.Nat.{ℕ, zero, suc, _+_, _-_, _≤_, _<_, max}
+use Prim.Native.Nat.{ℕ, _+_, _-_, _≤_, _<_, max}
 use mathlib.Core.Path.{_≡_, refl, sym, ap, _∙_}
 use mathlib.Core.List.{List, [], _∷_}
 use mathlib.Core.Bool.{Bool, true, false}
@@ -11,12 +11,12 @@ use borrow.Author.Tests.{leb-true, leb-false, ltb-true, ltb-false, lt-ltb, le-lt
 use Rattle.rules.specs.Text.{orElse}
 use Rattle.rules.specs.Sheet as sheet
 use Rattle.rules.specs.Sheet.{Table, noCell, noRow, columnAt}
-use Rattle.rules.specs.Widths.{lifted, longestPart}
+use Rattle.rules.specs.Widths.{lifted, shorterBy3, longestPart}
 use Rattle.rules.specs.Places.{rowsPlace}
 use Rattle.rules.specs.declared.Column.{Column}
 use Rattle.sheet.specs.Held.{Passes, settingsOf}
 use Rattle.sheet.specs.declared.records.Settings.{Settings}
-use Rattle.sheet.specs.Walk.{rowsIn, cellsIn, linesIn, rowsEnd, cellsEnd, linesEnd, firstRow, firstCell, firstLine, RowIs, CellIs, CellsNext, LinesNext}
+use Rattle.sheet.specs.Walk.{rowsIn, cellsIn, linesIn, rowsEnd, cellsEnd, linesEnd, firstRow, firstCell, firstLine, RowIs, CellIs, CellsNext, LinesNext, CellsSkipped}
 use Rattle.sheet.specs.declared.records.Rows.{Rows}
 use Rattle.sheet.specs.declared.records.Cells.{Cells}
 use Rattle.sheet.specs.declared.records.Lines.{Lines}
@@ -24,20 +24,10 @@ use Rattle.sheet.specs.declared.records.Row.{Row}
 use Rattle.sheet.specs.declared.records.Cell.{Cell}
 use Rattle.sheet.proofs.Held.{room}
 use Rattle.sheet.proofs.Walks.{lines-number, cells-number, rows-number, cells-none, rows-none, rows-next, row-whole, cell-whole}
-use Rattle.constraint.specs.declared.Offer.the-variants.{Keep, Take}
-use Rattle.constraint.proofs.Cases.{if-gt}
 use Rattle.arrangement.specs.declared.after_split.Tried.{Tried}
-use Rattle.arrangement.specs.Arrange.{spared}
-use Rattle.arrangement.specs.Trial.{ofLine, ofLines, ofCells, ofRows, otherwise, Skipped, RowTried, Enough, RowsTried}
+use Rattle.arrangement.specs.Trial.{ofLine, ofLines, ofCells, ofRows, otherwise, RowTried, Enough, RowsTried}
+use Rattle.arrangement.proofs.Ways.{shorter-kept}
 use Rattle.arrangement.proofs.Trials.{lines-cons, lines-nil, cells-there, cells-short, rows-le, rows-append, longest-part}
-
--- a delimiter that is set, or none
-pub or-else-none : (a b : ℕ) → a ≡ 0 → b ≡ orElse a b
-or-else-none a b e = rw e
-
-pub or-else-some : (a b : ℕ) → (a ≡ 0 → ⊥) → a ≡ orElse a b
-or-else-some zero b n = absurd (n refl)
-or-else-some (suc a) b n = refl
 
 -- a list of as many as are left
 nothing : {A : Type 0} (l : List A) → length l ≤ 0 → l ≡ []
@@ -62,6 +52,9 @@ module _ (a m : ℕ) (b : Bool) (e : b ≡ ltb a (m + 3)) where
   saves-three : b ≡ false → m + 3 ≤ a
   saves-three f = ltb-false a (m + 3) (sym e ∙ f)
 
+  pub saves-some : b ≡ false → 0 < a
+  saves-some f = omega (arith, saves-three f)
+
   saves-less : {A : Type 0} → b ≡ true → m + 3 ≤ a → A
   saves-less t k = absurd (omega (arith, ltb-true a (m + 3) (sym e ∙ t)))
 
@@ -69,14 +62,12 @@ module _ (a m : ℕ) (b : Bool) (e : b ≡ ltb a (m + 3)) where
   part-enough n t h = record { part = h; all = saves-less t }
 
 -- what is enough is offered, or not, as the longest part is
-pub enough-spares : (a n m : ℕ) → Enough a n m → spared a (record { 0 = m }) ≡ spared a (record { 0 = n })
+pub enough-spares : (a n m : ℕ) → Enough a n m → shorterBy3 m a ≡ shorterBy3 n a
 enough-spares a n m e = go (leb (m + 3) a) refl
   where
-    go : (b : Bool) → leb (m + 3) a ≡ b → spared a (record { 0 = m }) ≡ spared a (record { 0 = n })
-    go true t = ap (λ (k : ℕ). spared a (record { 0 = k })) (e .all (leb-true (m + 3) a t))
-    go false t =
-        let l = leb-false (m + 3) a t in
-        sym (if-gt (m + 3) a (Take (record { 0 = m })) Keep Keep (omega arith) refl) ∙ if-gt (n + 3) a (Take (record { 0 = n })) Keep Keep (omega (arith, e .part)) refl
+    go : (b : Bool) → leb (m + 3) a ≡ b → shorterBy3 m a ≡ shorterBy3 n a
+    go true t = ap (λ (k : ℕ). shorterBy3 k a) (e .all (leb-true (m + 3) a t))
+    go false t = let l = leb-false (m + 3) a t in sym (shorter-kept a m l) ∙ shorter-kept a n (omega (arith, e .part))
 
 -- ---- lines
 
@@ -89,10 +80,12 @@ module _ (s : List ℕ) (a d : ℕ) (all : Lines) where
   pub lines-begin : linesEnd s all ≤ length s → LinesSoFar s a d all all 0
   lines-begin h = record { whole = omega arith; inside = h }
 
-  pub lines-again : (c r : Lines) (l : List ℕ) (m n k : ℕ) → 0 < c .left → l ≡ firstLine s c → n ≡ ofLine a d l → k ≡ max m n → LinesNext s c r → LinesSoFar s a d all c m → LinesSoFar s a d all r k
+  pub lines-again : (c r : Lines) (l : List ℕ) (m n k : ℕ) → 0 < c .left → l ≡ firstLine s c → n ≡ ofLine a d l → k ≡ max m n → LinesNext s c r
+      → LinesSoFar s a d all c m → LinesSoFar s a d all r k
   lines-again c r l m n k some f e q next so =
       let w = drop-cons (linesIn s c) 0 [] (omega (arith, lines-number s c)) in
-      let g : ofLines a d (linesIn s c) ≡ max n (ofLines a d (linesIn s r)) = ap (ofLines a d) w ∙ lines-cons a d (firstLine s c) (drop 1 (linesIn s c)) ∙ rw (e, f, next .lines) in
+      let g : ofLines a d (linesIn s c) ≡ max n (ofLines a d (linesIn s r)) = ap (ofLines a d) w ∙ lines-cons a d (firstLine s c) (drop 1 (linesIn s c))
+      ∙ rw (e, f, next .lines) in
       record { whole = omega (arith, so .whole, g); inside = omega (arith, so .inside, next .ends) }
 
   pub lines-enough : (c : Lines) (m : ℕ) (b : Bool) → b ≡ ltb a (m + 3) → b ≡ true → LinesSoFar s a d all c m → Enough a (ofLines a d (linesIn s all)) m
@@ -103,50 +96,14 @@ module _ (s : List ℕ) (a d : ℕ) (all : Lines) where
       let z = ap (ofLines a d) (nothing (linesIn s c) (omega (arith, lines-number s c))) in
       whole-enough a _ m (omega (arith, so .whole, z, lines-nil a d))
 
--- ---- cells
-
--- i of the cells that are to be passed
-pub record Skipping (s : List ℕ) (all c : Cells) (n i : ℕ) : Type 0 where
-  pub within : i ≤ n
-  pub skipped : Skipped s all i c
-  pub inside : cellsEnd s c ≤ length s
-
-module _ (s : List ℕ) (all : Cells) (n : ℕ) where
-  pub skip-begin : cellsEnd s all ≤ length s → Skipping s all all n 0
-  skip-begin h = record { within = omega arith; skipped = record { cells = refl; left = omega arith; ends = refl }; inside = h }
-
-  pub skip-again : (c r : Cells) (i : ℕ) → i < n → CellsNext s c r → Skipping s all c n i → Skipping s all r n (i + 1)
-  skip-again c r i h next so =
-      record {
-        within = omega arith;
-        skipped = record {
-          cells = next .cells ∙ rw (so .skipped .cells) (drop-drop 1 i (cellsIn s all));
-          left = omega (arith, next .left, so .skipped .left);
-          ends = next .ends ∙ so .skipped .ends;
-        };
-        inside = omega (arith, next .ends, so .inside);
-      }
-
-  -- no cell is left to pass
-  pub skip-short : (c : Cells) (i : ℕ) → c .left ≡ 0 → Skipping s all c n i → Skipped s all n c
-  skip-short c i z so =
-      let h : length (cellsIn s all) ≤ n = omega (arith, cells-number s all, so .skipped .left, so .within) in
-      record {
-        cells = nothing (cellsIn s c) (omega (arith, cells-number s c)) ∙ sym (drop-of-length-le (cellsIn s all) h);
-        left = omega (arith, so .skipped .left, so .within);
-        ends = so .skipped .ends;
-      }
-
-  pub skip-done : (c : Cells) (i : ℕ) → n ≤ i → Skipping s all c n i → Skipped s all n c
-  skip-done c i h so = let e : i ≡ n = omega (arith, so .within) in rw e at (so .skipped)
-
 -- ---- a row
 
 -- the cell's lines are inside the sheet
-pub row-inside : (s : List ℕ) (all c : Cells) (j : ℕ) (x : Cell) → Skipped s all j c → (c .left ≡ 0 → ⊥) → CellIs s c x → cellsEnd s all ≤ length s → linesEnd s (x .lines) ≤ length s
+pub row-inside : (s : List ℕ) (all c : Cells) (j : ℕ) (x : Cell) → CellsSkipped s all j c → (c .left ≡ 0 → ⊥) → CellIs s c x → cellsEnd s all ≤ length s
+    → linesEnd s (x .lines) ≤ length s
 row-inside s all c j x skipped n is h = omega (arith, is .ends, cell-whole s c (omega arith) (omega (arith, skipped .ends)))
 
-module _ (s : List ℕ) (all : Cells) (j a d : ℕ) (c : Cells) (skipped : Skipped s all j c) where
+module _ (s : List ℕ) (all : Cells) (j a d : ℕ) (c : Cells) (skipped : CellsSkipped s all j c) where
   pub row-short : c .left ≡ 0 → RowTried s all j a d (record { longest = 0; end = c .at })
   row-short z =
       record {
@@ -154,7 +111,8 @@ module _ (s : List ℕ) (all : Cells) (j a d : ℕ) (c : Cells) (skipped : Skipp
         ends = λ k. sym (cells-none s c (omega arith)) ∙ skipped .ends;
       }
 
-  module _ (x : Cell) (e m : ℕ) (n : c .left ≡ 0 → ⊥) (is : CellIs s c x) (q : e ≡ orElse (x .delimiter) d) (f : Enough a (ofLines a e (linesIn s (x .lines))) m) (b : Bool) (u : b ≡ ltb a (m + 3)) where
+  module _ (x : Cell) (e m : ℕ) (n : c .left ≡ 0 → ⊥) (is : CellIs s c x) (q : e ≡ orElse (x .delimiter) d)
+      (f : Enough a (ofLines a e (linesIn s (x .lines))) m) (b : Bool) (u : b ≡ ltb a (m + 3)) where
     row-cell : Enough a (ofCells j a d (cellsIn s all)) m
     row-cell =
         let k = cells-number s all in
@@ -165,7 +123,7 @@ module _ (s : List ℕ) (all : Cells) (j a d : ℕ) (c : Cells) (skipped : Skipp
     pub row-enough : (l : ℕ) → b ≡ true → RowTried s all j a d (record { longest = m; end = l })
     row-enough l t = record { longest = row-cell; ends = saves-less a m b u t }
 
-    pub row-there : (last : Cells) → Skipped s c (c .left) last → RowTried s all j a d (record { longest = m; end = last .at })
+    pub row-there : (last : Cells) → CellsSkipped s c (c .left) last → RowTried s all j a d (record { longest = m; end = last .at })
     row-there last rest = record { longest = row-cell; ends = λ k. sym (cells-none s last (omega (arith, rest .left))) ∙ rest .ends ∙ skipped .ends }
 
 -- ---- rows
@@ -192,7 +150,8 @@ module _ (s : List ℕ) (j a d : ℕ) (all : Rows) where
   row-fits c row m some is so = omega (arith, is .ends, row-whole s c some (so .inside))
 
   -- the walk ends after a row, or goes on
-  module _ (c : Rows) (row : Row) (found : Tried) (m k : ℕ) (some : 0 < c .left) (is : RowIs s c row) (tried : RowTried s (row .cells) j a d found) (q : k ≡ max m (found .longest)) (so : RowsSoFar s j a d all c m) (b : Bool) (u : b ≡ ltb a (k + 3)) where
+  module _ (c : Rows) (row : Row) (found : Tried) (m k : ℕ) (some : 0 < c .left) (is : RowIs s c row) (tried : RowTried s (row .cells) j a d found)
+      (q : k ≡ max m (found .longest)) (so : RowsSoFar s j a d all c m) (b : Bool) (u : b ≡ ltb a (k + 3)) where
     rows-first : ofRows j a d (rowsIn s c) ≡ max (ofCells j a d (cellsIn s (row .cells))) (ofRows j a d (drop 1 (rowsIn s c)))
     rows-first =
         let w = drop-cons (rowsIn s c) 0 noRow (omega (arith, rows-number s c)) in
@@ -205,8 +164,13 @@ module _ (s : List ℕ) (j a d : ℕ) (all : Rows) where
     rows-again f =
         let l = saves-three a k b u f in
         let next = rows-next s c some (found .end) (tried .ends (omega arith) ∙ is .ends) in
-        let g : ofRows j a d (rowsIn s (record { at = found .end; left = c .left - 1 })) ≡ ofRows j a d (drop 1 (rowsIn s c)) = ap (ofRows j a d) (next .rows) in
-        record { whole = omega (arith, so .whole, rows-first, g, tried .longest .all (omega arith)); ends = next .ends ∙ so .ends; inside = omega (arith, so .inside, next .ends) }
+        let g : ofRows j a d (rowsIn s (record { at = found .end; left = c .left - 1 })) ≡ ofRows j a d (drop 1 (rowsIn s c)) = ap (ofRows j a d)
+        (next .rows) in
+        record {
+          whole = omega (arith, so .whole, rows-first, g, tried .longest .all (omega arith));
+          ends = next .ends ∙ so .ends;
+          inside = omega (arith, so .inside, next .ends);
+        }
 
   pub rows-done : (c : Rows) (m : ℕ) → c .left ≤ 0 → RowsSoFar s j a d all c m → RowsTried s all j a d (record { longest = m; end = c .at })
   rows-done c m h so =
@@ -219,7 +183,8 @@ module _ (s : List ℕ) (j a d : ℕ) (all : Rows) where
 pub header-inside : (s : List ℕ) (c : Rows) → Passes s → rowsEnd s c ≡ rowsPlace s → rowsEnd s c ≤ length s
 header-inside s c h e = omega (arith, room s h .inside)
 
-pub header-behind : (s : List ℕ) (c : Rows) (j a d : ℕ) (r : Tried) (b : Bool) → b ≡ ltb a (r .longest + 3) → b ≡ false → RowsTried s c j a d r → rowsEnd s c ≡ rowsPlace s → rowsEnd s (record { at = r .end; left = 0 }) ≡ rowsPlace s
+pub header-behind : (s : List ℕ) (c : Rows) (j a d : ℕ) (r : Tried) (b : Bool) → b ≡ ltb a (r .longest + 3) → b ≡ false → RowsTried s c j a d r
+    → rowsEnd s c ≡ rowsPlace s → rowsEnd s (record { at = r .end; left = 0 }) ≡ rowsPlace s
 header-behind s c j a d r b q f tried e = rows-none s (record { at = r .end; left = 0 }) (omega arith) ∙ tried .ends (saves-three a (r .longest) b q f) ∙ e
 
 -- m of the header and n of the rows
@@ -231,18 +196,21 @@ pub tried-le : (s : List ℕ) (j a d : ℕ) (c : Rows) (r : Tried) → RowsTried
 tried-le s j a d c r x = omega (arith, x .longest .part, rows-le j a d (rowsIn s c))
 
 -- after the header alone, and after header and rows
-module _ (s : List ℕ) (j a d : ℕ) (h : Rows) (first : Tried) (x : RowsTried s h j a d first) (t : Table) (f : rowsIn s h ≡ t .header) (o : d ≡ otherwise t j) where
+module _ (s : List ℕ) (j a d : ℕ) (h : Rows) (first : Tried) (x : RowsTried s h j a d first) (t : Table) (f : rowsIn s h ≡ t .header)
+    (o : d ≡ otherwise t j) where
   both : longestPart t j a ≡ max (ofRows j a d (rowsIn s h)) (ofRows j a d (t .rows))
   both = longest-part t j a ∙ rw (← o, f) (rows-append j a d (t .header) (t .rows))
 
-  pub tried-header : (b : Bool) → b ≡ ltb a (first .longest + 3) → b ≡ true → spared a (record { 0 = first .longest }) ≡ spared a (record { 0 = longestPart t j a })
+  pub tried-header : (b : Bool) → b ≡ ltb a (first .longest + 3) → b ≡ true → shorterBy3 (first .longest) a ≡ shorterBy3 (longestPart t j a) a
   tried-header b e k = enough-spares a (longestPart t j a) (first .longest) (part-enough a (first .longest) b e _ k (omega (arith, both, x .longest .part)))
 
-  pub tried-both : (c : Rows) (others : Tried) (m : ℕ) → RowsTried s c j a d others → m ≡ max (first .longest) (others .longest) → rowsIn s c ≡ t .rows → spared a (record { 0 = m }) ≡ spared a (record { 0 = longestPart t j a })
+  pub tried-both : (c : Rows) (others : Tried) (m : ℕ) → RowsTried s c j a d others → m ≡ max (first .longest) (others .longest) → rowsIn s c ≡ t .rows
+      → shorterBy3 m a ≡ shorterBy3 (longestPart t j a) a
   tried-both c others m y e g =
       enough-spares a (longestPart t j a) m (rw (e, both, ← g) (both-enough a _ _ _ _ (x .longest) (y .longest)))
 
 -- the delimiter where a cell sets none
-pub otherwise-is : (t : Table) (j : ℕ) (c : Column) (x : Settings) (p q : ℕ) → c ≡ columnAt t j → x ≡ settingsOf t → p ≡ orElse (x .delimiter) 32 → q ≡ orElse (c .delimiter) p → q ≡ otherwise t j
+pub otherwise-is : (t : Table) (j : ℕ) (c : Column) (x : Settings) (p q : ℕ) → c ≡ columnAt t j → x ≡ settingsOf t → p ≡ orElse (x .delimiter) 32
+    → q ≡ orElse (c .delimiter) p → q ≡ otherwise t j
 unfolding settingsOf
 otherwise-is t j c x p q e f g h = h ∙ rw (g, e, f)

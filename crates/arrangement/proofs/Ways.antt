@@ -2,9 +2,11 @@
 use Prim.Native.Nat.{ℕ, _+_, _-_, _≤_, _<_}
 use mathlib.Core.Path.{_≡_, refl, sym, ap, ap₂, _∙_}
 use mathlib.Core.Bool.{Bool, true, false}
+use mathlib.Core.Option.{Option, none, some}
 use native.Mathlib.Omega.{arith}
 use lib.ListN.{getD}
 use lib.Dec.{eqb}
+use borrow.Author.Tests.{le-leb, lt-leb, lt-ltb, le-ltb}
 use Rattle.rules.specs.declared.Column.{Column}
 use Rattle.constraint.specs.declared.Layout.{Layout}
 use Rattle.constraint.specs.declared.State.{State}
@@ -13,57 +15,81 @@ use Rattle.style.specs.declared.column.ConstraintWidth.{ConstraintWidth}
 use Rattle.constraint.specs.declared.Bound.{Bound}
 use Rattle.constraint.specs.declared.Bound.the-variants.{Unset, At}
 use Rattle.constraint.specs.declared.Offer.{Offer}
-use Rattle.constraint.specs.declared.Offer.the-variants.{Keep, Take}
-use Rattle.constraint.specs.Widths.{column, longest, lower, upper, average, bit, decided, pass}
-use Rattle.constraint.proofs.Cases.{if-true, if-false, if-eq, if-ne, if-le, if-gt, if-lt, if-ge}
-use Rattle.arrangement.specs.Arrange.{trimmed, untargeted, charged, raised, lowerRule, short, fitting, fitRule, spared, splitRule, fitPass}
+use Rattle.constraint.specs.Widths.{column, longest, bound, offered, lower, upper, average, bit, decided, pass}
+use Rattle.constraint.proofs.Cases.{if-true, if-false, if-eq, if-ne}
+use Rattle.arrangement.specs.Arrange.{trimmed, untargeted, charged, raised, lowerRule, fitting, fitRule, splitRule, fitPass}
 use Rattle.rules.specs.Sheet.{padding, isHidden}
-use Rattle.style.specs.Choice.{content}
+use Rattle.rules.specs.Widths.{withinAverage, shorterBy3}
+use Rattle.style.specs.Column.{content}
 
-pub untargeted-rule : (t : Layout) (i : ℕ) (s : State) (b : Bound) (n : ContentWidth) → b ≡ upper t (s .visible) (column t i) → n ≡ trimmed (column t i) (longest t i) b → Take n ≡ untargeted t i s
+pub untargeted-rule : (t : Layout) (i : ℕ) (s : State) (b : Bound) (n : ContentWidth) → bound b ≡ upper t (s .visible) (column t i)
+    → n .0 ≡ trimmed (column t i) (longest t i) (bound b) → some (n .0) ≡ untargeted t i s
 unfolding untargeted
-untargeted-rule t i s b n e q = ap (λ (k : ContentWidth). Take k) (q ∙ ap (trimmed (column t i) (longest t i)) e)
+untargeted-rule t i s b n e q = ap some (q ∙ ap (trimmed (column t i) (longest t i)) e)
 
-pub lower-rule : (t : Layout) (i : ℕ) (s : State) (a : ℕ) (b : Bound) (o : Offer) → a ≡ average s → b ≡ lower t (s .visible) (column t i) → o ≡ raised a (column t i) b → o ≡ lowerRule t i s
+pub lower-rule : (t : Layout) (i : ℕ) (s : State) (a : ℕ) (b : Bound) (o : Offer) → a ≡ average s → bound b ≡ lower t (s .visible) (column t i)
+    → offered o ≡ raised a (column t i) (bound b) → offered o ≡ lowerRule t i s
 unfolding lowerRule
-lower-rule t i s a b o e p q = q ∙ ap₂ (λ (x : ℕ) (y : Bound). raised x (column t i) y) e p
+lower-rule t i s a b o e p q = q ∙ ap₂ (λ (x : ℕ) (y : Option ℕ). raised x (column t i) y) e p
 
-pub fit-rule : (t : Layout) (i : ℕ) (s : State) (a : ℕ) (b : Bound) (o : Offer) → a ≡ average s → b ≡ upper t (s .visible) (column t i) → o ≡ fitting a (column t i) (longest t i) b → o ≡ fitRule t i s
+pub fit-rule : (t : Layout) (i : ℕ) (s : State) (a : ℕ) (b : Bound) (o : Offer) → a ≡ average s → bound b ≡ upper t (s .visible) (column t i)
+    → offered o ≡ fitting a (column t i) (longest t i) (bound b) → offered o ≡ fitRule t i s
 unfolding fitRule
-fit-rule t i s a b o e p q = q ∙ ap₂ (λ (x : ℕ) (y : Bound). fitting x (column t i) (longest t i) y) e p
+fit-rule t i s a b o e p q = q ∙ ap₂ (λ (x : ℕ) (y : Option ℕ). fitting x (column t i) (longest t i) y) e p
 
-pub split-rule : (parts : ℕ → ℕ → ℕ) (t : Layout) (i : ℕ) (s : State) (a n : ℕ) (o : Offer) → a ≡ average s → spared a (record { 0 = n }) ≡ spared a (record { 0 = parts i a }) → o ≡ spared a (record { 0 = n }) → o ≡ splitRule parts t i s
+pub split-rule : (parts : ℕ → ℕ → ℕ) (t : Layout) (i : ℕ) (s : State) (a n : ℕ) (o : Offer) → a ≡ average s
+    → shorterBy3 n a ≡ shorterBy3 (parts i a) a → offered o ≡ shorterBy3 n a → offered o ≡ splitRule parts t i s
 unfolding splitRule
-split-rule parts t i s a n o e p q = q ∙ p ∙ ap (λ (k : ℕ). spared k (record { 0 = parts i k })) e
+split-rule parts t i s a n o e p q = q ∙ p ∙ ap (λ (k : ℕ). shorterBy3 (parts i k) k) e
+
+-- the ways out of an offer
+pub within-taken : (a n : ℕ) → n ≤ a → some n ≡ withinAverage n a
+unfolding withinAverage
+within-taken a n h = rw (le-leb n a h, withinAverage)
+
+pub within-kept : (a n : ℕ) → a < n → none ≡ withinAverage n a
+unfolding withinAverage
+within-kept a n h = rw (lt-leb n a h, withinAverage)
+
+pub shorter-taken : (a n : ℕ) → n + 3 ≤ a → some n ≡ shorterBy3 n a
+unfolding shorterBy3
+shorter-taken a n h = rw (le-leb (n + 3) a h, shorterBy3)
+
+pub shorter-kept : (a n : ℕ) → a < n + 3 → none ≡ shorterBy3 n a
+unfolding shorterBy3
+shorter-kept a n h = rw (lt-leb (n + 3) a h, shorterBy3)
 
 module _ (c : Column) (b : Bound) (w : ConstraintWidth) (e : b ≡ At w) where
-  pub trimmed-at : (n k : ContentWidth) → w .0 < n .0 → k ≡ content c w → k ≡ trimmed c n b
-  trimmed-at n k h q = rw e (if-lt (w .0) (n .0) _ n k h q)
+  pub trimmed-at : (n k : ContentWidth) → w .0 < n .0 → k ≡ content c w → k .0 ≡ trimmed c (n .0) (bound b)
+  trimmed-at n k h q = rw (e, lt-ltb (w .0) (n .0) h, trimmed) (ap (λ (x : ContentWidth). x .0) q)
 
-  pub trimmed-not : (n : ContentWidth) → n .0 ≤ w .0 → n ≡ trimmed c n b
-  trimmed-not n h = rw e (if-ge (w .0) (n .0) (content c w) n n h refl)
+  pub trimmed-not : (n : ContentWidth) → n .0 ≤ w .0 → n .0 ≡ trimmed c (n .0) (bound b)
+  trimmed-not n h = rw (e, le-ltb (w .0) (n .0) h, trimmed)
 
-  pub raised-at : (a : ℕ) (k : ContentWidth) → a < w .0 → k ≡ content c w → Take k ≡ raised a c b
-  raised-at a k h q = rw e (if-lt a (w .0) _ Keep (Take k) h (ap (λ (x : ContentWidth). Take x) q))
+  pub raised-at : (a : ℕ) (k : ContentWidth) → a < w .0 → k ≡ content c w → some (k .0) ≡ raised a c (bound b)
+  raised-at a k h q = rw (e, lt-ltb a (w .0) h, raised) (ap (λ (x : ContentWidth). some (x .0)) q)
 
-  pub raised-not : (a : ℕ) → w .0 ≤ a → Keep ≡ raised a c b
-  raised-not a h = rw e (if-ge a (w .0) (Take (content c w)) Keep Keep h refl)
+  pub raised-not : (a : ℕ) → w .0 ≤ a → none ≡ raised a c (bound b)
+  raised-not a h = rw (e, le-ltb a (w .0) h, raised)
 
   module _ (a : ℕ) (n : ContentWidth) (p : ℕ) (z : p ≡ padding c) where
-    pub fitting-at : (k : ContentWidth) → w .0 ≤ a + p → w .0 ≤ n .0 + p → k ≡ content c w → Take k ≡ fitting a c n b
+    pub fitting-at : (k : ContentWidth) → w .0 ≤ a + p → w .0 ≤ n .0 + p → k ≡ content c w → some (k .0) ≡ fitting a c (n .0) (bound b)
     fitting-at k h j q =
-        rw e (if-le (w .0) (a + padding c) _ (short a n) (Take k) (omega arith)
-        (if-le (w .0) (n .0 + padding c) _ (short a n) (Take k) (omega arith) (ap (λ (x : ContentWidth). Take x) q)))
+        let x = le-leb (w .0) (a + padding c) (omega arith) in
+        let y = le-leb (w .0) (n .0 + padding c) (omega arith) in
+        rw (e, x, y, fitting) (ap (λ (x : ContentWidth). some (x .0)) q)
 
-    pub fitting-wide : (o : Offer) → a + p < w .0 → o ≡ short a n → o ≡ fitting a c n b
-    fitting-wide o h q = rw e (if-gt (w .0) (a + padding c) _ (short a n) o (omega arith) q)
+    pub fitting-wide : (o : Offer) → a + p < w .0 → offered o ≡ withinAverage (n .0) a → offered o ≡ fitting a c (n .0) (bound b)
+    fitting-wide o h q = let x = lt-leb (w .0) (a + padding c) (omega arith) in rw (e, x, fitting) q
 
-    pub fitting-loose : (o : Offer) → w .0 ≤ a + p → n .0 + p < w .0 → o ≡ short a n → o ≡ fitting a c n b
+    pub fitting-loose : (o : Offer) → w .0 ≤ a + p → n .0 + p < w .0 → offered o ≡ withinAverage (n .0) a → offered o ≡ fitting a c (n .0) (bound b)
     fitting-loose o h j q =
-        rw e (if-le (w .0) (a + padding c) _ (short a n) o (omega arith)
-        (if-gt (w .0) (n .0 + padding c) (Take (content c w)) (short a n) o (omega arith) q))
+        let x = le-leb (w .0) (a + padding c) (omega arith) in
+        let y = lt-leb (w .0) (n .0 + padding c) (omega arith) in
+        rw (e, x, y, fitting) q
 
-pub fitting-unset : (a : ℕ) (c : Column) (n : ContentWidth) (b : Bound) (o : Offer) → b ≡ Unset → o ≡ short a n → o ≡ fitting a c n b
+pub fitting-unset : (a : ℕ) (c : Column) (n : ContentWidth) (b : Bound) (o : Offer) → b ≡ Unset → offered o ≡ withinAverage (n .0) a
+    → offered o ≡ fitting a c (n .0) (bound b)
 fitting-unset a c n b o e q = rw e q
 
 module _ (t : Layout) (s : State) (i r : ℕ) (h : Bool) (p : h ≡ isHidden (column t i)) where

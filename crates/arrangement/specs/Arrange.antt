@@ -1,38 +1,34 @@
 -- The arrangement: untargeted widths, the remaining width, steps 1 to 4, full width. Assumes nothing.
 use Prim.Native.Nat.{ℕ, zero, suc, _+_, _-_, _/_, _%_, max}
-use mathlib.Core.Bool.{true, false}
+use mathlib.Core.Bool.{true, false, _&&_}
+use mathlib.Core.Option.{Option, none, some}
 use lib.ListN.{getD, set, replicate}
 use lib.Dec.{eqb, leb, ltb}
 use lib.Count.{ones}
 use Rattle.rules.specs.declared.Column.{Column}
 use Rattle.constraint.specs.declared.Layout.{Layout}
 use Rattle.constraint.specs.declared.State.{State}
-use Rattle.style.specs.declared.column.ContentWidth.{ContentWidth}
-use Rattle.constraint.specs.declared.Bound.{Bound}
-use Rattle.constraint.specs.declared.Bound.the-variants.{Unset, At}
-use Rattle.constraint.specs.declared.Offer.{Offer}
-use Rattle.constraint.specs.declared.Offer.the-variants.{Keep, Take}
-use Rattle.constraint.specs.Widths.{choose, inOrder, column, longest, visible, borders, lower, upper, average, bit, decided, fixed, pass, evaluated}
+use Rattle.constraint.specs.Widths.{choose, inOrder, column, longest, visible, borders, lower, upper, average, setWidth, bit, decided, fixed, Rule, pass}
+use Rattle.constraint.specs.Widths.{evaluated}
 use Rattle.arrangement.specs.declared.dynamic.Sharing.{Sharing}
-use Rattle.rules.specs.Sheet.{padding, isHidden}
-use Rattle.style.specs.Choice.{content}
+use Rattle.rules.specs.Sheet.{mostColumns, padding, isHidden}
+use Rattle.rules.specs.Widths.{contentOf, withinAverage, shorterBy3}
 
 -- a pass that fixed a column is repeated
 unfoldable pub again : ℕ → (State → State) → State → State
 again zero f s = s
 again (suc fuel) f s = elim (eqb (f s .decided) (s .decided)) [ true ↦ f s | false ↦ again fuel f (f s) ]
 
--- each pass but the last fixes a column, and there are at most 16
+-- each pass but the last fixes a column, and there are at most as many as the set can hold
 abbrev pub repeated : (State → State) → State → State
-repeated f s = again 17 f s
+repeated f s = again (suc setWidth) f s
 
 -- No target, or `Disabled`: the longest; if an upper bound is below the longest, the bound made content
-abbrev pub trimmed : Column → ContentWidth → Bound → ContentWidth
-trimmed c n Unset = n
-trimmed c n (At w) = choose (ltb (w .0) (n .0)) (content c w) n
+abbrev pub trimmed : Column → ℕ → Option ℕ → ℕ
+trimmed c n b = elim b [ some w ↦ elim (ltb w n) [ true ↦ contentOf c w | false ↦ n ] | none ↦ n ]
 
-unfoldable pub untargeted : Layout → ℕ → State → Offer
-untargeted t i s = Take (trimmed (column t i) (longest t i) (upper t (s .visible) (column t i)))
+unfoldable pub untargeted : Rule
+untargeted t i s = some (trimmed (column t i) (longest t i) (upper t (s .visible) (column t i)))
 
 -- The remaining width: target less borders, undecided paddings and decided visible full widths, never below 0
 unfoldable pub charged : Layout → State → ℕ → ℕ → ℕ
@@ -48,28 +44,24 @@ abbrev pub targeted : Layout → State → State
 targeted t s = record { widths = s .widths; decided = s .decided; remaining = remaining t s; visible = s .visible }
 
 -- 1. Lower bounds above the average (a) are fixed
-abbrev pub raised : ℕ → Column → Bound → Offer
-raised a c Unset = Keep
-raised a c (At w) = choose (ltb a (w .0)) (Take (content c w)) Keep
+abbrev pub raised : ℕ → Column → Option ℕ → Option ℕ
+raised a c b = elim b [ some w ↦ elim (ltb a w) [ true ↦ some (contentOf c w) | false ↦ none ] | none ↦ none ]
 
-unfoldable pub lowerRule : Layout → ℕ → State → Offer
+unfoldable pub lowerRule : Rule
 lowerRule t i s = raised (average s) (column t i) (lower t (s .visible) (column t i))
 
 abbrev pub step1 : Layout → State → State
 step1 t s = repeated (pass lowerRule t) s
 
--- 2. An upper bound that is at most average plus padding and at most longest plus padding; else the longest if at most the average
-abbrev pub short : ℕ → ContentWidth → Offer
-short a n = choose (leb (n .0) a) (Take n) Keep
+-- 2. An upper bound that is at most average plus padding and at most longest (n) plus padding; else the longest if at most the average
+abbrev pub fitting : ℕ → Column → ℕ → Option ℕ → Option ℕ
+fitting a c n b =
+    elim b [
+      | some w ↦ elim (leb w (a + padding c) && leb w (n + padding c)) [ true ↦ some (contentOf c w) | false ↦ withinAverage n a ]
+      | none ↦ withinAverage n a
+    ]
 
-abbrev pub fitting : ℕ → Column → ContentWidth → Bound → Offer
-fitting a c n Unset = short a n
-fitting a c n (At w) =
-    choose (leb (w .0) (a + padding c))
-    (choose (leb (w .0) (n .0 + padding c)) (Take (content c w)) (short a n))
-    (short a n)
-
-unfoldable pub fitRule : Layout → ℕ → State → Offer
+unfoldable pub fitRule : Rule
 fitRule t i s = fitting (average s) (column t i) (longest t i) (upper t (s .visible) (column t i))
 
 -- a pass begins only if the average isn't 0
@@ -80,11 +72,8 @@ abbrev pub step2 : Layout → State → State
 step2 t s = repeated (fitPass t) s
 
 -- 3. The longest part of the lines split at the average, if it is shorter by 3 or more
-abbrev pub spared : ℕ → ContentWidth → Offer
-spared a n = choose (leb (n .0 + 3) a) (Take n) Keep
-
-unfoldable pub splitRule : (ℕ → ℕ → ℕ) → Layout → ℕ → State → Offer
-splitRule parts t i s = spared (average s) (record { 0 = parts i (average s) })
+unfoldable pub splitRule : (ℕ → ℕ → ℕ) → Rule
+splitRule parts t i s = shorterBy3 (parts i (average s)) (average s)
 
 abbrev pub step3 : (ℕ → ℕ → ℕ) → Layout → State → State
 step3 parts t s = repeated (pass (splitRule parts) t) s
@@ -97,7 +86,7 @@ share n parts k = choose (ltb k (n % parts)) (n / parts + 1) (n / parts)
 unfoldable pub sharing : Layout → ℕ → ℕ → ℕ → Sharing → Sharing
 sharing t n parts i x =
     choose (decided t i (x .state)) x
-    (record { state = fixed (x .state) i (record { 0 = share n parts (x .given) }); given = x .given + 1 })
+    (record { state = fixed (x .state) i (share n parts (x .given)); given = x .given + 1 })
 
 abbrev pub undecided : State → ℕ
 undecided s = s .visible - ones (s .decided)
@@ -129,7 +118,7 @@ abbrev pub dynamic : (ℕ → ℕ → ℕ) → Layout → State → State
 dynamic parts t s = finished t (step3 parts t (step2 t (step1 t (targeted t s))))
 
 abbrev pub begun : Layout → State
-begun t = record { widths = replicate 12 0; decided = 0; remaining = 0; visible = visible t }
+begun t = record { widths = replicate mostColumns 0; decided = 0; remaining = 0; visible = visible t }
 
 -- the first step, for each column
 abbrev pub started : Layout → State

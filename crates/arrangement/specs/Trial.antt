@@ -33,12 +33,6 @@ ofRows j a d (r ∷ rs) = max (ofCells j a d (r .cells)) (ofRows j a d rs)
 abbrev pub otherwise : Table → ℕ → ℕ
 otherwise t j = orElse (columnAt t j .delimiter) (orElse (t .delimiter) 32)
 
--- the first n cells have been passed
-pub record Skipped (s : List ℕ) (c : Cells) (n : ℕ) (r : Cells) : Type 0 where
-  pub cells : cellsIn s r ≡ drop n (cellsIn s c)
-  pub left : r .left ≡ c .left - n
-  pub ends : cellsEnd s r ≡ cellsEnd s c
-
 -- m in place of the longest part n, at the average a: no longer than n, and n itself if m is shorter than a by 3 or more
 pub record Enough (a n m : ℕ) : Type 0 where
   pub part : m ≤ n

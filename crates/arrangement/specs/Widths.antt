@@ -3,7 +3,7 @@ use Prim.Native.Nat.{ℕ, _+_}
 use mathlib.Core.List.{List, map}
 use mathlib.Core.Bool.{Bool, false}
 use lib.ListN.{length, set, replicate}
-use Rattle.rules.specs.Sheet.{Table, columnAt, isHidden}
+use Rattle.rules.specs.Sheet.{Table, mostColumns, columnAt, isHidden}
 use Rattle.rules.specs.Style.{glyphAt, topBorder, headerLines, headerRule, contentLines, rowRule, bottomBorder}
 use Rattle.rules.specs.Calls.{padded}
 use Rattle.rules.specs.Widths.{contents, numbers}
@@ -37,7 +37,7 @@ abbrev pub marking : Layout → ℕ → List Bool → List Bool
 marking l i fs = set fs i (isHidden (column l i))
 
 abbrev pub marked : Layout → List Bool
-marked l = inOrder (marking l) (l .count) (replicate 12 false)
+marked l = inOrder (marking l) (l .count) (replicate mostColumns false)
 
 -- each column's content width and whether it is hidden; 0 and not hidden past the columns
 unfoldable pub widthsOf : Table → Widths

@@ -1,16 +1,14 @@
 // What a column would need after a split: `longest_line_after_split` of comfy-table's `arrangement/dynamic.rs`, a function for each of
 // its loops. No text is copied: each line is the part of the sheet that holds it.
 ghost use mathlib.Core.Path.{_≡_};
-ghost use Prim.Native.Nat.{_+_, _≤_, _<_, max};
+ghost use Prim.Native.Nat.{_+_, _≤_, _<_};
 ghost use lib.Dec.{ltb};
 ghost use lib.ListN.{length};
-ghost use Rattle.rules.specs.Text.{orElse};
 ghost use Rattle.rules.specs.Sheet.{columnAt};
-ghost use Rattle.rules.specs.Widths.{lifted, longestPart};
+ghost use Rattle.rules.specs.Widths.{shorterBy3, longestPart};
 ghost use Rattle.sheet.specs.Held.{Passes, tableOf};
-ghost use Rattle.sheet.specs.Walk.{rowsIn, cellsIn, linesIn, rowsEnd, cellsEnd, linesEnd};
-ghost use Rattle.arrangement.specs.Arrange.{spared};
-ghost use Rattle.arrangement.specs.Trial.{ofLine, ofLines, Enough, RowTried, RowsTried, Skipped};
+ghost use Rattle.sheet.specs.Walk.{linesIn, rowsEnd, cellsEnd, linesEnd};
+ghost use Rattle.arrangement.specs.Trial.{ofLine, ofLines, Enough, RowTried, RowsTried};
 use rules::Column;
 use sheet::records::Cells;
 use sheet::records::Lines;
@@ -24,35 +22,16 @@ pub struct Tried {
     pub end: usize,
 }
 
-fn greater(a: usize, b: usize) -> usize
-    ensures { λ r. ⌜ r ≡ max a b ⌝ }
-{
-    if a < b {
-        return b;
-    }
-    a
-}
-
-// A delimiter, or the one that stands in for it.
-fn or_else(a: u8, b: u8) -> u8
-    ensures { λ r. ⌜ r ≡ orElse a b ⌝ }
-{
-    if a == 0 {
-        return b;
-    }
-    a
-}
-
-// A line that is no longer than the average isn't split; at an average of 0 the others are split at 1.
-fn of_line(line: &[u8], average: usize, delimiter: u8) -> usize
+// A line that is no longer than the average isn't split. Below an average of 3 no split pays, and no line is looked at.
+fn longest_part_of_line(line: &[u8], average: usize, delimiter: u8) -> usize
+    requires { ⌜ 0 < average ⌝ }
     ensures { λ r. ⌜ r ≡ ofLine average delimiter (now (line .entry)) ⌝ }
 {
     let n = line.len();
     if n <= average {
         return n;
     }
-    let width = greater(1, average);
-    content_split::longest_part(line, width, delimiter)
+    content_split::longest_part(line, average, delimiter)
 }
 
 // Splitting pays only if it saves three columns: with such a part it doesn't, whatever the others are.
@@ -66,7 +45,7 @@ fn saves_too_little(average: usize, longest: usize) -> bool
 }
 
 // The lines after such a part aren't split.
-fn of_lines(sheet: &[u8], lines: Lines, average: usize, delimiter: u8) -> usize
+fn longest_part_of_lines(sheet: &[u8], lines: Lines, average: usize, delimiter: u8) -> usize
     requires { ⌜ linesEnd (now sheet) lines ≤ length (now sheet) ⌝ }
     ensures { λ r. ⌜ Enough average (ofLines average delimiter (linesIn (now (sheet .entry)) lines)) r ⌝ }
 {
@@ -77,35 +56,24 @@ fn of_lines(sheet: &[u8], lines: Lines, average: usize, delimiter: u8) -> usize
             return longest;
         }
         let line = walk::line(sheet, c);
-        longest = greater(longest, of_line(line, average, delimiter));
+        longest = numbers::greater(longest, longest_part_of_line(line, average, delimiter));
         c = walk::next_line(sheet, c);
     }
     longest
 }
 
-// The cells after the first n, none where there are no more.
-fn skip(sheet: &[u8], cells: Cells, n: usize) -> Cells
-    requires { ⌜ cellsEnd (now sheet) cells ≤ length (now sheet) ⌝ }
-    ensures { λ r. ⌜ Skipped (now (sheet .entry)) cells n r ⌝ }
-{
-    let mut c = cells;
-    let mut i: usize = 0;
-    while i < n {
-        if c.left == 0 {
-            return c;
-        }
-        c = walk::next_cell(sheet, c);
-        i += 1;
-    }
-    c
-}
-
 // A row that is short has no cell in the column. After such a part the row's end isn't looked for.
-fn of_row(sheet: &[u8], cells: Cells, column: usize, average: usize, otherwise: u8) -> Tried
+fn longest_part_of_row(
+    sheet: &[u8],
+    cells: Cells,
+    column: usize,
+    average: usize,
+    otherwise: u8,
+) -> Tried
     requires { ⌜ cellsEnd (now sheet) cells ≤ length (now sheet) ⌝ }
     ensures { λ r. ⌜ RowTried (now (sheet .entry)) cells column average otherwise r ⌝ }
 {
-    let c = skip(sheet, cells, column);
+    let c = walk::skip_cells(sheet, cells, column);
     if c.left == 0 {
         return Tried {
             longest: 0,
@@ -114,11 +82,16 @@ fn of_row(sheet: &[u8], cells: Cells, column: usize, average: usize, otherwise: 
     }
     let cell = walk::cell(sheet, c);
     let lines = cell.lines;
-    let longest = of_lines(sheet, lines, average, or_else(cell.delimiter, otherwise));
+    let longest = longest_part_of_lines(
+        sheet,
+        lines,
+        average,
+        numbers::or_else(cell.delimiter, otherwise),
+    );
     if saves_too_little(average, longest) {
         return Tried { longest, end: c.at };
     }
-    let last = skip(sheet, c, c.left);
+    let last = walk::skip_cells(sheet, c, c.left);
     Tried {
         longest,
         end: last.at,
@@ -126,7 +99,13 @@ fn of_row(sheet: &[u8], cells: Cells, column: usize, average: usize, otherwise: 
 }
 
 // The rows after such a part aren't walked.
-fn of_rows(sheet: &[u8], rows: Rows, column: usize, average: usize, otherwise: u8) -> Tried
+fn longest_part_of_rows(
+    sheet: &[u8],
+    rows: Rows,
+    column: usize,
+    average: usize,
+    otherwise: u8,
+) -> Tried
     requires { ⌜ rowsEnd (now sheet) rows ≤ length (now sheet) ⌝ }
     ensures { λ r. ⌜ RowsTried (now (sheet .entry)) rows column average otherwise r ⌝ }
 {
@@ -135,8 +114,8 @@ fn of_rows(sheet: &[u8], rows: Rows, column: usize, average: usize, otherwise: u
     while 0 < c.left {
         let row = walk::row(sheet, c);
         let cells = row.cells;
-        let found = of_row(sheet, cells, column, average, otherwise);
-        longest = greater(longest, found.longest);
+        let found = longest_part_of_row(sheet, cells, column, average, otherwise);
+        longest = numbers::greater(longest, found.longest);
         if saves_too_little(average, longest) {
             return Tried {
                 longest,
@@ -154,13 +133,13 @@ fn of_rows(sheet: &[u8], rows: Rows, column: usize, average: usize, otherwise: u
 // The longest part of the column's lines, over header and rows, split at the average; or one that saves too little as well.
 pub fn longest_line_after_split(sheet: &[u8], c: Column, column: usize, average: u16) -> u16
     requires { ⌜ Passes (now sheet) × (c ≡ columnAt (tableOf (now sheet)) column) ⌝ }
-    ensures { λ r. ⌜ spared average (record { 0 = r }) ≡ spared average (record { 0 = longestPart (tableOf (now (sheet .entry))) column average }) ⌝ }
+    ensures { λ r. ⌜ shorterBy3 r average ≡ shorterBy3 (longestPart (tableOf (now (sheet .entry))) column average) average ⌝ }
 {
     let table = settings::settings(sheet);
-    let otherwise = or_else(c.delimiter, or_else(table.delimiter, b' '));
+    let otherwise = numbers::or_else(c.delimiter, numbers::or_else(table.delimiter, b' '));
     let a = average as usize;
     let header = walk::header(sheet);
-    let first = of_rows(sheet, header, column, a, otherwise);
+    let first = longest_part_of_rows(sheet, header, column, a, otherwise);
     if saves_too_little(a, first.longest) {
         return first.longest as u16;
     }
@@ -169,6 +148,6 @@ pub fn longest_line_after_split(sheet: &[u8], c: Column, column: usize, average:
         left: 0,
     };
     let rows = walk::rows(sheet, behind);
-    let others = of_rows(sheet, rows, column, a, otherwise);
-    greater(first.longest, others.longest) as u16
+    let others = longest_part_of_rows(sheet, rows, column, a, otherwise);
+    numbers::greater(first.longest, others.longest) as u16
 }

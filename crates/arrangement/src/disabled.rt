@@ -1,7 +1,8 @@
 // Widths without a target, or with `Disabled`: comfy-table's `arrangement/disabled.rs`.
 ghost use mathlib.Core.Path.{_≡_};
 ghost use Prim.Native.Nat.{_≤_, _<_};
-ghost use Rattle.constraint.specs.Widths.{pass, step};
+ghost use Rattle.rules.specs.Sheet.{mostColumns};
+ghost use Rattle.constraint.specs.Widths.{bound, pass, step};
 ghost use Rattle.arrangement.specs.Arrange.{trimmed, untargeted};
 use constraint::Bound;
 use constraint::Layout;
@@ -13,7 +14,7 @@ use style::column::ContentWidth;
 
 // The longest, or an upper bound that is below it; padding isn't counted in this test.
 fn trimmed_width(c: Column, n: ContentWidth, b: Bound) -> ContentWidth
-    ensures { λ r. ⌜ r ≡ trimmed c n b ⌝ }
+    ensures { λ r. ⌜ r .0 ≡ trimmed c (n .0) (bound b) ⌝ }
 {
     match b {
         Bound::Unset => n,
@@ -28,7 +29,7 @@ fn trimmed_width(c: Column, n: ContentWidth, b: Bound) -> ContentWidth
 }
 
 fn untargeted_step(t: Layout, i: usize, s: State) -> State
-    requires { ⌜ i < 12 ⌝ }
+    requires { ⌜ i < mostColumns ⌝ }
     ensures { λ r. ⌜ r ≡ step untargeted t i s ⌝ }
 {
     if constraint::is_decided(t, i, s) {
@@ -45,7 +46,7 @@ fn untargeted_step(t: Layout, i: usize, s: State) -> State
 
 // Without a target, or with `Disabled`: every undecided column is fixed.
 pub fn arrange(t: Layout, s: State) -> State
-    requires { ⌜ t .count ≤ 12 ⌝ }
+    requires { ⌜ t .count ≤ mostColumns ⌝ }
     ensures { λ r. ⌜ r ≡ pass untargeted t s ⌝ }
 {
     let n = t.count as usize;

@@ -1,12 +1,14 @@
 // Widths that are to make up a target: comfy-table's `arrangement/dynamic.rs`.
 ghost use mathlib.Core.Path.{_≡_};
-ghost use Prim.Native.Nat.{_+_, _≤_, _<_, max};
+ghost use Prim.Native.Nat.{_+_, _≤_, _<_};
 ghost use lib.ListN.{getD};
-ghost use Rattle.constraint.specs.Widths.{pass, step, average};
+ghost use Rattle.constraint.specs.Widths.{bound, offered, pass, step, average};
 ghost use Rattle.arrangement.specs.Limits.{Small};
-ghost use Rattle.arrangement.specs.Arrange.{charged, remaining, targeted, raised, lowerRule, step1, short, fitting, fitRule, fitPass, step2, spared, splitRule, step3, share, sharing, undecided, distributed, widened, widening, filled, finished, dynamic, started};
+ghost use Rattle.arrangement.specs.Arrange.{charged, remaining, targeted, raised, lowerRule, step1, fitting, fitRule, fitPass, step2, splitRule, step3};
+ghost use Rattle.arrangement.specs.Arrange.{share, sharing, undecided, distributed, widened, widening, filled, finished, dynamic, started};
 ghost use Rattle.arrangement.specs.Describes.{Describes};
-ghost use Rattle.rules.specs.Widths.{longestPart};
+ghost use Rattle.rules.specs.Sheet.{mostColumns};
+ghost use Rattle.rules.specs.Widths.{withinAverage, shorterBy3, longestPart};
 ghost use Rattle.sheet.specs.Held.{Passes, tableOf};
 use super::after_split;
 use constraint::Bound;
@@ -25,7 +27,7 @@ pub struct Sharing {
 
 // What column i takes off the remaining width: its padding, and its width if it is decided.
 fn charge(t: Layout, s: State, i: usize, r: u16) -> u16
-    requires { ⌜ i < 12 ⌝ }
+    requires { ⌜ i < mostColumns ⌝ }
     ensures { λ q. ⌜ q ≡ charged t s i r ⌝ }
 {
     let c = t.columns[i];
@@ -34,14 +36,14 @@ fn charge(t: Layout, s: State, i: usize, r: u16) -> u16
     }
     let p = column::padding_width(c);
     if constraint::is_in(s.decided, i) {
-        return column::minus(column::minus(r, s.widths[i]), p);
+        return numbers::minus_u16(numbers::minus_u16(r, s.widths[i]), p);
     }
-    column::minus(r, p)
+    numbers::minus_u16(r, p)
 }
 
 // What the columns leave of the target.
 fn remaining_width(t: Layout, s: State) -> u16
-    requires { ⌜ t .count ≤ 12 ⌝ }
+    requires { ⌜ t .count ≤ mostColumns ⌝ }
     ensures { λ q. ⌜ q ≡ remaining t s ⌝ }
 {
     let n = t.count as usize;
@@ -53,7 +55,7 @@ fn remaining_width(t: Layout, s: State) -> u16
 }
 
 fn target(t: Layout, s: State) -> State
-    requires { ⌜ t .count ≤ 12 ⌝ }
+    requires { ⌜ t .count ≤ mostColumns ⌝ }
     ensures { λ r. ⌜ r ≡ targeted t s ⌝ }
 {
     let mut r = s;
@@ -63,7 +65,7 @@ fn target(t: Layout, s: State) -> State
 
 // A lower bound, padding counted, is compared with the average as it stands.
 fn raised_offer(a: u16, c: Column, b: Bound) -> Offer
-    ensures { λ r. ⌜ r ≡ raised a c b ⌝ }
+    ensures { λ r. ⌜ offered r ≡ raised a c (bound b) ⌝ }
 {
     match b {
         Bound::Unset => Offer::Keep,
@@ -78,7 +80,7 @@ fn raised_offer(a: u16, c: Column, b: Bound) -> Offer
 }
 
 fn lower_step(t: Layout, i: usize, s: State, a: u16) -> State
-    requires { ⌜ (i < 12) × (a ≡ average s) ⌝ }
+    requires { ⌜ (i < mostColumns) × (a ≡ average s) ⌝ }
     ensures { λ r. ⌜ r ≡ step lowerRule t i s ⌝ }
 {
     if constraint::is_decided(t, i, s) {
@@ -90,7 +92,7 @@ fn lower_step(t: Layout, i: usize, s: State, a: u16) -> State
 
 // The average is that of the moment: a column that is fixed changes it for those after it.
 fn lower_pass(t: Layout, s: State) -> State
-    requires { ⌜ t .count ≤ 12 ⌝ }
+    requires { ⌜ t .count ≤ mostColumns ⌝ }
     ensures { λ r. ⌜ r ≡ pass lowerRule t s ⌝ }
 {
     let n = t.count as usize;
@@ -103,7 +105,7 @@ fn lower_pass(t: Layout, s: State) -> State
 
 // Step 1. A column that is fixed can bring the average below another lower bound.
 fn enforce_lower_boundary_constraints(t: Layout, s: State) -> State
-    requires { ⌜ t .count ≤ 12 ⌝ }
+    requires { ⌜ t .count ≤ mostColumns ⌝ }
     ensures { λ r. ⌜ r ≡ step1 t s ⌝ }
 {
     let mut r = s;
@@ -117,7 +119,7 @@ fn enforce_lower_boundary_constraints(t: Layout, s: State) -> State
 }
 
 fn short_offer(a: u16, n: ContentWidth) -> Offer
-    ensures { λ r. ⌜ r ≡ short a n ⌝ }
+    ensures { λ r. ⌜ offered r ≡ withinAverage (n .0) a ⌝ }
 {
     if n.0 <= a {
         return Offer::Take(n);
@@ -127,7 +129,7 @@ fn short_offer(a: u16, n: ContentWidth) -> Offer
 
 // An upper bound that the content reaches and the average allows comes before the longest.
 fn fitting_offer(a: u16, c: Column, n: ContentWidth, b: Bound) -> Offer
-    ensures { λ r. ⌜ r ≡ fitting a c n b ⌝ }
+    ensures { λ r. ⌜ offered r ≡ fitting a c (n .0) (bound b) ⌝ }
 {
     match b {
         Bound::Unset => short_offer(a, n),
@@ -145,7 +147,7 @@ fn fitting_offer(a: u16, c: Column, n: ContentWidth, b: Bound) -> Offer
 }
 
 fn fit_step(t: Layout, i: usize, s: State, a: u16) -> State
-    requires { ⌜ (i < 12) × (a ≡ average s) ⌝ }
+    requires { ⌜ (i < mostColumns) × (a ≡ average s) ⌝ }
     ensures { λ r. ⌜ r ≡ step fitRule t i s ⌝ }
 {
     if constraint::is_decided(t, i, s) {
@@ -162,7 +164,7 @@ fn fit_step(t: Layout, i: usize, s: State, a: u16) -> State
 
 // The average that counts is that of the state which the last visit left.
 fn fit_pass(t: Layout, s: State) -> State
-    requires { ⌜ t .count ≤ 12 ⌝ }
+    requires { ⌜ t .count ≤ mostColumns ⌝ }
     ensures { λ r. ⌜ r ≡ pass fitRule t s ⌝ }
 {
     let n = t.count as usize;
@@ -178,7 +180,7 @@ fn fit_pass(t: Layout, s: State) -> State
 
 // A pass begins only if there is room for one more character in a column.
 fn fit_pass_if_room(t: Layout, s: State) -> State
-    requires { ⌜ t .count ≤ 12 ⌝ }
+    requires { ⌜ t .count ≤ mostColumns ⌝ }
     ensures { λ r. ⌜ r ≡ fitPass t s ⌝ }
 {
     if constraint::average_space(s) == 0 {
@@ -189,7 +191,7 @@ fn fit_pass_if_room(t: Layout, s: State) -> State
 
 // Step 2. What a short column leaves raises the average for the others.
 fn find_columns_that_fit_into_average(t: Layout, s: State) -> State
-    requires { ⌜ t .count ≤ 12 ⌝ }
+    requires { ⌜ t .count ≤ mostColumns ⌝ }
     ensures { λ r. ⌜ r ≡ step2 t s ⌝ }
 {
     let mut r = s;
@@ -203,8 +205,8 @@ fn find_columns_that_fit_into_average(t: Layout, s: State) -> State
 }
 
 // Splitting pays only if it saves three columns.
-fn spared_offer(a: u16, n: ContentWidth) -> Offer
-    ensures { λ r. ⌜ r ≡ spared a n ⌝ }
+fn split_offer(a: u16, n: ContentWidth) -> Offer
+    ensures { λ r. ⌜ offered r ≡ shorterBy3 (n .0) a ⌝ }
 {
     if n.0 as u32 + 3 <= a as u32 {
         return Offer::Take(n);
@@ -221,7 +223,7 @@ fn split_step(sheet: &[u8], t: Layout, i: usize, s: State, a: u16) -> State
     }
     let c = t.columns[i];
     let n = after_split::longest_line_after_split(sheet, c, i, a);
-    constraint::take(s, i, spared_offer(a, ContentWidth(n)))
+    constraint::take(s, i, split_offer(a, ContentWidth(n)))
 }
 
 fn split_pass(sheet: &[u8], t: Layout, s: State) -> State
@@ -267,20 +269,11 @@ fn share_of(n: u16, parts: u16, k: u16) -> u16
 fn undecided_columns(s: State) -> u16
     ensures { λ r. ⌜ r ≡ undecided s ⌝ }
 {
-    column::minus(s.visible, u16::count_ones(s.decided) as u16)
-}
-
-fn greater(a: u16, b: u16) -> u16
-    ensures { λ r. ⌜ r ≡ max a b ⌝ }
-{
-    if a < b {
-        return b;
-    }
-    a
+    numbers::minus_u16(s.visible, u16::count_ones(s.decided) as u16)
 }
 
 fn share_step(t: Layout, n: u16, parts: u16, i: usize, x: Sharing) -> Sharing
-    requires { ⌜ (i < 12) × (0 < parts) × (x .given < 65535) ⌝ }
+    requires { ⌜ (i < mostColumns) × (0 < parts) × (x .given < 65535) ⌝ }
     ensures { λ r. ⌜ r ≡ sharing t n parts i x ⌝ }
 {
     let s = x.state;
@@ -297,12 +290,12 @@ fn share_step(t: Layout, n: u16, parts: u16, i: usize, x: Sharing) -> Sharing
 
 // Step 4, with columns left: each gets at least 1.
 fn distribute_remaining_space(t: Layout, s: State) -> State
-    requires { ⌜ (t .count ≤ 12) × (0 < undecided s) ⌝ }
+    requires { ⌜ (t .count ≤ mostColumns) × (0 < undecided s) ⌝ }
     ensures { λ r. ⌜ r ≡ distributed t s ⌝ }
 {
     let n = t.count as usize;
     let parts = undecided_columns(s);
-    let total = greater(s.remaining, parts);
+    let total = numbers::greater_u16(s.remaining, parts);
     let mut x = Sharing { state: s, given: 0 };
     for i in 0..n {
         x = share_step(t, total, parts, i, x);
@@ -311,7 +304,7 @@ fn distribute_remaining_space(t: Layout, s: State) -> State
 }
 
 fn widen(s: State, i: usize, n: u16) -> State
-    requires { ⌜ (i < 12) × (getD (s .widths) i 0 + n < 65536) ⌝ }
+    requires { ⌜ (i < mostColumns) × (getD (s .widths) i 0 + n < 65536) ⌝ }
     ensures { λ r. ⌜ r ≡ widened s i n ⌝ }
 {
     let mut r = s;
@@ -320,7 +313,7 @@ fn widen(s: State, i: usize, n: u16) -> State
 }
 
 fn widen_step(t: Layout, n: u16, parts: u16, i: usize, x: Sharing) -> Sharing
-    requires { ⌜ (i < 12) × (0 < parts) × (x .given < 65535) × (getD (x .state .widths) i 0 + n < 65536) ⌝ }
+    requires { ⌜ (i < mostColumns) × (0 < parts) × (x .given < 65535) × (getD (x .state .widths) i 0 + n < 65536) ⌝ }
     ensures { λ r. ⌜ r ≡ widening t n parts i x ⌝ }
 {
     if constraint::is_hidden(t.columns[i]) {
@@ -337,7 +330,7 @@ fn widen_step(t: Layout, n: u16, parts: u16, i: usize, x: Sharing) -> Sharing
 
 // Step 4, with none left: every visible column is widened.
 fn use_full_width(t: Layout, s: State) -> State
-    requires { ⌜ (t .count ≤ 12) × Small s ⌝ }
+    requires { ⌜ (t .count ≤ mostColumns) × Small s ⌝ }
     ensures { λ r. ⌜ r ≡ filled t s ⌝ }
 {
     let n = t.count as usize;
@@ -355,7 +348,7 @@ fn use_full_width(t: Layout, s: State) -> State
 
 // Step 4.
 fn finish(t: Layout, s: State) -> State
-    requires { ⌜ (t .count ≤ 12) × Small s ⌝ }
+    requires { ⌜ (t .count ≤ mostColumns) × Small s ⌝ }
     ensures { λ r. ⌜ r ≡ finished t s ⌝ }
 {
     if undecided_columns(s) == 0 {

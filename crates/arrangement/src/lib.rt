@@ -6,6 +6,7 @@ pub mod layout;
 
 ghost use mathlib.Core.Path.{_≡_};
 ghost use Prim.Native.Nat.{_≤_};
+ghost use Rattle.rules.specs.Sheet.{mostColumns};
 ghost use Rattle.rules.specs.Widths.{longestPart};
 ghost use Rattle.sheet.specs.Held.{Passes, tableOf};
 ghost use Rattle.arrangement.specs.Arrange.{started, arranged};
@@ -13,22 +14,23 @@ ghost use Rattle.arrangement.specs.Describes.{Describes};
 ghost use Rattle.arrangement.specs.Widths.{marked, widthsOf};
 use constraint::Layout;
 use constraint::State;
+use rules::MOST_COLUMNS;
 
 // Content widths and hidden columns: the first `count` are the sheet's, past them they are 0 and not hidden.
 pub struct Widths {
     pub count: usize,
-    pub content: [u16; 12],
-    pub hidden: [bool; 12],
+    pub content: [u16; MOST_COLUMNS],
+    pub hidden: [bool; MOST_COLUMNS],
 }
 
 // The first step for every column.
 fn start(t: Layout) -> State
-    requires { ⌜ t .count ≤ 12 ⌝ }
+    requires { ⌜ t .count ≤ mostColumns ⌝ }
     ensures { λ r. ⌜ r ≡ started t ⌝ }
 {
     let n = t.count as usize;
     let mut r = State {
-        widths: [0u16; 12],
+        widths: [0u16; MOST_COLUMNS],
         decided: 0,
         remaining: 0,
         visible: constraint::count_visible_columns(t),
@@ -55,12 +57,12 @@ fn arrange(sheet: &[u8], t: Layout) -> State
 }
 
 // Callers skip hidden columns without looking at constraints.
-fn hidden_columns(t: Layout) -> [bool; 12]
-    requires { ⌜ t .count ≤ 12 ⌝ }
+fn hidden_columns(t: Layout) -> [bool; MOST_COLUMNS]
+    requires { ⌜ t .count ≤ mostColumns ⌝ }
     ensures { λ r. ⌜ r ≡ marked t ⌝ }
 {
     let n = t.count as usize;
-    let mut flags = [false; 12];
+    let mut flags = [false; MOST_COLUMNS];
     for i in 0..n {
         flags[i] = constraint::is_hidden(t.columns[i]);
     }

@@ -1,19 +1,15 @@
 -- A set of columns in a number's binary digits, and adding an absent one. Assumes nothing.
 use mathlib.Core.Path.{_≡_, refl, sym, ap, _∙_}
 use mathlib.Core.Bool.{false}
-use Prim.Native.Nat.{ℕ, zero, suc, _+_, _-_, _*_, _/_, _%_, _^_, _<_}
+use Prim.Native.Nat.{ℕ, zero, suc, _+_, _*_, _/_, _%_, _^_, _<_}
 use native.Mathlib.Nat.{pow-suc, not-suc-le-zero, le-of-suc-le-suc, one-mul}
 use native.Mathlib.Numerals.{one-add}
 use native.Mathlib.Omega.{arith}
-use lib.ListN.{set}
 use lib.Dec.{eqb}
 use lib.Pow.{shr-shr, shl-exact}
 use lib.Count.{ones, ones-step}
 use borrow.Author.Tests.{eqb-false}
-use Rattle.constraint.specs.Widths.{bit}
-
-half : (d s : ℕ) → s < 2 ^ suc d → s / 2 < 2 ^ d
-half d s h = omega (arith, pow-suc 2 d)
+use Rattle.constraint.specs.Widths.{bit, setWidth}
 
 absent-half : (s i : ℕ) → s / 2 ^ suc i % 2 ≡ 0 → s / 2 / 2 ^ i % 2 ≡ 0
 absent-half s i e = ap (λ (k : ℕ). k % 2) (shr-shr s 1 i ∙ ap (λ (k : ℕ). s / 2 ^ k) (one-add i)) ∙ e
@@ -38,8 +34,8 @@ count-add (suc i) s e =
 pub bit-zero : (s i : ℕ) → eqb (bit s i) 1 ≡ false → bit s i ≡ 0
 bit-zero s i e = let n : bit s i ≡ 1 → ⊥ = eqb-false (bit s i) 1 e in omega arith
 
-pub shift : (i : ℕ) → i < 12 → 1 * 2 ^ i % 65536 ≡ 2 ^ i
-shift i h = shl-exact {a = 1} 1 i 16 (omega arith) (omega arith) ∙ one-mul (2 ^ i)
+pub shift : (i : ℕ) → i < setWidth → 1 * 2 ^ i % 65536 ≡ 2 ^ i
+shift i h = shl-exact {a = 1} 1 i setWidth (omega arith) (omega arith) ∙ one-mul (2 ^ i)
 
 -- a digit of the half
 bit-suc : (s i : ℕ) → bit s (suc i) ≡ bit (s / 2) i

@@ -1,9 +1,9 @@
 -- What a choice comes to, by the test that the code made. Assumes nothing.
-use Prim.Native.Nat.{ℕ, _-_, _≤_, _<_}
+use Prim.Native.Nat.{ℕ}
 use mathlib.Core.Path.{_≡_, sym, _∙_}
 use mathlib.Core.Bool.{Bool, true, false}
-use lib.Dec.{eqb, leb, ltb}
-use borrow.Author.Tests.{le-leb, lt-leb, lt-ltb, le-ltb, eq-eqb, ne-eqb}
+use lib.Dec.{eqb}
+use borrow.Author.Tests.{eq-eqb, ne-eqb}
 use Rattle.constraint.specs.Widths.{choose}
 
 module _ {A : Type 0} where
@@ -21,16 +21,4 @@ module _ {A : Type 0} where
   pub if-ne : (a b : ℕ) (x y z : A) → (a ≡ b → ⊥) → z ≡ y → z ≡ choose (eqb a b) x y
   if-ne a b x y z h q = rw (ne-eqb a b h) q
 
-  pub if-le : (a b : ℕ) (x y z : A) → a ≤ b → z ≡ x → z ≡ choose (leb a b) x y
-  if-le a b x y z h q = rw (le-leb a b h) q
-
-  pub if-gt : (a b : ℕ) (x y z : A) → b < a → z ≡ y → z ≡ choose (leb a b) x y
-  if-gt a b x y z h q = rw (lt-leb a b h) q
-
-  pub if-lt : (a b : ℕ) (x y z : A) → a < b → z ≡ x → z ≡ choose (ltb a b) x y
-  if-lt a b x y z h q = rw (lt-ltb a b h) q
-
-  pub if-ge : (a b : ℕ) (x y z : A) → b ≤ a → z ≡ y → z ≡ choose (ltb a b) x y
-  if-ge a b x y z h q = rw (le-ltb a b h) q
-
-pub ruleset cases = (if-true, if-false, if-eq, if-ne, if-le, if-gt, if-lt, if-ge)
+pub ruleset cases = (if-true, if-false, if-eq, if-ne)

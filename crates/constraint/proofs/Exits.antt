@@ -3,10 +3,11 @@ use Prim.Native.Nat.{ℕ, _+_, _-_, _^_, _≤_, _<_}
 use mathlib.Core.Path.{_≡_, refl, sym, ap, _∙_}
 use mathlib.Core.Bool.{Bool, true, false}
 use mathlib.Core.Logic.{_⊎_, inl, inr}
+use mathlib.Core.Option.{none, some}
 use native.Mathlib.Omega.{arith}
 use lib.ListN.{set}
-use lib.Dec.{eqb}
-use borrow.Author.Tests.{eqb-true, eqb-false}
+use lib.Dec.{eqb, leb}
+use borrow.Author.Tests.{eqb-true, eqb-false, ne-eqb, le-leb, lt-leb}
 use Rattle.rules.specs.declared.Width.{Width}
 use Rattle.rules.specs.declared.Column.{Column}
 use Rattle.constraint.specs.declared.Layout.{Layout}
@@ -14,96 +15,119 @@ use Rattle.constraint.specs.declared.State.{State}
 use Rattle.style.specs.declared.column.ContentWidth.{ContentWidth}
 use Rattle.style.specs.declared.column.ConstraintWidth.{ConstraintWidth}
 use Rattle.constraint.specs.declared.Bound.{Bound}
-use Rattle.constraint.specs.declared.Bound.the-variants.{Unset, At}
+use Rattle.constraint.specs.declared.Bound.the-variants.{At}
 use Rattle.constraint.specs.declared.Offer.{Offer}
-use Rattle.constraint.specs.declared.Offer.the-variants.{Keep, Take}
-use Rattle.constraint.specs.Widths.{choose, column, longest, visible, borders, percent, value, lower, upper, bit, decided, fixed, taking, step, absolute, covered, first, hide, evaluated}
-use Rattle.constraint.proofs.Cases.{if-true, if-eq, if-ne, if-le, if-gt}
+use Rattle.constraint.specs.declared.Offer.the-variants.{Take}
+use Rattle.constraint.specs.Widths.{choose, column, longest, borders, percent, bound, offered, value, valued, lower, upper, bit, fixed, taking}
+use Rattle.constraint.specs.Widths.{step, absolute, covered, first, hide, evaluated}
+use Rattle.constraint.proofs.Cases.{if-true, if-ne}
 use Rattle.rules.specs.Sheet.{padding, isHidden}
-use Rattle.rules.specs.Widths.{lifted}
-use Rattle.style.specs.Choice.{content}
+use Rattle.rules.specs.Widths.{lifted, lowerWidth, upperWidth, covering}
+use Rattle.style.specs.Column.{content}
 
 pub between-set : (b : Bool) (v r : ℕ) → b ≡ true → r ≡ v - 1 → v < 65536 → (r ≡ choose b (v - 1) 0) × (r < 65536)
 between-set b v r e q h = (rw e q, omega arith)
 
-pub value-percent : (t : Layout) (v : ℕ) (w : Width) (r p : ℕ) → (w .unit ≡ 0 → ⊥) → (t .target ≡ 0 → ⊥) → r ≡ t .target - borders t v → p ≡ percent r (w .value) → At (record { 0 = p }) ≡ value t v w
+pub value-percent : (t : Layout) (v : ℕ) (w : Width) (r p : ℕ) → (w .unit ≡ 0 → ⊥) → (t .target ≡ 0 → ⊥) → r ≡ t .target - borders t v
+    → p ≡ percent r (w .value) → some p ≡ value t v w
 unfolding value
 value-percent t v w r p a b e q =
-    if-ne (w .unit) 0 (At (record { 0 = w .value })) _ (At (record { 0 = p })) a
-    (if-ne (t .target) 0 Unset _ (At (record { 0 = p })) b (ap (λ (k : ℕ). At (record { 0 = k })) (q ∙ ap (λ (k : ℕ). percent k (w .value)) e)))
+    let k = ap some (q ∙ ap (λ (k : ℕ). percent k (w .value)) e) in
+    if-ne (w .unit) 0 (some (w .value)) _ (some p) a (if-ne (t .target) 0 none _ (some p) b k)
 
-five-six : (b : Bool) (k : ℕ) → eqb k 5 ≡ b → 5 ≤ k → k < 7 → (k ≡ 5) ⊎ (k ≡ 6)
-five-six true k e l h = inl (eqb-true k 5 e)
-five-six false k e l h = let n : k ≡ 5 → ⊥ = eqb-false k 5 e in inr (omega arith)
+-- the widths of the two bounds, by the codes that the code tests
+lower-set : (c : Column) → (c .constraint ≡ 4) ⊎ (c .constraint ≡ 6) → some (c .first) ≡ lowerWidth c
+unfolding lowerWidth
+lower-set c (inl h) = rw h
+lower-set c (inr h) = rw h
 
-trichotomy : (k : ℕ) → 5 ≤ k → k < 7 → (k ≡ 5) ⊎ (k ≡ 6)
-trichotomy k l h = five-six (eqb k 5) k refl l h
+lower-unset : (c : Column) → ((c .constraint ≡ 4) ⊎ (c .constraint ≡ 6) → ⊥) → none ≡ lowerWidth c
+unfolding lowerWidth
+lower-unset c h =
+    rw (ne-eqb (c .constraint) 4 (λ e. h (inl e)), lowerWidth) (rw (ne-eqb (c .constraint) 6 (λ e. h (inr e)), lowerWidth))
 
-module _ (t : Layout) (v : ℕ) (c : Column) (b : Bound) where
-  pub lower-at : (c .constraint ≡ 4) ⊎ (c .constraint ≡ 6) → b ≡ value t v (c .first) → b ≡ lower t v c
-  unfolding lower
-  lower-at (inl e) q = if-eq (c .constraint) 4 _ _ b e q
-  lower-at (inr e) q = rw e q
+upper-5 : (c : Column) → c .constraint ≡ 5 → some (choose (eqb (c .constraint) 6) (c .second) (c .first)) ≡ upperWidth c
+unfolding upperWidth
+upper-5 c h = rw h
+
+upper-6 : (c : Column) → c .constraint ≡ 6 → some (choose (eqb (c .constraint) 6) (c .second) (c .first)) ≡ upperWidth c
+unfolding upperWidth
+upper-6 c h = rw h
+
+upper-set : (c : Column) → 5 ≤ c .constraint → c .constraint < 7 → some (choose (eqb (c .constraint) 6) (c .second) (c .first)) ≡ upperWidth c
+upper-set c h k = go (eqb (c .constraint) 5) refl
+  where
+    go : (b : Bool) → eqb (c .constraint) 5 ≡ b → some (choose (eqb (c .constraint) 6) (c .second) (c .first)) ≡ upperWidth c
+    go true e = upper-5 c (eqb-true (c .constraint) 5 e)
+    go false e = let n = eqb-false (c .constraint) 5 e in upper-6 c (omega arith)
+
+upper-unset : (c : Column) → (c .constraint < 5) ⊎ (7 ≤ c .constraint) → none ≡ upperWidth c
+unfolding upperWidth
+upper-unset c (inl h) = rw (ne-eqb (c .constraint) 5 (λ e. omega arith), upperWidth) (rw (ne-eqb (c .constraint) 6 (λ e. omega arith)))
+upper-unset c (inr h) = rw (ne-eqb (c .constraint) 5 (λ e. omega arith), upperWidth) (rw (ne-eqb (c .constraint) 6 (λ e. omega arith)))
 
 module _ (t : Layout) (v : ℕ) (c : Column) where
-  pub lower-none : ((c .constraint ≡ 4) ⊎ (c .constraint ≡ 6) → ⊥) → Unset ≡ lower t v c
+  pub lower-at : (b : Bound) → (c .constraint ≡ 4) ⊎ (c .constraint ≡ 6) → bound b ≡ value t v (c .first) → bound b ≡ lower t v c
   unfolding lower
-  lower-none n =
-      if-ne (c .constraint) 4 (value t v (c .first)) _ Unset (λ e. n (inl e))
-      (if-ne (c .constraint) 6 (value t v (c .first)) Unset Unset (λ e. n (inr e)) refl)
+  lower-at b h q = q ∙ ap (valued t v) (lower-set c h)
 
-module _ (t : Layout) (v : ℕ) (c : Column) (b : Bound) where
-  pub upper-at : (w : Width) → 5 ≤ c .constraint → c .constraint < 7 → w ≡ choose (eqb (c .constraint) 6) (c .second) (c .first) → b ≡ value t v w → b ≡ upper t v c
-  unfolding upper
-  upper-at w l h e q = go (trichotomy (c .constraint) l h)
-    where
-      go : (c .constraint ≡ 5) ⊎ (c .constraint ≡ 6) → b ≡ choose (eqb (c .constraint) 5) (value t v (c .first)) (choose (eqb (c .constraint) 6) (value t v (c .second)) Unset)
-      go (inl k) = rw k (q ∙ ap (value t v) (e ∙ rw k))
-      go (inr k) = rw k (q ∙ ap (value t v) (e ∙ rw k))
+  pub lower-none : ((c .constraint ≡ 4) ⊎ (c .constraint ≡ 6) → ⊥) → none ≡ lower t v c
+  unfolding lower
+  lower-none n = ap (valued t v) (lower-unset c n)
 
-module _ (t : Layout) (v : ℕ) (c : Column) where
-  pub upper-none : (c .constraint < 5) ⊎ (7 ≤ c .constraint) → Unset ≡ upper t v c
+  pub upper-at : (b : Bound) (w : Width) → 5 ≤ c .constraint → c .constraint < 7 → w ≡ choose (eqb (c .constraint) 6) (c .second) (c .first)
+      → bound b ≡ value t v w → bound b ≡ upper t v c
   unfolding upper
-  upper-none (inl h) =
-      if-ne (c .constraint) 5 (value t v (c .first)) _ Unset (λ e. omega arith)
-      (if-ne (c .constraint) 6 (value t v (c .second)) Unset Unset (λ e. omega arith) refl)
-  upper-none (inr h) =
-      if-ne (c .constraint) 5 (value t v (c .first)) _ Unset (λ e. omega arith)
-      (if-ne (c .constraint) 6 (value t v (c .second)) Unset Unset (λ e. omega arith) refl)
+  upper-at b w l h e q = q ∙ ap (value t v) e ∙ ap (valued t v) (upper-set c l h)
+
+  pub upper-none : (c .constraint < 5) ⊎ (7 ≤ c .constraint) → none ≡ upper t v c
+  unfolding upper
+  upper-none h = ap (valued t v) (upper-unset c h)
 
 module _ (c : Column) (b : Bound) (w : ConstraintWidth) (e : b ≡ At w) where
-  pub absolute-at : (n : ContentWidth) → n ≡ content c w → Take n ≡ absolute c b
-  absolute-at n q = rw e (ap (λ (k : ContentWidth). Take k) q)
+  pub absolute-at : (n : ContentWidth) → n ≡ content c w → some (n .0) ≡ absolute c (bound b)
+  absolute-at n q = rw e (ap (λ (k : ContentWidth). some (k .0)) q)
 
-  pub covered-at : (n k : ContentWidth) (p : ℕ) → p ≡ padding c → n .0 + p ≤ w .0 → k ≡ content c w → Take k ≡ covered c n b
-  covered-at n k p z h q = rw e (if-le (n .0 + padding c) (w .0) _ Keep (Take k) (omega arith) (ap (λ (x : ContentWidth). Take x) q))
+  pub covered-at : (n k : ContentWidth) (p : ℕ) → p ≡ padding c → n .0 + p ≤ w .0 → k ≡ content c w → some (k .0) ≡ covered c (n .0) (bound b)
+  unfolding covering
+  covered-at n k p z h q =
+      let f : leb (n .0 + padding c) (w .0) ≡ true = le-leb (n .0 + padding c) (w .0) (omega arith) in
+      rw (e, f, covering) (ap (λ (x : ContentWidth). some (x .0)) q)
 
-  pub covered-not : (n : ContentWidth) (p : ℕ) → p ≡ padding c → w .0 < n .0 + p → Keep ≡ covered c n b
-  covered-not n p z h = rw e (if-gt (n .0 + padding c) (w .0) (Take (content c w)) Keep Keep (omega arith) refl)
+  pub covered-not : (n : ContentWidth) (p : ℕ) → p ≡ padding c → w .0 < n .0 + p → none ≡ covered c (n .0) (bound b)
+  unfolding covering
+  covered-not n p z h =
+      let f : leb (n .0 + padding c) (w .0) ≡ false = lt-leb (n .0 + padding c) (w .0) (omega arith) in
+      rw (e, f, covering)
 
 module _ (t : Layout) (i : ℕ) (s : State) where
-  pub first-content : column t i .constraint ≡ 2 → Take (longest t i) ≡ first t i s
+  pub first-content : column t i .constraint ≡ 2 → some (longest t i) ≡ first t i s
   unfolding first
   first-content e = sym (rw e)
 
-  pub first-absolute : (b : Bound) (o : Offer) → column t i .constraint ≡ 3 → b ≡ value t (s .visible) (column t i .first) → o ≡ absolute (column t i) b → o ≡ first t i s
+  pub first-absolute : (b : Bound) (o : Offer) → column t i .constraint ≡ 3 → bound b ≡ value t (s .visible) (column t i .first)
+      → offered o ≡ absolute (column t i) (bound b) → offered o ≡ first t i s
   unfolding first
   first-absolute b o e q p = rw e (p ∙ ap (absolute (column t i)) q)
 
-  pub first-other : (b : Bound) (o : Offer) → (column t i .constraint ≡ 2 → ⊥) → (column t i .constraint ≡ 3 → ⊥) → b ≡ lower t (s .visible) (column t i) → o ≡ covered (column t i) (longest t i) b → o ≡ first t i s
+  pub first-other : (b : Bound) (o : Offer) → (column t i .constraint ≡ 2 → ⊥) → (column t i .constraint ≡ 3 → ⊥)
+      → bound b ≡ lower t (s .visible) (column t i) → offered o ≡ covered (column t i) (longest t i) (bound b) → offered o ≡ first t i s
   unfolding first
   first-other b o x y q p =
-      if-ne (column t i .constraint) 2 (Take (longest t i)) _ o x
-      (if-ne (column t i .constraint) 3 (absolute (column t i) (value t (s .visible) (column t i .first))) _ o y
-      (p ∙ ap (covered (column t i) (longest t i)) q))
+      let k = p ∙ ap (covered (column t i) (longest t i)) q in
+      let absolute = absolute (column t i) (value t (s .visible) (column t i .first)) in
+      if-ne (column t i .constraint) 2 (some (longest t i)) _ (offered o) x
+      (if-ne (column t i .constraint) 3 absolute _ (offered o) y k)
 
-pub fixed-at : (s : State) (i : ℕ) (w : ContentWidth) (n d r : ℕ) → n ≡ lifted (w .0) → d ≡ s .decided + 2 ^ i → r ≡ s .remaining - w .0 → _≡_ {A = State} (record { widths = set (s .widths) i n; decided = d; remaining = r; visible = s .visible }) (fixed s i w)
+pub fixed-at : (s : State) (i w n d r : ℕ) → n ≡ lifted w → d ≡ s .decided + 2 ^ i → r ≡ s .remaining - w
+    → _≡_ {A = State} (record { widths = set (s .widths) i n; decided = d; remaining = r; visible = s .visible }) (fixed s i w)
 fixed-at s i w n d r a b e = cc
 
-pub hide-at : (t : Layout) (i : ℕ) (s : State) (n : ℕ) → n ≡ lifted (longest t i .0) → _≡_ {A = State} (record { widths = set (s .widths) i n; decided = s .decided; remaining = s .remaining; visible = s .visible }) (hide t i s)
+pub hide-at : (t : Layout) (i : ℕ) (s : State) (n : ℕ) → n ≡ lifted (longest t i)
+    → _≡_ {A = State} (record { widths = set (s .widths) i n; decided = s .decided; remaining = s .remaining; visible = s .visible }) (hide t i s)
 hide-at t i s n e = cc
 
-pub taking-at : (s : State) (i : ℕ) (o : Offer) (w : ContentWidth) (u : State) → o ≡ Take w → u ≡ fixed s i w → u ≡ taking s i o
+pub taking-at : (s : State) (i : ℕ) (o : Offer) (w : ContentWidth) (u : State) → o ≡ Take w → u ≡ fixed s i (w .0) → u ≡ taking s i (offered o)
 taking-at s i o w u e q = rw e q
 
 pub counted-le : (b : Bool) (n r i : ℕ) → r ≡ choose b n (n + 1) → n ≤ i → r ≤ i + 1
@@ -122,7 +146,8 @@ module _ (t : Layout) (i : ℕ) (s : State) (h : Bool) (p : h ≡ isHidden (colu
       let y : eqb (bit (s .decided) i) 1 ≡ true = sym e ∙ q in
       sym (rw (x, y))
 
-  pub evaluated-open : (k : Bool) (o : Offer) (u : State) → h ≡ false → k ≡ eqb (bit (s .decided) i) 1 → k ≡ false → o ≡ first t i s → u ≡ taking s i o → u ≡ evaluated t i s
+  pub evaluated-open : (k : Bool) (o : Offer) (u : State) → h ≡ false → k ≡ eqb (bit (s .decided) i) 1 → k ≡ false
+      → offered o ≡ first t i s → u ≡ taking s i (offered o) → u ≡ evaluated t i s
   unfolding evaluated step
   evaluated-open k o u a e q f g =
       let x : isHidden (column t i) ≡ false = sym p ∙ a in

@@ -1,33 +1,17 @@
 -- Laws of the definitions: content, percent, the loop over columns. Assumes nothing.
-use Prim.Native.Nat.{ℕ, _+_, _-_, _*_, _/_, _≤_, _<_, min, max}
+use Prim.Native.Nat.{ℕ, suc, _+_, _*_, _/_, _≤_, _<_, min}
 use mathlib.Core.Path.{_≡_, refl, sym, ap, _∙_}
 use mathlib.Core.Bool.{Bool, true, false}
 use native.Mathlib.Omega.{arith}
 use native.Mathlib.Numerals.{add-one}
 use native.Mathlib.Nat.{mul-le-mul-left}
-use Rattle.rules.specs.declared.Column.{Column}
-use Rattle.style.specs.declared.column.ContentWidth.{ContentWidth}
-use Rattle.style.specs.declared.column.ConstraintWidth.{ConstraintWidth}
 use lib.Dec.{eqb}
 use Rattle.constraint.specs.declared.Layout.{Layout}
 use Rattle.constraint.specs.declared.State.{State}
 use Rattle.constraint.specs.declared.Offer.{Offer}
-use Rattle.constraint.specs.Widths.{choose, column, decided, bit, inOrder, percent, step, taking}
+use Rattle.constraint.specs.Widths.{choose, column, decided, bit, inOrder, percent, offered, Rule, step, taking}
 use Rattle.constraint.proofs.Bits.{bit-zero}
-use Rattle.rules.specs.Sheet.{padding, isHidden}
-use Rattle.style.specs.Choice.{content}
-
-module _ {A : Type 0} (f : ℕ → A → A) (x₀ : A) where
-  pub order-begin : x₀ ≡ inOrder f 0 x₀
-  unfolding inOrder
-  order-begin = refl
-
-  pub order-again : (i : ℕ) (x y : A) → x ≡ inOrder f i x₀ → y ≡ f i x → y ≡ inOrder f (i + 1) x₀
-  unfolding inOrder
-  order-again i x y e q = q ∙ ap (f i) e ∙ ap (λ (k : ℕ). inOrder f k x₀) (sym (add-one i))
-
-  pub order-done : (i n : ℕ) (x : A) → i ≡ n → x ≡ inOrder f i x₀ → x ≡ inOrder f n x₀
-  order-done i n x q e = e ∙ ap (λ (k : ℕ). inOrder f k x₀) q
+use Rattle.rules.specs.Sheet.{isHidden}
 
 -- the invariant of a loop over columns, of which there are m: x is what comes after i of them
 pub record Walk {A : Type 0} (f : ℕ → A → A) (x₀ : A) (m n i : ℕ) (x : A) : Type 0 where
@@ -37,16 +21,21 @@ pub record Walk {A : Type 0} (f : ℕ → A → A) (x₀ : A) (m n i : ℕ) (x :
 
 module _ {A : Type 0} (f : ℕ → A → A) (x₀ : A) (m n : ℕ) where
   pub walk-begin : n ≡ m → Walk f x₀ m n 0 x₀
-  walk-begin e = record { within = omega arith; counted = e; so = order-begin f x₀ }
+  unfolding inOrder
+  walk-begin e = record { within = omega arith; counted = e; so = refl }
 
   module _ (i : ℕ) (x : A) (w : Walk f x₀ m n i x) where
     pub walk-again : (y : A) → i < n → y ≡ f i x → Walk f x₀ m n (i + 1) y
-    walk-again y h q = record { within = omega arith; counted = w .counted; so = order-again f x₀ i x y (w .so) q }
+    unfolding inOrder
+    walk-again y h q =
+        let e : y ≡ inOrder f (suc i) x₀ = q ∙ ap (f i) (w .so) in
+        record { within = omega arith; counted = w .counted; so = e ∙ ap (λ (k : ℕ). inOrder f k x₀) (sym (add-one i)) }
 
     pub walk-done : n ≤ i → x ≡ inOrder f m x₀
-    walk-done h = order-done f x₀ i m x (omega (arith, w .within, w .counted)) (w .so)
+    walk-done h =
+        let e : i ≡ m = omega (arith, w .within, w .counted) in
+        w .so ∙ ap (λ (k : ℕ). inOrder f k x₀) e
 
--- percent
 pub percent-all : (room p : ℕ) → 100 ≤ p → room ≡ percent room p
 percent-all room p h =
     let e : min p 100 ≡ 100 = omega arith in
@@ -73,10 +62,11 @@ module _ (t : Layout) (i : ℕ) (s : State) where
   open-by r e h = open-bit (sym e ∙ h)
 
   -- a step's two ways out
-  pub step-decided : (rule : Layout → ℕ → State → Offer) (r : Bool) → r ≡ decided t i s → r ≡ true → s ≡ step rule t i s
+  pub step-decided : (rule : Rule) (r : Bool) → r ≡ decided t i s → r ≡ true → s ≡ step rule t i s
   unfolding step
   step-decided rule r e h = let q : decided t i s ≡ true = sym e ∙ h in rw q
 
-  pub step-open : (rule : Layout → ℕ → State → Offer) (r : Bool) (o : Offer) (u : State) → r ≡ decided t i s → r ≡ false → o ≡ rule t i s → u ≡ taking s i o → u ≡ step rule t i s
+  pub step-open : (rule : Rule) (r : Bool) (o : Offer) (u : State) → r ≡ decided t i s → r ≡ false
+      → offered o ≡ rule t i s → u ≡ taking s i (offered o) → u ≡ step rule t i s
   unfolding step
   step-open rule r o u e h p q = let z : decided t i s ≡ false = sym e ∙ h in q ∙ ap (taking s i) p ∙ sym (rw z)

@@ -1,20 +1,16 @@
 -- Widths: padding, borders, percent, bounds, the average, and fixing a column. Assumes nothing.
-use Prim.Native.Nat.{ℕ, zero, suc, _+_, _-_, _*_, _/_, _%_, _^_, _≤_, _<_, min, max}
-use mathlib.Core.Path.{_≡_}
+use Prim.Native.Nat.{ℕ, zero, suc, _+_, _-_, _*_, _/_, _%_, _^_, min}
 use mathlib.Core.Bool.{Bool, true, false}
-use mathlib.Core.List.{List}
+use mathlib.Core.Option.{Option, none, some}
 use lib.ListN.{getD, set}
-use lib.Dec.{eqb, leb, ltb}
+use lib.Dec.{eqb}
 use lib.Count.{ones}
 use Rattle.rules.specs.declared.Width.{Width}
 use Rattle.rules.specs.declared.Column.{Column}
-use Rattle.rules.specs.Sheet.{noColumn, padding, isHidden}
-use Rattle.rules.specs.Widths.{lifted}
-use Rattle.style.specs.Choice.{content}
+use Rattle.rules.specs.Sheet.{noColumn, isHidden}
+use Rattle.rules.specs.Widths.{lifted, contentOf, lowerWidth, upperWidth, covering}
 use Rattle.constraint.specs.declared.Layout.{Layout}
 use Rattle.constraint.specs.declared.State.{State}
-use Rattle.style.specs.declared.column.ContentWidth.{ContentWidth}
-use Rattle.style.specs.declared.column.ConstraintWidth.{ConstraintWidth}
 use Rattle.constraint.specs.declared.Bound.{Bound}
 use Rattle.constraint.specs.declared.Bound.the-variants.{Unset, At}
 use Rattle.constraint.specs.declared.Offer.{Offer}
@@ -33,8 +29,8 @@ inOrder f (suc n) x = f n (inOrder f n x)
 abbrev pub column : Layout → ℕ → Column
 column t i = getD (t .columns) i noColumn
 
-abbrev pub longest : Layout → ℕ → ContentWidth
-longest t i = record { 0 = getD (t .longest) i 0 }
+abbrev pub longest : Layout → ℕ → ℕ
+longest t i = getD (t .longest) i 0
 
 -- one more if the column is visible
 abbrev pub counting : Layout → ℕ → ℕ → ℕ
@@ -52,28 +48,41 @@ borders t v = choose (t .left) 1 0 + choose (t .right) 1 0 + choose (t .junction
 abbrev pub percent : ℕ → ℕ → ℕ
 percent room p = room * min p 100 / 100
 
+-- `Bound`, case by case: no width, or a constraint width
+abbrev pub bound : Bound → Option ℕ
+bound Unset = none
+bound (At w) = some (w .0)
+
+-- `Offer`, case by case: no width, or a content width
+abbrev pub offered : Offer → Option ℕ
+offered Keep = none
+offered (Take w) = some (w .0)
+
 -- a width's value; a percent without a target has none
-unfoldable pub value : Layout → ℕ → Width → Bound
+unfoldable pub value : Layout → ℕ → Width → Option ℕ
 value t v w =
-    choose (eqb (w .unit) 0) (At (record { 0 = w .value }))
-    (choose (eqb (t .target) 0) Unset
-    (At (record { 0 = percent (t .target - borders t v) (w .value) })))
+    choose (eqb (w .unit) 0) (some (w .value))
+    (choose (eqb (t .target) 0) none (some (percent (t .target - borders t v) (w .value))))
 
--- codes 4 and 6 have a lower bound
-unfoldable pub lower : Layout → ℕ → Column → Bound
-lower t v c =
-    choose (eqb (c .constraint) 4) (value t v (c .first))
-    (choose (eqb (c .constraint) 6) (value t v (c .first)) Unset)
+-- the value of the width that a constraint has for a purpose, if it has one
+abbrev pub valued : Layout → ℕ → Option Width → Option ℕ
+valued t v none = none
+valued t v (some w) = value t v w
 
--- codes 5 and 6 an upper one; of 6 it is the second width
-unfoldable pub upper : Layout → ℕ → Column → Bound
-upper t v c =
-    choose (eqb (c .constraint) 5) (value t v (c .first))
-    (choose (eqb (c .constraint) 6) (value t v (c .second)) Unset)
+-- the bounds of a column's constraint
+unfoldable pub lower : Layout → ℕ → Column → Option ℕ
+lower t v c = valued t v (lowerWidth c)
+
+unfoldable pub upper : Layout → ℕ → Column → Option ℕ
+upper t v c = valued t v (upperWidth c)
 
 -- what is left for each undecided column; 0 if there is none
 abbrev pub average : State → ℕ
 average s = s .remaining / (s .visible - ones (s .decided))
+
+-- the set of decided visible columns is a 16-bit number, which has a bit for each column
+abbrev pub setWidth : ℕ
+setWidth = 16
 
 abbrev pub bit : ℕ → ℕ → ℕ
 bit s i = s / 2 ^ i % 2
@@ -83,43 +92,47 @@ abbrev pub decided : Layout → ℕ → State → Bool
 decided t i s = choose (isHidden (column t i)) true (eqb (bit (s .decided) i) 1)
 
 -- column i is fixed: the width offered is taken off what remains, before 0 becomes 1
-abbrev pub fixed : State → ℕ → ContentWidth → State
+abbrev pub fixed : State → ℕ → ℕ → State
 fixed s i w =
-    record { widths = set (s .widths) i (lifted (w .0)); decided = s .decided + 2 ^ i; remaining = s .remaining - w .0; visible = s .visible }
+    record { widths = set (s .widths) i (lifted w); decided = s .decided + 2 ^ i; remaining = s .remaining - w; visible = s .visible }
 
-abbrev pub taking : State → ℕ → Offer → State
-taking s i Keep = s
-taking s i (Take w) = fixed s i w
+abbrev pub taking : State → ℕ → Option ℕ → State
+taking s i none = s
+taking s i (some w) = fixed s i w
 
--- a rule makes an offer for a column; it is made to the undecided ones
-unfoldable pub step : (Layout → ℕ → State → Offer) → Layout → ℕ → State → State
+-- a rule offers a column a width, or none
+abbrev pub Rule : Type 0
+Rule = Layout → ℕ → State → Option ℕ
+
+-- an offer is made to the undecided ones
+unfoldable pub step : Rule → Layout → ℕ → State → State
 step rule t i s = choose (decided t i s) s (taking s i (rule t i s))
 
 -- the columns in order
-abbrev pub pass : (Layout → ℕ → State → Offer) → Layout → State → State
+abbrev pub pass : Rule → Layout → State → State
 pass rule t s = inOrder (step rule t) (t .count) s
 
 -- First. `Absolute`: its width
-abbrev pub absolute : Column → Bound → Offer
-absolute c Unset = Keep
-absolute c (At w) = Take (content c w)
+abbrev pub absolute : Column → Option ℕ → Option ℕ
+absolute c none = none
+absolute c (some w) = some (contentOf c w)
 
--- a lower bound fixes the column when longest plus padding is at most the bound
-abbrev pub covered : Column → ContentWidth → Bound → Offer
-covered c n Unset = Keep
-covered c n (At w) = choose (leb (n .0 + padding c) (w .0)) (Take (content c w)) Keep
+-- a lower bound may fix the column
+abbrev pub covered : Column → ℕ → Option ℕ → Option ℕ
+covered c n none = none
+covered c n (some w) = covering c n w
 
 -- 2 `ContentWidth` takes the longest, 3 is `Absolute`
-unfoldable pub first : Layout → ℕ → State → Offer
+unfoldable pub first : Rule
 first t i s =
-    choose (eqb (column t i .constraint) 2) (Take (longest t i))
+    choose (eqb (column t i .constraint) 2) (some (longest t i))
     (choose (eqb (column t i .constraint) 3) (absolute (column t i) (value t (s .visible) (column t i .first)))
     (covered (column t i) (longest t i) (lower t (s .visible) (column t i))))
 
 -- a hidden column's width is its longest; it is not in the set
 abbrev pub hide : Layout → ℕ → State → State
 hide t i s =
-    record { widths = set (s .widths) i (lifted (longest t i .0)); decided = s .decided; remaining = s .remaining; visible = s .visible }
+    record { widths = set (s .widths) i (lifted (longest t i)); decided = s .decided; remaining = s .remaining; visible = s .visible }
 
 unfoldable pub evaluated : Layout → ℕ → State → State
 evaluated t i s = choose (isHidden (column t i)) (hide t i s) (step first t i s)

@@ -1,13 +1,12 @@
 // Constraints, bounds and the state of an arrangement: comfy-table's `arrangement/helper.rs` and `constraint.rs`.
 ghost use mathlib.Core.Path.{_≡_};
-ghost use Prim.Native.Nat.{ℕ, _+_, _-_, _*_, _/_, _%_, _^_, _≤_, _<_};
-ghost use lib.ListN.{length, getD, set};
+ghost use Prim.Native.Nat.{_+_, _-_, _≤_, _<_};
 ghost use lib.Dec.{eqb};
-ghost use Rattle.constraint.specs.Widths.{choose, visible, borders, percent, value, lower, upper, average, bit, decided, fixed, taking, absolute, covered, first, evaluated, hide, longest};
-ghost use Rattle.rules.specs.Sheet.{noColumn, padding, isHidden};
-ghost use Rattle.rules.specs.Widths.{lifted};
-ghost use Rattle.style.specs.Choice.{content};
+ghost use Rattle.constraint.specs.Widths.{choose, visible, borders, percent, bound, offered, value, lower, upper, average, setWidth, bit};
+ghost use Rattle.constraint.specs.Widths.{decided, fixed, taking, absolute, covered, first, evaluated, hide};
+ghost use Rattle.rules.specs.Sheet.{mostColumns, isHidden};
 use rules::Column;
+use rules::MOST_COLUMNS;
 use rules::Width;
 use style::column;
 use style::column::ConstraintWidth;
@@ -20,14 +19,14 @@ pub struct Layout {
     pub left: bool,
     pub right: bool,
     pub junction: bool,
-    pub columns: [Column; 12],
+    pub columns: [Column; MOST_COLUMNS],
     pub count: u8,
-    pub longest: [u16; 12],
+    pub longest: [u16; MOST_COLUMNS],
 }
 
 // The widths that are being found, and the set of decided visible columns.
 pub struct State {
-    pub widths: [u16; 12],
+    pub widths: [u16; MOST_COLUMNS],
     pub decided: u16,
     pub remaining: u16,
     pub visible: u16,
@@ -66,7 +65,7 @@ pub fn one_more(c: Column, n: u16) -> u16
 
 // The divisor of the average is counted from these.
 pub fn count_visible_columns(t: Layout) -> u16
-    requires { ⌜ t .count ≤ 12 ⌝ }
+    requires { ⌜ t .count ≤ mostColumns ⌝ }
     ensures { λ r. ⌜ r ≡ visible t ⌝ }
 {
     let n = t.count as usize;
@@ -90,7 +89,7 @@ fn between(b: bool, v: u16) -> usize
     ensures { λ r. ⌜ (r ≡ choose b (v - 1) 0) × (r < 65536) ⌝ }
 {
     if b {
-        return column::minus(v, 1) as usize;
+        return numbers::minus_u16(v, 1) as usize;
     }
     0
 }
@@ -126,7 +125,7 @@ pub fn percent_of(room: u16, p: u16) -> u16
 
 // A percent of no target is no width.
 pub fn absolute_value_from_width(t: Layout, w: Width, v: u16) -> Bound
-    ensures { λ r. ⌜ r ≡ value t v w ⌝ }
+    ensures { λ r. ⌜ bound r ≡ value t v w ⌝ }
 {
     if w.unit == 0 {
         return Bound::At(ConstraintWidth(w.value));
@@ -139,7 +138,7 @@ pub fn absolute_value_from_width(t: Layout, w: Width, v: u16) -> Bound
 
 // The lower bound.
 pub fn min(t: Layout, c: Column, v: u16) -> Bound
-    ensures { λ r. ⌜ r ≡ lower t v c ⌝ }
+    ensures { λ r. ⌜ bound r ≡ lower t v c ⌝ }
 {
     let code = c.constraint;
     let w = c.first;
@@ -161,7 +160,7 @@ fn upper_width(c: Column) -> Width
 
 // The upper bound.
 pub fn max(t: Layout, c: Column, v: u16) -> Bound
-    ensures { λ r. ⌜ r ≡ upper t v c ⌝ }
+    ensures { λ r. ⌜ bound r ≡ upper t v c ⌝ }
 {
     let code = c.constraint;
     match code {
@@ -183,7 +182,7 @@ pub fn average_space(s: State) -> u16
 
 // The set holds the decided visible columns, one bit for each.
 pub fn is_in(s: u16, i: usize) -> bool
-    requires { ⌜ i < 16 ⌝ }
+    requires { ⌜ i < setWidth ⌝ }
     ensures { λ r. ⌜ r ≡ eqb (bit s i) 1 ⌝ }
 {
     (s >> i) % 2 == 1
@@ -191,7 +190,7 @@ pub fn is_in(s: u16, i: usize) -> bool
 
 // A hidden column is decided from the start, though it is never in the set.
 pub fn is_decided(t: Layout, i: usize, s: State) -> bool
-    requires { ⌜ i < 12 ⌝ }
+    requires { ⌜ i < mostColumns ⌝ }
     ensures { λ r. ⌜ r ≡ decided t i s ⌝ }
 {
     if is_hidden(t.columns[i]) {
@@ -200,32 +199,23 @@ pub fn is_decided(t: Layout, i: usize, s: State) -> bool
     is_in(s.decided, i)
 }
 
-fn one_at_least(n: u16) -> u16
-    ensures { λ r. ⌜ r ≡ lifted n ⌝ }
-{
-    if n == 0 {
-        return 1;
-    }
-    n
-}
-
 // The width offered is taken off before 0 becomes 1: a column without cells costs nothing.
 pub fn fix_column(s: State, i: usize, w: ContentWidth) -> State
-    requires { ⌜ (i < 12) × (bit (s .decided) i ≡ 0) ⌝ }
-    ensures { λ r. ⌜ r ≡ fixed s i w ⌝ }
+    requires { ⌜ (i < mostColumns) × (bit (s .decided) i ≡ 0) ⌝ }
+    ensures { λ r. ⌜ r ≡ fixed s i (w .0) ⌝ }
 {
-    let width = one_at_least(w.0);
+    let width = numbers::greater_u16(1, w.0);
     let mut r = s;
     r.widths[i] = width;
     r.decided = s.decided + (1u16 << i);
-    r.remaining = column::minus(s.remaining, w.0);
+    r.remaining = numbers::minus_u16(s.remaining, w.0);
     r
 }
 
 // An offer that keeps the column open changes nothing.
 pub fn take(s: State, i: usize, o: Offer) -> State
-    requires { ⌜ (i < 12) × (bit (s .decided) i ≡ 0) ⌝ }
-    ensures { λ r. ⌜ r ≡ taking s i o ⌝ }
+    requires { ⌜ (i < mostColumns) × (bit (s .decided) i ≡ 0) ⌝ }
+    ensures { λ r. ⌜ r ≡ taking s i (offered o) ⌝ }
 {
     match o {
         Offer::Keep => s,
@@ -234,7 +224,7 @@ pub fn take(s: State, i: usize, o: Offer) -> State
 }
 
 fn absolute_offer(c: Column, b: Bound) -> Offer
-    ensures { λ r. ⌜ r ≡ absolute c b ⌝ }
+    ensures { λ r. ⌜ offered r ≡ absolute c (bound b) ⌝ }
 {
     match b {
         Bound::Unset => Offer::Keep,
@@ -243,7 +233,7 @@ fn absolute_offer(c: Column, b: Bound) -> Offer
 }
 
 fn covered_offer(c: Column, n: ContentWidth, b: Bound) -> Offer
-    ensures { λ r. ⌜ r ≡ covered c n b ⌝ }
+    ensures { λ r. ⌜ offered r ≡ covered c (n .0) (bound b) ⌝ }
 {
     match b {
         Bound::Unset => Offer::Keep,
@@ -257,8 +247,8 @@ fn covered_offer(c: Column, n: ContentWidth, b: Bound) -> Offer
 }
 
 fn first_offer(t: Layout, i: usize, s: State) -> Offer
-    requires { ⌜ i < 12 ⌝ }
-    ensures { λ r. ⌜ r ≡ first t i s ⌝ }
+    requires { ⌜ i < mostColumns ⌝ }
+    ensures { λ r. ⌜ offered r ≡ first t i s ⌝ }
 {
     let c = t.columns[i];
     let v = s.visible;
@@ -273,17 +263,17 @@ fn first_offer(t: Layout, i: usize, s: State) -> Offer
 }
 
 fn hidden_column(t: Layout, i: usize, s: State) -> State
-    requires { ⌜ i < 12 ⌝ }
+    requires { ⌜ i < mostColumns ⌝ }
     ensures { λ r. ⌜ r ≡ hide t i s ⌝ }
 {
     let mut r = s;
-    r.widths[i] = one_at_least(t.longest[i]);
+    r.widths[i] = numbers::greater_u16(1, t.longest[i]);
     r
 }
 
 // The first step: what a constraint settles without knowing the other columns.
 pub fn evaluate(t: Layout, i: usize, s: State) -> State
-    requires { ⌜ i < 12 ⌝ }
+    requires { ⌜ i < mostColumns ⌝ }
     ensures { λ r. ⌜ r ≡ evaluated t i s ⌝ }
 {
     if is_hidden(t.columns[i]) {

@@ -1,7 +1,7 @@
 // Small choices between numbers and between truths, which the language has no operation for.
 ghost use mathlib.Core.Path.{_≡_};
 ghost use mathlib.Core.Bool.{_&&_, _||_};
-ghost use Prim.Native.Nat.{_<_, max, min};
+ghost use Prim.Native.Nat.{_-_, _<_, max, min};
 ghost use Rattle.rules.specs.Text.{orElse};
 
 pub fn greater(a: usize, b: usize) -> usize
@@ -20,6 +20,13 @@ pub fn lesser(a: usize, b: usize) -> usize
     ensures { λ r. ⌜ r ≡ min a b ⌝ }
 {
     if a < b { a } else { b }
+}
+
+// A difference that stops at 0.
+pub fn minus_u16(a: u16, b: u16) -> u16
+    ensures { λ r. ⌜ r ≡ a - b ⌝ }
+{
+    if a <= b { 0 } else { a - b }
 }
 
 // A code, or what stands for it where it is 0.

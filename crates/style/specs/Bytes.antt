@@ -14,4 +14,6 @@ contentBytes l = l .left ∷ l .junction ∷ l .right ∷ []
 
 -- the fields in source order
 abbrev pub bytesOf : TableStyle → List ℕ
-bytesOf s = lineBytes (s .«top_border») ++ (contentBytes (s .«header_lines») ++ (lineBytes (s .«header_separator») ++ (contentBytes (s .«content_lines») ++ (lineBytes (s .«row_separator») ++ lineBytes (s .«bottom_border»)))))
+bytesOf s =
+    lineBytes (s .«top_border») ++ (contentBytes (s .«header_lines») ++ (lineBytes (s .«header_separator»)
+    ++ (contentBytes (s .«content_lines») ++ (lineBytes (s .«row_separator») ++ lineBytes (s .«bottom_border»)))))

@@ -1,5 +1,4 @@
 use Rattle.constraint.proofs.Exits.{absolute-at}
-use Prim.Native.Nat.{_-_}
 use borrow.Author.Needs.{needs}
 use Rattle.constraint.proofs.absolute_offer.Statement.{statement}
 use Rattle.constraint.proofs.absolute_offer.Tie as tie

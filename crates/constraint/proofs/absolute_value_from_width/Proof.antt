@@ -1,5 +1,4 @@
 use Rattle.constraint.proofs.Exits.{value-percent}
-use Prim.Native.Nat.{_-_}
 use Rattle.constraint.specs.Widths.{value}
 use Rattle.constraint.proofs.Cases.{cases}
 use borrow.Author.Needs.{needs}

@@ -1,5 +1,4 @@
 use Rattle.constraint.proofs.Exits.{covered-at, covered-not}
-use Prim.Native.Nat.{_-_}
 use borrow.Author.Needs.{needs}
 use Rattle.constraint.proofs.covered_offer.Statement.{statement}
 use Rattle.constraint.proofs.covered_offer.Tie as tie

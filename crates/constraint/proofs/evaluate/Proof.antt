@@ -1,6 +1,5 @@
 use Rattle.constraint.proofs.Exits.{evaluated-hidden, evaluated-in, evaluated-open}
 use mathlib.Core.Path.{sym, _∙_}
-use Prim.Native.Nat.{_-_}
 use native.Mathlib.Omega.{arith}
 use Rattle.constraint.proofs.Bits.{bit-zero}
 use borrow.Author.Needs.{needs}

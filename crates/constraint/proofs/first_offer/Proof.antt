@@ -1,5 +1,4 @@
 use Rattle.constraint.proofs.Exits.{first-content, first-absolute, first-other}
-use Prim.Native.Nat.{_-_}
 use borrow.Author.Needs.{needs}
 use Rattle.constraint.proofs.first_offer.Statement.{statement}
 use Rattle.constraint.proofs.first_offer.Tie as tie

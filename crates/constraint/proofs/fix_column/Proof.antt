@@ -1,8 +1,8 @@
 use Rattle.constraint.proofs.Exits.{fixed-at}
 use mathlib.Core.Path.{ap}
-use Prim.Native.Nat.{ℕ, _+_, _-_, _*_, _%_, _^_}
+use Prim.Native.Nat.{ℕ, _+_, _*_, _%_, _^_}
 use native.Mathlib.Omega.{arith}
-use Rattle.constraint.specs.Widths.{decided}
+use Rattle.constraint.specs.Widths.{decided, setWidth}
 use Rattle.constraint.proofs.Bits.{add-lt, shift}
 use borrow.Author.Needs.{needs}
 use Rattle.constraint.proofs.fix_column.Statement.{statement}
@@ -17,9 +17,14 @@ fix-column-spec =
     (λ c. search needs)
     (λ c. search needs)
     (λ c. search needs)
-    (λ c. let a = c .before .before .args in
-    record { fits = rw (shift (a .i) (c .before .before .pre .0)) (add-lt 16 (a .s .decided) (a .i) (omega arith) (search needs) (c .before .before .pre .1)) })
+    (λ c. let b = c .before .before in
+    let s = b .args .s in
+    let i = b .args .i in
+    record { fits = rw (shift i (omega arith)) (add-lt setWidth (s .decided) i (omega arith) (search needs) (b .pre .1)) })
     (λ c κs. search needs)
     (λ c. let b = c .before .before .before in
-    let a = b .args in
-    fixed-at (a .s) (a .i) (a .w) (c .before .before .one-at-least .result) (a .s .decided + 1 * 2 ^ a .i % 65536) (c .minus .result) (c .before .before .one-at-least .ensures) (ap (λ (d : ℕ). a .s .decided + d) (shift (a .i) (b .pre .0))) (c .minus .ensures)))
+    let s = b .args .s in
+    let i = b .args .i in
+    let lifted = c .before .before .greater-u16 in
+    let added = ap (λ (d : ℕ). s .decided + d) (shift i (omega arith)) in
+    fixed-at s i (b .args .w .0) (lifted .result) (s .decided + 1 * 2 ^ i % 65536) (c .minus-u16 .result) (lifted .ensures) added (c .minus-u16 .ensures)))

@@ -1,5 +1,4 @@
 use Rattle.constraint.proofs.Exits.{hide-at}
-use Prim.Native.Nat.{_-_}
 use borrow.Author.Needs.{needs}
 use Rattle.constraint.proofs.hidden_column.Statement.{statement}
 use Rattle.constraint.proofs.hidden_column.Tie as tie
@@ -13,4 +12,4 @@ hidden-column-spec =
     (λ c κs. search needs)
     (λ c. search needs)
     (λ c. search needs)
-    (λ c. hide-at (c .before .before .args .t1) (c .before .before .args .i) (c .before .before .args .s) (c .one-at-least .result) (c .one-at-least .ensures)))
+    (λ c. hide-at (c .before .before .args .t1) (c .before .before .args .i) (c .before .before .args .s) (c .greater-u16 .result) (c .greater-u16 .ensures)))

@@ -1,6 +1,5 @@
 use Rattle.constraint.proofs.Exits.{upper-at, upper-none}
 use mathlib.Core.Logic.{inl, inr}
-use Prim.Native.Nat.{_-_}
 use borrow.Author.Needs.{needs}
 use Rattle.constraint.proofs.max.Statement.{statement}
 use Rattle.constraint.proofs.max.Tie as tie

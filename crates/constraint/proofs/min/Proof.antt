@@ -1,5 +1,4 @@
 use Rattle.constraint.proofs.Exits.{lower-at, lower-none}
-use Prim.Native.Nat.{_-_}
 use borrow.Author.Needs.{needs}
 use Rattle.constraint.proofs.min.Statement.{statement}
 use Rattle.constraint.proofs.min.Tie as tie

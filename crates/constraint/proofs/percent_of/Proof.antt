@@ -1,4 +1,3 @@
-use Prim.Native.Nat.{_-_}
 use native.Mathlib.Omega.{arith}
 use Rattle.constraint.proofs.Laws.{percent-all, percent-part, percent-fits}
 use Rattle.constraint.proofs.percent_of.Statement.{statement}

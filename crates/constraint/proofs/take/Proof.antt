@@ -1,5 +1,4 @@
 use Rattle.constraint.proofs.Exits.{taking-at}
-use Prim.Native.Nat.{_-_}
 use borrow.Author.Needs.{needs}
 use Rattle.constraint.proofs.take.Statement.{statement}
 use Rattle.constraint.proofs.take.Tie as tie

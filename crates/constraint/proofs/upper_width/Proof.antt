@@ -1,5 +1,4 @@
 use borrow.Author.Needs.{needs}
-use Prim.Native.Nat.{_-_}
 use Rattle.constraint.proofs.Cases.{cases}
 use Rattle.constraint.proofs.upper_width.Statement.{statement}
 use Rattle.constraint.proofs.upper_width.Tie as tie

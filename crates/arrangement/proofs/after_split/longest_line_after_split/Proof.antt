@@ -18,27 +18,34 @@ longest-line-after-split-spec =
     (λ c κs. search needs)
     (λ c. let o = c .before .before .before in
     let b = o .before .before .before .before .before .before in
-    let k : o .of-rows .result .longest ≤ lifted (b .args .average) = tried-le _ _ _ _ _ _ (o .of-rows .ensures) in
+    let k : o .longest-part-of-rows .result .longest ≤ lifted (b .args .average) = tried-le _ _ _ _ _ _ (o .longest-part-of-rows .ensures) in
     let f = b .fits .average .fits in
     record { fits = omega arith })
     (λ c. let y = c .before .before in
     let h = y .before .before in
     let e = h .before in
-    tried-header _ _ _ _ _ _ (y .before .of-rows .ensures) _ (h .header .ensures .0)
-    (otherwise-is _ _ _ _ _ _ (e .before .before .before .before .pre .1) (e .before .before .settings .ensures) (e .before .or-else .ensures) (e .or-else2 .ensures)) _ (y .saves-too-little .ensures) (c .before .if1 .taken))
+    let column = e .before .before .before .before .pre .1 in
+    let delimiter = otherwise-is _ _ _ _ _ _ column (e .before .before .settings .ensures) (e .before .or-else .ensures) (e .or-else2 .ensures) in
+    tried-header _ _ _ _ _ _ (y .before .longest-part-of-rows .ensures) _ (h .header .ensures .0) delimiter _ (y .saves-too-little .ensures)
+    (c .before .if1 .taken))
     (λ c κs. let y = c .before in
     let h = y .before .before in
-    (h .before .before .before .before .before .pre .0, header-behind _ _ _ _ _ _ _ (y .saves-too-little .ensures) (c .if1 .left) (y .before .of-rows .ensures) (h .header .ensures .1)))
+    let accepted = h .before .before .before .before .before .pre .0 in
+    let found = y .before .longest-part-of-rows .ensures in
+    (accepted, header-behind _ _ _ _ _ _ _ (y .saves-too-little .ensures) (c .if1 .left) found (h .header .ensures .1)))
     (λ c κs. search needs)
     (λ c κs. search needs)
     (λ c. let o = c .before .before .before .before .before in
     let b = o .before .before .before .before .before .before in
-    let k : o .of-rows .result .longest ≤ lifted (b .args .average) = tried-le _ _ _ _ _ _ (o .of-rows .ensures) in
-    let l : c .before .of-rows2 .result .longest ≤ lifted (b .args .average) = tried-le _ _ _ _ _ _ (c .before .of-rows2 .ensures) in
+    let k : o .longest-part-of-rows .result .longest ≤ lifted (b .args .average) = tried-le _ _ _ _ _ _ (o .longest-part-of-rows .ensures) in
+    let l : c .before .longest-part-of-rows2 .result .longest ≤ lifted (b .args .average) = tried-le _ _ _ _ _ _ (c .before .longest-part-of-rows2 .ensures) in
     let f = b .fits .average .fits in
     record { fits = omega (arith, c .greater .ensures) })
     (λ c. let o = c .before .before .before .before .before in
     let h = o .before in
     let e = h .before in
-    tried-both _ _ _ _ _ _ (o .of-rows .ensures) _ (h .header .ensures .0)
-    (otherwise-is _ _ _ _ _ _ (e .before .before .before .before .pre .1) (e .before .before .settings .ensures) (e .before .or-else .ensures) (e .or-else2 .ensures)) _ _ _ (c .before .of-rows2 .ensures) (c .greater .ensures) (c .before .before .rows .ensures .0)))
+    let column = e .before .before .before .before .pre .1 in
+    let delimiter = otherwise-is _ _ _ _ _ _ column (e .before .before .settings .ensures) (e .before .or-else .ensures) (e .or-else2 .ensures) in
+    let others = c .before .longest-part-of-rows2 .ensures in
+    let rows = c .before .before .rows .ensures .0 in
+    tried-both _ _ _ _ _ _ (o .longest-part-of-rows .ensures) _ (h .header .ensures .0) delimiter _ _ _ others (c .greater .ensures) rows))

@@ -1,4 +1,3 @@
-use Prim.Native.Nat.{_-_}
 use Rattle.arrangement.proofs.Ways.{trimmed-at, trimmed-not}
 use borrow.Author.Needs.{needs}
 use Rattle.arrangement.proofs.disabled.trimmed_width.Statement.{statement}

@@ -1,4 +1,3 @@
-use Prim.Native.Nat.{_-_}
 use native.Mathlib.Omega.{arith}
 use Rattle.constraint.proofs.Laws.{open-by, step-decided, step-open}
 use Rattle.arrangement.proofs.Ways.{untargeted-rule}

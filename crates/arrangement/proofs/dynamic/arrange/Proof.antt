@@ -1,8 +1,6 @@
 use borrow.Author.Needs.{needs}
 use mathlib.Core.Path.{refl}
-use Rattle.rules.specs.Widths.{longestPart}
 use Rattle.rules.proofs.Accepted.{accepted-limits}
-use Rattle.sheet.specs.Held.{tableOf}
 use Rattle.sheet.proofs.Held.{held}
 use Rattle.arrangement.proofs.Arranged.{steps-small, steps-finish}
 use Rattle.arrangement.proofs.dynamic.arrange.Statement.{statement}
@@ -21,11 +19,21 @@ arrange-spec =
     let g = e .before in
     let b = g .before .before in
     let h = held (b .args .sheet .now) (b .pre .0) in
-    (b .pre .1 .few, steps-small (b .args .t) (tableOf (b .args .sheet .now)) (b .pre .1) (longestPart (tableOf (b .args .sheet .now))) (λ j a l. refl) (accepted-limits _ _ (h .end) (h .reads)) _ _ _ _ _ (b .pre .2) (g .target .ensures) (e .enforce-lower-boundary-constraints .ensures) (f .find-columns-that-fit-into-average .ensures) (c .optimize-space-after-split .ensures)))
+    let limits = accepted-limits _ _ (h .end) (h .reads) in
+    let first = g .target .ensures in
+    let lower = e .enforce-lower-boundary-constraints .ensures in
+    let fit = f .find-columns-that-fit-into-average .ensures in
+    let split = c .optimize-space-after-split .ensures in
+    (b .pre .1 .few, steps-small _ _ (b .pre .1) _ (λ j a l. refl) limits _ _ _ _ _ (b .pre .2) first lower fit split))
     (λ c. let o = c .before in
     let f = o .before in
     let e = f .before in
     let g = e .before in
     let b = g .before .before in
     let h = held (b .args .sheet .now) (b .pre .0) in
-    steps-finish (b .args .t) (tableOf (b .args .sheet .now)) (b .pre .1) (longestPart (tableOf (b .args .sheet .now))) (λ j a l. refl) (accepted-limits _ _ (h .end) (h .reads)) _ _ _ _ _ (b .pre .2) (g .target .ensures) (e .enforce-lower-boundary-constraints .ensures) (f .find-columns-that-fit-into-average .ensures) (o .optimize-space-after-split .ensures) _ (c .finish .ensures)))
+    let limits = accepted-limits _ _ (h .end) (h .reads) in
+    let first = g .target .ensures in
+    let lower = e .enforce-lower-boundary-constraints .ensures in
+    let fit = f .find-columns-that-fit-into-average .ensures in
+    let split = o .optimize-space-after-split .ensures in
+    steps-finish _ _ (b .pre .1) _ (λ j a l. refl) limits _ _ _ _ _ (b .pre .2) first lower fit split _ (c .finish .ensures)))

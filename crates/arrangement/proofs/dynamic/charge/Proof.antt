@@ -1,4 +1,3 @@
-use Prim.Native.Nat.{_-_}
 use Rattle.arrangement.proofs.Ways.{charged-hidden, charged-decided, charged-open}
 use borrow.Author.Needs.{needs}
 use Rattle.arrangement.proofs.dynamic.charge.Statement.{statement}

@@ -1,8 +1,6 @@
-use mathlib.Core.Path.{_≡_, refl}
 use Prim.Native.Nat.{_-_, _≤_}
 use native.Mathlib.Omega.{arith}
-use Rattle.constraint.specs.Widths.{inOrder}
-use Rattle.constraint.proofs.Laws.{order-begin, order-again, order-done}
+use Rattle.constraint.proofs.Laws.{Walk, walk-begin, walk-again, walk-done}
 use Rattle.arrangement.specs.Arrange.{sharing}
 use Rattle.arrangement.proofs.Shares.{sharing-given, distributed-at}
 use borrow.Author.Needs.{needs}
@@ -10,7 +8,7 @@ use Rattle.arrangement.proofs.dynamic.distribute_remaining_space.Statem
 use Rattle.arrangement.proofs.dynamic.distribute_remaining_space.Tie as tie
 
 abbrev Inv-loop : tie.InvT-loop
-Inv-loop t n parts total x₀ i₀ x i = (i ≤ n) × (n ≡ t .count) × (x .given ≤ i) × (x ≡ inOrder (sharing t total parts) i x₀)
+Inv-loop t n parts total x₀ i₀ x i = (x .given ≤ i) × Walk (sharing t total parts) x₀ (t .count) n i x
 
 abbrev μ-loop : tie.MeasureT-loop
 μ-loop t n parts total x₀ i₀ x i = n - i
@@ -24,25 +22,12 @@ distribute-remaining-space-spec =
     (λ c. search needs)
     (λ c κs. search needs)
     (λ c κs. search needs)
-    (λ c. let a = c .before .before .before .args in
-    (omega arith, refl, omega arith, order-begin (sharing (a .t) (c .greater .result) (c .before .undecided-columns .result)) (record { state = a .s; given = 0 })))
+    (λ c. (omega arith, search (needs, walk-begin)))
     (λ c κs. (omega arith, omega (arith, c .before .before .before .undecided-columns .ensures), omega arith))
     (λ c. omega arith)
     (λ c. omega arith)
+    (λ c. (search (needs, sharing-given), search (needs, walk-again)))
     (λ c. let l = c .before .before in
     let g = l .before in
-    let a = g .before .before .before .args in
-    let n = g .greater .result in
-    let k = g .before .undecided-columns .result in (
-      omega arith,
-      l .loop .inv .1,
-      sharing-given (a .t) n k (l .loop .i) (l .loop .x) (c .share-step .result) (l .loop .inv .2) (c .share-step .ensures),
-      order-again (sharing (a .t) n k) (record { state = a .s; given = 0 }) (l .loop .i) (l .loop .x) (c .share-step .result) (l .loop .inv .3) (c .share-step .ensures),
-    ))
-    (λ c. let l = c .before .before in
-    let g = l .before in
-    let a = g .before .before .before .args in
-    let n = g .greater .result in
-    let k = g .before .undecided-columns .result in
-    distributed-at (a .t) (a .s) k n (l .loop .x) (g .before .undecided-columns .ensures) (g .greater .ensures)
-    (order-done (sharing (a .t) n k) (record { state = a .s; given = 0 }) (l .loop .i) (a .t .count) (l .loop .x) (omega arith) (l .loop .inv .3))))
+    let walked = walk-done _ _ _ _ _ _ (l .loop .inv .1) (omega arith) in
+    distributed-at _ _ _ _ (l .loop .x) (g .before .undecided-columns .ensures) (g .greater-u16 .ensures) walked))

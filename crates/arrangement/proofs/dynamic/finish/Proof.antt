@@ -1,4 +1,3 @@
-use Prim.Native.Nat.{_-_}
 use Rattle.arrangement.proofs.Shares.{finished-full, finished-kept, finished-shared}
 use borrow.Author.Needs.{needs}
 use Rattle.arrangement.proofs.dynamic.finish.Statement.{statement}

@@ -1,4 +1,3 @@
-use Prim.Native.Nat.{_-_}
 use Rattle.arrangement.proofs.Ways.{fit-none, fit-some}
 use borrow.Author.Needs.{needs}
 use Rattle.arrangement.proofs.dynamic.fit_pass_if_room.Statement.{statement}

@@ -1,4 +1,3 @@
-use Prim.Native.Nat.{_-_}
 use Rattle.arrangement.proofs.Ways.{fitting-at, fitting-wide, fitting-loose, fitting-unset}
 use borrow.Author.Needs.{needs}
 use Rattle.arrangement.proofs.dynamic.fitting_offer.Statement.{statement}

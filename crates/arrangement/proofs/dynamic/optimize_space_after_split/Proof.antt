@@ -9,7 +9,9 @@ use Rattle.arrangement.proofs.dynamic.optimize_space_after_split.Statem
 use Rattle.arrangement.proofs.dynamic.optimize_space_after_split.Tie as tie
 
 abbrev Inv-loop : tie.InvT-loop
-Inv-loop sheet t r₀ found-smaller₀ r found-smaller = Going (pass (splitRule (longestPart (tableOf sheet))) t) (repeated (pass (splitRule (longestPart (tableOf sheet))) t) r₀) r found-smaller
+Inv-loop sheet t r₀ found-smaller₀ r found-smaller =
+    let turn = pass (splitRule (longestPart (tableOf sheet))) t in
+    Going turn (repeated turn r₀) r found-smaller
 
 abbrev μ-loop : tie.MeasureT-loop
 μ-loop sheet t r₀ found-smaller₀ r found-smaller = left r + weight found-smaller

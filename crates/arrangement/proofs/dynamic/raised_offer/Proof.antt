@@ -1,4 +1,3 @@
-use Prim.Native.Nat.{_-_}
 use Rattle.arrangement.proofs.Ways.{raised-at, raised-not}
 use borrow.Author.Needs.{needs}
 use Rattle.arrangement.proofs.dynamic.raised_offer.Statement.{statement}

@@ -1,4 +1,3 @@
-use Prim.Native.Nat.{_-_}
 use native.Mathlib.Omega.{arith}
 use Rattle.arrangement.proofs.Shares.{share-more, share-first, share-rest}
 use borrow.Author.Needs.{needs}
@@ -11,6 +10,9 @@ share-of-spec =
     (tie.spec
     (λ c. search needs)
     (λ c. search needs)
-    (λ c. record { fits = omega (arith, share-more (c .before .args .n) (c .before .args .parts) (c .before .args .k) (search needs) (search needs)) })
-    (λ c. share-first (c .before .args .n) (c .before .args .parts) (c .before .args .k) (search needs) (search needs))
-    (λ c. share-rest (c .before .args .n) (c .before .args .parts) (c .before .args .k) (search needs)))
+    (λ c. let a = c .before .args in
+    record { fits = omega (arith, share-more (a .n) (a .parts) (a .k) (search needs) (search needs)) })
+    (λ c. let a = c .before .args in
+    share-first (a .n) (a .parts) (a .k) (search needs) (search needs))
+    (λ c. let a = c .before .args in
+    share-rest (a .n) (a .parts) (a .k) (search needs)))

@@ -1,4 +1,3 @@
-use Prim.Native.Nat.{_-_}
 use native.Mathlib.Omega.{arith}
 use Rattle.constraint.proofs.Laws.{open-by}
 use Rattle.arrangement.proofs.Shares.{sharing-decided, sharing-open}

@@ -1,7 +1,6 @@
 use lib.Count.{ones-le}
-use Prim.Native.Nat.{_-_}
 use native.Mathlib.Omega.{arith}
-use Rattle.constraint.specs.Widths.{decided}
+use Rattle.constraint.specs.Widths.{decided, setWidth}
 use borrow.Author.Needs.{needs}
 use Rattle.arrangement.proofs.dynamic.undecided_columns.Statement.{statement}
 use Rattle.arrangement.proofs.dynamic.undecided_columns.Tie as tie
@@ -10,6 +9,6 @@ pub undecided-columns-spec : {M : Type 1} → statement M
 undecided-columns-spec =
     tie.close
     (tie.spec
-    (λ c. omega (arith, ones-le 16 (c .before .args .s .decided) (search needs)))
+    (λ c. omega (arith, ones-le setWidth (c .before .args .s .decided) (search needs)))
     (λ c κs. search needs)
     (λ c. search needs))

@@ -1,17 +1,14 @@
-use mathlib.Core.Path.{_≡_, refl}
 use Prim.Native.Nat.{_-_, _≤_}
 use native.Mathlib.Omega.{arith}
-use Rattle.constraint.specs.Widths.{inOrder, visible}
-use Rattle.constraint.proofs.Laws.{order-begin, order-again, order-done}
-use Rattle.arrangement.specs.Arrange.{remaining, widening}
-use Rattle.arrangement.proofs.Rounds.{left}
+use Rattle.constraint.proofs.Laws.{Walk, walk-begin, walk-again, walk-done}
+use Rattle.arrangement.specs.Arrange.{widening}
 use Rattle.arrangement.proofs.Shares.{widening-given, Ahead, widening-ahead, filled-none, filled-some}
 use borrow.Author.Needs.{needs}
 use Rattle.arrangement.proofs.dynamic.use_full_width.Statement.{statement}
 use Rattle.arrangement.proofs.dynamic.use_full_width.Tie as tie
 
 abbrev Inv-loop : tie.InvT-loop
-Inv-loop t n total parts x₀ i₀ x i = (i ≤ n) × (n ≡ t .count) × (x .given ≤ i) × Ahead i x × (x ≡ inOrder (widening t total parts) i x₀)
+Inv-loop t n total parts x₀ i₀ x i = (x .given ≤ i) × Ahead i x × Walk (widening t total parts) x₀ (t .count) n i x
 
 abbrev μ-loop : tie.MeasureT-loop
 μ-loop t n total parts x₀ i₀ x i = n - i
@@ -24,22 +21,14 @@ use-full-width-spec =
     μ-loop
     (λ c. search needs)
     (λ c. search (needs, filled-none))
-    (λ c. let a = c .before .before .args in
-    (omega arith, refl, omega arith, (λ k h. c .before .before .pre .1 .widths k), order-begin (widening (a .t) (a .s .remaining) (a .s .visible)) (record { state = a .s; given = 0 })))
-    (λ c κs. (omega arith, omega arith, omega arith, omega (arith, c .before .loop .inv .3 (c .before .loop .i) (omega arith), c .before .before .before .before .pre .1 .remaining)))
+    (λ c. (omega arith, (λ k h. c .before .before .pre .1 .widths k), search (needs, walk-begin)))
+    (λ c κs. let l = c .before .loop in
+    let width = l .inv .1 (l .i) (omega arith) in
+    (omega arith, omega arith, omega arith, omega (arith, width, c .before .before .before .before .pre .1 .remaining)))
     (λ c. omega arith)
     (λ c. omega arith)
+    (λ c. let l = c .before .before .loop in
+    let e = c .widen-step .ensures in
+    (widening-given _ _ _ _ _ _ (l .inv .0) e, widening-ahead _ _ _ _ _ _ (l .inv .1) e, search (needs, walk-again)))
     (λ c. let l = c .before .before in
-    let a = l .before .before .before .args in
-    let n = a .s .remaining in
-    let k = a .s .visible in (
-      omega arith,
-      l .loop .inv .1,
-      widening-given (a .t) n k (l .loop .i) (l .loop .x) (c .widen-step .result) (l .loop .inv .2) (c .widen-step .ensures),
-      widening-ahead (a .t) n k (l .loop .i) (l .loop .x) (c .widen-step .result) (l .loop .inv .3) (c .widen-step .ensures),
-      order-again (widening (a .t) n k) (record { state = a .s; given = 0 }) (l .loop .i) (l .loop .x) (c .widen-step .result) (l .loop .inv .4) (c .widen-step .ensures),
-    ))
-    (λ c. let l = c .before .before in
-    let a = l .before .before .before .args in
-    filled-some (a .t) (a .s) (l .loop .x) (l .before .if1 .left)
-    (order-done (widening (a .t) (a .s .remaining) (a .s .visible)) (record { state = a .s; given = 0 }) (l .loop .i) (a .t .count) (l .loop .x) (omega arith) (l .loop .inv .4))))
+    filled-some _ _ (l .loop .x) (l .before .if1 .left) (walk-done _ _ _ _ _ _ (l .loop .inv .2) (omega arith))))

@@ -1,4 +1,3 @@
-use Prim.Native.Nat.{_-_}
 use Rattle.arrangement.proofs.Shares.{widening-hidden, widening-visible}
 use borrow.Author.Needs.{needs}
 use Rattle.arrangement.proofs.dynamic.widen_step.Statement.{statement}

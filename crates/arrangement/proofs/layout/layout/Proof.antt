@@ -26,5 +26,11 @@ layout-spec =
     let x = l .before .before .before .before in
     let b = x .before .before .before in
     let h = held (b .args .sheet .now) (b .pre) in
-    describes _ (accepted-limits _ _ (h .end) (h .reads)) _ (x .columns .ensures) _ _ _ _ _ _ _ (x .before .settings .ensures) (l .before .before .style .ensures) (l .before .style-from .ensures) (l .longest .ensures)
-    (c .before .before .before .has-left-border .ensures) (c .before .before .has-right-border .ensures) (c .before .has-vertical-lines .ensures)))
+    let limits = accepted-limits _ _ (h .end) (h .reads) in
+    let columns = x .columns .ensures in
+    let settings = x .before .settings .ensures in
+    let style = l .before .before .style .ensures in
+    let left = c .before .before .before .has-left-border .ensures in
+    let right = c .before .before .has-right-border .ensures in
+    let junction = c .before .has-vertical-lines .ensures in
+    describes _ limits _ columns _ _ _ _ _ _ _ settings style (l .before .style-from .ensures) (l .longest .ensures) left right junction))

@@ -13,4 +13,10 @@ style-from-spec =
     (λ c κs. search needs)
     (λ c κs. search needs)
     (λ c κs. search needs)
-    (λ c. style-at (c .before .before .before .before .before .before .args .b) _ _ _ _ _ _ (c .before .before .before .before .before .line-from .ensures) (c .before .before .before .before .content-from .ensures) (c .before .before .before .line-from2 .ensures) (c .before .before .content-from2 .ensures) (c .before .line-from3 .ensures) (c .line-from4 .ensures)))
+    (λ c. let row = c .before in
+    let content = row .before in
+    let rule = content .before in
+    let header = rule .before in
+    let top = header .before in
+    style-at (top .before .args .b) _ _ _ _ _ _ (top .line-from .ensures) (header .content-from .ensures) (rule .line-from2 .ensures)
+    (content .content-from2 .ensures) (row .line-from3 .ensures) (c .line-from4 .ensures)))

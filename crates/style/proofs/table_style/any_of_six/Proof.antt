@@ -9,6 +9,12 @@ any-of-six-spec =
     tie.close
     (tie.spec
     (λ c κs. search needs)
-    (λ c. more-1 _ (c .before .before .args .e) (c .before .before .args .f) (sym (c .before .any-of-four .ensures) ∙ c .if1 .taken))
-    (λ c. more-2 _ (c .before .before .before .args .e) (c .before .before .before .args .f) (sym (c .before .before .any-of-four .ensures) ∙ c .before .if1 .left) (c .if2 .taken))
-    (λ c. more-3 _ (c .before .before .before .args .e) (c .before .before .before .args .f) (sym (c .before .before .any-of-four .ensures) ∙ c .before .if1 .left) (c .if2 .left)))
+    (λ c. let four = c .before .any-of-four .ensures in
+    let a = c .before .before .args in
+    more-1 _ (a .e) (a .f) (sym four ∙ c .if1 .taken))
+    (λ c. let four = c .before .before .any-of-four .ensures in
+    let a = c .before .before .before .args in
+    more-2 _ (a .e) (a .f) (sym four ∙ c .before .if1 .left) (c .if2 .taken))
+    (λ c. let four = c .before .before .any-of-four .ensures in
+    let a = c .before .before .before .args in
+    more-3 _ (a .e) (a .f) (sym four ∙ c .before .if1 .left) (c .if2 .left)))

@@ -1,7 +1,7 @@
 use borrow.Author.Needs.{needs}
 use Rattle.arrangement.proofs.Tries.{RowsSoFar, rows-begin, row-fits, rows-enough, rows-again, rows-done}
-use Rattle.arrangement.proofs.after_split.of_rows.Statement.{statement}
-use Rattle.arrangement.proofs.after_split.of_rows.Tie as tie
+use Rattle.arrangement.proofs.after_split.longest_part_of_rows.Statement.{statement}
+use Rattle.arrangement.proofs.after_split.longest_part_of_rows.Tie as tie
 
 abbrev Inv-loop : tie.InvT-loop
 Inv-loop sheet column average otherwise longest₀ c₀ longest c = RowsSoFar sheet column average otherwise c₀ c longest
@@ -9,8 +9,8 @@ Inv-loop sheet column average otherwise longest₀ c₀ longest c = RowsSoFar sh
 abbrev μ-loop : tie.MeasureT-loop
 μ-loop sheet column average otherwise longest₀ c₀ longest c = c .left
 
-pub of-rows-spec : {M : Type 1} → statement M
-of-rows-spec =
+pub longest-part-of-rows-spec : {M : Type 1} → statement M
+longest-part-of-rows-spec =
     tie.close
     (tie.spec
     Inv-loop
@@ -22,10 +22,16 @@ of-rows-spec =
     (λ c κs. search needs)
     (λ c. let y = c .before in
     let r = y .before .before .before .before in
-    rows-enough _ _ _ _ _ _ _ _ _ _ (r .before .if1 .taken) (r .row .ensures) (y .before .before .of-row .ensures) (y .before .greater .ensures) (r .before .before .before .loop .inv) _ (y .saves-too-little .ensures) _ (c .if2 .taken))
+    let found = y .before .before .longest-part-of-row .ensures in
+    let greater = y .before .greater .ensures in
+    let so = r .before .before .before .loop .inv in
+    rows-enough _ _ _ _ _ _ _ _ _ _ (r .before .if1 .taken) (r .row .ensures) found greater so _ (y .saves-too-little .ensures) _ (c .if2 .taken))
     (λ c. search needs)
     (λ c. search needs)
     (λ c. let y = c .before .before in
     let r = y .before .before .before .before in
-    rows-again _ _ _ _ _ _ _ _ _ _ (r .before .if1 .taken) (r .row .ensures) (y .before .before .of-row .ensures) (y .before .greater .ensures) (r .before .before .before .loop .inv) _ (y .saves-too-little .ensures) (c .before .if2 .left))
+    let found = y .before .before .longest-part-of-row .ensures in
+    let greater = y .before .greater .ensures in
+    let so = r .before .before .before .loop .inv in
+    rows-again _ _ _ _ _ _ _ _ _ _ (r .before .if1 .taken) (r .row .ensures) found greater so _ (y .saves-too-little .ensures) (c .before .if2 .left))
     (λ c. rows-done _ _ _ _ _ _ _ (c .if1 .left) (c .before .before .loop .inv)))

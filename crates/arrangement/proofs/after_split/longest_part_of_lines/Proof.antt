@@ -1,8 +1,8 @@
 use borrow.Author.Needs.{needs}
 use native.Mathlib.Omega.{arith}
-use Rattle.arrangement.proofs.Tries.{LinesSoFar, lines-begin, lines-enough, lines-again, lines-done}
-use Rattle.arrangement.proofs.after_split.of_lines.Statement.{statement}
-use Rattle.arrangement.proofs.after_split.of_lines.Tie as tie
+use Rattle.arrangement.proofs.Tries.{LinesSoFar, saves-some, lines-begin, lines-enough, lines-again, lines-done}
+use Rattle.arrangement.proofs.after_split.longest_part_of_lines.Statement.{statement}
+use Rattle.arrangement.proofs.after_split.longest_part_of_lines.Tie as tie
 
 abbrev Inv-loop : tie.InvT-loop
 Inv-loop sheet average delimiter longest₀ c₀ longest c = LinesSoFar sheet average delimiter c₀ c longest
@@ -10,8 +10,8 @@ Inv-loop sheet average delimiter longest₀ c₀ longest c = LinesSoFar sheet av
 abbrev μ-loop : tie.MeasureT-loop
 μ-loop sheet average delimiter longest₀ c₀ longest c = c .left
 
-pub of-lines-spec : {M : Type 1} → statement M
-of-lines-spec =
+pub longest-part-of-lines-spec : {M : Type 1} → statement M
+longest-part-of-lines-spec =
     tie.close
     (tie.spec
     Inv-loop
@@ -22,7 +22,7 @@ of-lines-spec =
     lines-enough _ _ _ _ _ _ _ (e .saves-too-little .ensures) (c .if2 .taken) (e .before .before .before .loop .inv))
     (λ c κs. let e = c .before .before in
     (e .if1 .taken, e .before .before .loop .inv .inside))
-    (λ c κs. search needs)
+    (λ c κs. saves-some _ _ _ (c .before .before .saves-too-little .ensures) (c .before .if2 .left))
     (λ c κs. search needs)
     (λ c κs. let e = c .before .before .before .before .before in
     (e .if1 .taken, e .before .before .loop .inv .inside))
@@ -30,5 +30,6 @@ of-lines-spec =
     (λ c. let g = c .before in
     let r = g .before .before in
     let e = r .before .before .before in
-    lines-again _ _ _ _ _ _ _ _ _ _ (e .if1 .taken) (r .line .ensures) (g .before .of-line .ensures) (g .greater .ensures) (c .next-line .ensures) (e .before .before .loop .inv))
+    let found = g .before .longest-part-of-line .ensures in
+    lines-again _ _ _ _ _ _ _ _ _ _ (e .if1 .taken) (r .line .ensures) found (g .greater .ensures) (c .next-line .ensures) (e .before .before .loop .inv))
     (λ c. lines-done _ _ _ _ _ _ (c .if1 .left) (c .before .before .loop .inv)))
