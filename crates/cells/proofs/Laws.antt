@@ -149,18 +149,18 @@ module _ (s : List ℕ) (w d : ℕ) (pos : 0 < w) (all : Lines) where
     seeking-here h = S .same ∙ ap (wrapLines w d) (lines-some s c h) ∙ wrap-more w d (firstLine s c) (drop 1 (linesIn s c))
 
     module _ (some : 0 < c .left) (t : List ℕ) (e : t ≡ firstLine s c) (p : Part) (l : HeadIs w d t (wrapLine w d t) p) (r : Next) (q : r ≡ taken c p)
-        where
-      head-here : HeadIs w d (firstLine s c) (wrapLine w d (firstLine s c)) p
-      head-here = subst (λ (x : List ℕ). HeadIs w d x (wrapLine w d x) p) e l
+      where
+        head-here : HeadIs w d (firstLine s c) (wrapLine w d (firstLine s c)) p
+        head-here = subst (λ (x : List ℕ). HeadIs w d x (wrapLine w d x) p) e l
 
-      pub seeking-found : r .found ≡ true → FirstOf s w d (wrapLines w d (linesIn s all)) r
-      seeking-found f = rw (seeking-here some) (taken-found s w d c (S .ends) (wrapLine w d (firstLine s c)) p r head-here q f)
+        pub seeking-found : r .found ≡ true → FirstOf s w d (wrapLines w d (linesIn s all)) r
+        seeking-found f = rw (seeking-here some) (taken-found s w d c (S .ends) (wrapLine w d (firstLine s c)) p r head-here q f)
 
-      pub seeking-on : r .found ≡ false → (k : Lines) → LinesNext s c k → Seeking s w d all k
-      seeking-on f k n = record {
-        same = seeking-here some ∙ rw (taken-none s w d c (firstLine s c) (wrapLine w d (firstLine s c)) p r head-here q f, ← n .lines);
-        ends = omega (arith, S .ends, n .ends);
-      }
+        pub seeking-on : r .found ≡ false → (k : Lines) → LinesNext s c k → Seeking s w d all k
+        seeking-on f k n = record {
+          same = seeking-here some ∙ rw (taken-none s w d c (firstLine s c) (wrapLine w d (firstLine s c)) p r head-here q f, ← n .lines);
+          ends = omega (arith, S .ends, n .ends);
+        }
 
     pub seeking-done : c .left ≤ 0 → (r : Next) → r ≡ noLine c → FirstOf s w d (wrapLines w d (linesIn s all)) r
     seeking-done h r q = rw (S .same, lines-none s c h, wrap-none w d, q) (blank-first s w d c pos (S .ends) h)

@@ -34,7 +34,7 @@ four d at a b c e d₁ d₂ d₃ d₄ p q r e₁ e₂ e₃ e₄ x y z h =
     let f : d₂ ≡ putAt d at (a ++ b) = two d at a b d₁ d₂ p e₁ e₂ x h in
     let g : d₃ ≡ putAt d at ((a ++ b) ++ c) = two d at (a ++ b) c d₂ d₃ q f e₃ (omega (arith, length-append a b)) h in
     let i : d₄ ≡ putAt d at (((a ++ b) ++ c) ++ e) = two d at ((a ++ b) ++ c) e d₃ d₄ r g e₄
-          (omega (arith, length-append a b, length-append (a ++ b) c)) h in
+    (omega (arith, length-append a b, length-append (a ++ b) c)) h in
     i ∙ ap (putAt d at) (simp append-assoc)
 
 -- an area as it is drawn: blanks, a text, what follows it, blanks
@@ -119,7 +119,7 @@ module _ (s : List ℕ) (w : ℕ) (t : Pending) (I : InSheet s w t) where
     -- the part of the cell line and of the indicator that are shown
     pub shown-is : (cut : Bool) → m ≡ marksShown cut n w
         → take (stop - t .line .start) (drop (t .line .start) (firstLine s (t .line .cursor .lines))) ++ take m bytes ≡ shownText s w (take n bytes)
-            cut t
+        cut t
     unfolding shownText
     shown-is true e =
         let i = length-take-le n bytes k in
@@ -145,8 +145,14 @@ module _ (s : List ℕ) (w : ℕ) (t : Pending) (I : InSheet s w t) where
     shown-fits x =
         let a = take (stop - t .line .start) (drop (t .line .start) (firstLine s (t .line .cursor .lines))) in
         let f = pending-fits in
-        omega (arith, width-length a, width-length (take m bytes), length-take-le m bytes (omega arith), length-take (stop - t .line .start)
-            (drop (t .line .start) (firstLine s (t .line .cursor .lines))))
+        omega (
+          arith,
+          width-length a,
+          width-length (take m bytes),
+          length-take-le m bytes (omega arith),
+          length-take (stop - t .line .start)
+              (drop (t .line .start) (firstLine s (t .line .cursor .lines))),
+        )
 
 -- whether the line is cut is told by the line after it
 pub piece-is : (s : List ℕ) (v : VisibleColumn) (t r : Pending) (ind : List ℕ) (last cut : Bool) → cut ≡ (last && r .line .found) → After s (v .width)

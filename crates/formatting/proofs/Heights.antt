@@ -73,8 +73,11 @@ length-cut w ind zero ls = refl
 length-cut w ind (suc h) ls = go (ltb (suc h) (length ls)) refl
   where
     go : (x : Bool) → ltb (suc h) (length ls) ≡ x
-        → length {A = List ℕ} (elim x as (λ z. List (List ℕ)) [ true ↦ take (suc h - 1) ls ++ (cutLine w ind (getD ls (suc h - 1) []) ∷ []) | false ↦
-            ls ]) ≡ limited (suc h) (length ls)
+        → length {A = List ℕ} (elim x as (λ z. List (List ℕ)) [
+          | true ↦ take (suc h - 1) ls ++ (cutLine w ind (getD ls (suc h - 1) []) ∷ [])
+          | false ↦
+              ls
+        ]) ≡ limited (suc h) (length ls)
     go true e =
         let l = ltb-true (suc h) (length ls) e in
         length-append (take (suc h - 1) ls) (cutLine w ind (getD ls (suc h - 1) []) ∷ []) ∙ omega (arith, length-take-le (suc h - 1) ls (omega arith))
@@ -106,7 +109,7 @@ module _ (t : Table) (ws : List ℕ) (r : Row) (view : View) (W : Views t ws vie
   unfolding lines-of cellLines
   column-lines i h =
       ap (limited (r .limit)) (cell-is t ws r i (visibleAt view i) (W .each i h)) ∙ sym
-          (length-cut (getD ws (numberOf t i) 0) (t .indicator) (r .limit) (wrapped t ws r (numberOf t i)))
+      (length-cut (getD ws (numberOf t i) 0) (t .indicator) (r .limit) (wrapped t ws r (numberOf t i)))
 
   up-to : (n : ℕ) → n ≤ view .count → limited (r .limit) (heightUpTo (r .cells) view n) ≡ greatest (map lines-of (upFrom 0 n))
   unfolding heightUpTo
@@ -115,7 +118,7 @@ module _ (t : Table) (ws : List ℕ) (r : Row) (view : View) (W : Views t ws vie
       let v = visibleAt view n in
       limited-max (r .limit) (heightUpTo (r .cells) view n) (cellHeight (getD (r .cells) (v .number) noCell) v)
       ∙ rw (up-to n (omega arith), column-lines n (omega arith)) (sym
-          (ap greatest (map-up lines-of n) ∙ greatest-snoc (map lines-of (upFrom 0 n)) (lines-of n)))
+      (ap greatest (map-up lines-of n) ∙ greatest-snoc (map lines-of (upFrom 0 n)) (lines-of n)))
 
   -- what the limit leaves of the most lines of a visible column's cell is the row's height
   pub limited-height : limited (r .limit) (heightUpTo (r .cells) view (view .count)) ≡ height t ws r

@@ -41,8 +41,13 @@ column-packed v d a e f = rw (← e .1, ← f .1, e .0, f .0)
 
 pub pending-is : (x : List ℕ) (f : Bool) (d a : ℕ) → f ≡ eqb (getD x 0 0) 1 → d ≡ getD x 6 0 % 256 → a ≡ getD x 7 0 % 256
     → record {
-      line = record { found = f; start = getD x 1 0; end = getD x 2 0; cursor = record
-          { lines = record { at = getD x 3 0; left = getD x 4 0 }; from = getD x 5 0 } };
+      line = record {
+        found = f;
+        start = getD x 1 0;
+        end = getD x 2 0;
+        cursor = record
+            { lines = record { at = getD x 3 0; left = getD x 4 0 }; from = getD x 5 0 };
+      };
       delimiter = d;
       alignment = a;
     } ≡ pendingFrom x
@@ -51,7 +56,7 @@ pending-is x f d a g e h = rw (g, e, h)
 
 pub pending-packed : (t : Pending) (f d a : ℕ) → t .line .found ≡ eqb f 1 → (d ≡ t .delimiter) × (d ≡ d % 256) → (a ≡ t .alignment) × (a ≡ a % 256)
     → t ≡ pendingFrom (f ∷ t .line .start ∷ t .line .end ∷ t .line .cursor .lines .at ∷ t .line .cursor .lines .left ∷ t .line .cursor .from ∷ d ∷ a ∷
-        [])
+    [])
 unfolding pendingFrom
 pending-packed t f d a g e h = rw (← g, ← e .1, ← h .1, e .0, h .0)
 
@@ -101,7 +106,7 @@ module _ (s : List ℕ) (cols : List (List ℕ)) (n : ℕ) (st₀ : List (List �
   skip-on u z m a x y =
       rw (pendings-set st i z u y)
       (passing-on s (viewOf cols n) (pendingsOf st₀) (pendingsOf st) more m i u (R .most) h P (rw (column-at cols n i, pending-at st i, ← e, ← f) a)
-          x)
+      x)
 
 module _ (s : List ℕ) (cols : List (List ℕ)) (n : ℕ) (ind : Indicator) (style : TextStyle) (st₀ : List (List ℕ)) (last : Bool) (page₀ : List ℕ)
     (at₀ : ℕ)
@@ -109,9 +114,9 @@ module _ (s : List ℕ) (cols : List (List ℕ)) (n : ℕ) (ind : Indicator) (st
     (room : at₀ + length (build (linePiece s (viewOf cols n) (take (ind .count) (ind .characters)) style (pendingsOf st₀) last) n) ≤ length page₀)
     (page : List ℕ) (st : List (List ℕ)) (more : Bool) (at i : ℕ)
     (D : Drawing s (viewOf cols n) (take (ind .count) (ind .characters)) style (pendingsOf st₀) last page₀ at₀ page (pendingsOf st) more at i)
-        (h : i < n)
+    (h : i < n)
     (v : VisibleColumn) (t : Pending) (j : Bool) (ev : v ≡ columnFrom (getD cols i [])) (et : t ≡ pendingFrom (getD st i []))
-        (ej : j ≡ lead i (style .joined)) where
+    (ej : j ≡ lead i (style .joined)) where
   marks : List ℕ
   marks = take (ind .count) (ind .characters)
 
@@ -125,24 +130,24 @@ module _ (s : List ℕ) (cols : List (List ℕ)) (n : ℕ) (ind : Indicator) (st
       (Inside s (t .line .cursor) × ((0 < v .width) × (ind .count ≤ length (ind .characters))))
   column-fits k =
       let r = column-ready s (viewOf cols n) (take (ind .count) (ind .characters)) style (pendingsOf st₀) last page₀ at₀ R page (pendingsOf st) more
-            at i D h in
+      at i D h in
       rw (fv, ft) (r .line, (r .inside, (r .wide, k)))
 
   pub column-room : at + (length (edge j (style .junction)) + (v .left + (v .width + v .right))) ≤ length page
   column-room =
       rw (fv, ej) (drawing-room s (viewOf cols n) (take (ind .count) (ind .characters)) style (pendingsOf st₀) last page₀ at₀ R page (pendingsOf st)
-          more at i D h room)
+      more at i D h room)
 
   pub column-drawn : (page₁ : List ℕ) (u : Pending) (at₁ : ℕ) (m : Bool) (z : List ℕ)
       → at₁ ≡ at + (length (edge j (style .junction)) + (v .left + (v .width + v .right))) → After s (v .width) t u
       → page₁ ≡ putAt page at (edge j (style .junction) ++ columnPiece s v t (take (ind .count) (ind .characters)) last)
       → length page₁ ≡ length page → m ≡ (more || u .line .found) → u ≡ pendingFrom z
       → Drawing s (viewOf cols n) (take (ind .count) (ind .characters)) style (pendingsOf st₀) last page₀ at₀ page₁ (pendingsOf (set st i z)) m at₁
-          (i + 1)
+      (i + 1)
   column-drawn page₁ u at₁ m z e a w l x y =
       rw (pendings-set st i z u y)
       (drawing-on s (viewOf cols n) (take (ind .count) (ind .characters)) style (pendingsOf st₀) last page₀ at₀ R page (pendingsOf st) more at i D h
-          page₁ u at₁ m room
+      page₁ u at₁ m room
       (rw (fv, ej) at e) (rw (fv, ft) at a) (rw (fv, ft, ej) at w) l x)
 
 module _ (s : List ℕ) (cols : List (List ℕ)) (n : ℕ) (R : Rising (viewOf cols n)) (W : WideAll (viewOf cols n)) (xs : List Cell) (left : Cells)
@@ -189,5 +194,5 @@ module _ (cols : List (List ℕ)) (n : ℕ) (style : RuleStyle) (page₀ : List 
 
   pub fill-on : (page₁ : List ℕ) (at₁ : ℕ) → at₁ ≡ at + (length (edge j (style .junction)) + (v .left + (v .width + v .right)))
       → page₁ ≡ putAt page at (edge j (style .junction) ++ ruleArea v (style .fill)) → length page₁ ≡ length page → Ruling (viewOf cols n) style page₀
-          at₀ page₁ at₁ (i + 1)
+      at₀ page₁ at₁ (i + 1)
   fill-on page₁ at₁ e w l = ruling-on (viewOf cols n) style page₀ at₀ page at i D h page₁ at₁ room (rw (rv, ej) at e) (rw (rv, ej) at w) l

@@ -98,7 +98,7 @@ module _ (s : List ℕ) (view : View) (ind : List ℕ) (style : TextStyle) (ts :
 
   pub line-length : length (lineBytes s view ind style ts last)
       ≡ length (edge (style .opens) (style .left)) + length (build (linePiece s view ind style ts last) (view .count)) + length
-          (edge (style .closes) (style .right)) + 1
+      (edge (style .closes) (style .right)) + 1
   unfolding lineBytes
   line-length =
       let l = edge (style .opens) (style .left) in
@@ -110,7 +110,7 @@ module _ (s : List ℕ) (view : View) (ind : List ℕ) (style : TextStyle) (ts :
   pub line-whole : (d d₁ d₂ d₃ : List ℕ) (p q e : ℕ) → d₁ ≡ putAt d 0 (edge (style .opens) (style .left)) → d₂ ≡ putAt d₁ p
       (build (linePiece s view ind style ts last) (view .count))
       → d₃ ≡ putAt d₂ q (edge (style .closes) (style .right)) → length (edge (style .opens) (style .left)) ≡ p → p + length
-          (build (linePiece s view ind style ts last) (view .count)) ≡ q
+      (build (linePiece s view ind style ts last) (view .count)) ≡ q
       → q + length (edge (style .closes) (style .right)) ≡ e → e < length d₃ → set d₃ e 10 ≡ over (lineBytes s view ind style ts last) d
   line-whole d d₁ d₂ d₃ p q e e₁ e₂ e₃ x y z h =
       let l = edge (style .opens) (style .left) in
@@ -120,7 +120,7 @@ module _ (s : List ℕ) (view : View) (ind : List ℕ) (style : TextStyle) (ts :
       let g : d₃ ≡ putAt d 0 ((l ++ b) ++ r) = two d 0 (l ++ b) r d₂ d₃ q f e₃ (omega (arith, length-append l b)) (omega arith) in
       let i : set d₃ e 10 ≡ putAt d 0 (((l ++ b) ++ r) ++ (10 ∷ [])) =
       two d 0 ((l ++ b) ++ r) (10 ∷ []) d₃ (set d₃ e 10) e g (put-one d₃ e 10 h) (omega (arith, length-append l b, length-append (l ++ b) r))
-          (omega arith) in
+      (omega arith) in
       i ∙ ap (putAt d 0) ((simp append-assoc) ∙ sym line-is) ∙ sym (over-put-zero (lineBytes s view ind style ts last) d)
 
 -- ---- the columns drawn one after another
@@ -156,17 +156,17 @@ module _ (s : List ℕ) (view : View) (ind : List ℕ) (style : TextStyle) (ts�
         sym (ap length piece-at)
         ∙ length-append (edge (lead i (style .joined)) (style .junction)) (columnPiece s (visibleAt view i) (pendingAt ts i) ind last)
         ∙ ap (λ n. length (edge (lead i (style .joined)) (style .junction)) + n)
-            (piece-length s (visibleAt view i) (pendingAt ts i) ind last (ready .line))
+        (piece-length s (visibleAt view i) (pendingAt ts i) ind last (ready .line))
 
     pub drawing-room : at₀ + length (build (linePiece s view ind style ts₀ last) (view .count)) ≤ length page₀
         → at + (length (edge (lead i (style .joined)) (style .junction)) +
-            (visibleAt view i .left + (visibleAt view i .width + visibleAt view i .right))) ≤ length page
+        (visibleAt view i .left + (visibleAt view i .width + visibleAt view i .right))) ≤ length page
     drawing-room r = omega (arith, D .place, D .size, here-length, build-room (linePiece s view ind style ts₀ last) i (view .count) h)
 
     pub drawing-on : (page₁ : List ℕ) (u : Pending) (at₁ : ℕ) (m : Bool) → at₀ + length (build (linePiece s view ind style ts₀ last) (view .count)) ≤
         length page₀
         → at₁ ≡ at + (length (edge (lead i (style .joined)) (style .junction)) +
-            (visibleAt view i .left + (visibleAt view i .width + visibleAt view i .right)))
+        (visibleAt view i .left + (visibleAt view i .width + visibleAt view i .right)))
         → After s (visibleAt view i .width) (pendingAt ts i) u
         → page₁ ≡ putAt page at (edge (lead i (style .joined)) (style .junction) ++ columnPiece s (visibleAt view i) (pendingAt ts i) ind last)
         → length page₁ ≡ length page → m ≡ (more || u .line .found) → Drawing s view ind style ts₀ last page₀ at₀ page₁ (set ts i u) m at₁ (i + 1)

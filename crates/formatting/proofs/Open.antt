@@ -121,7 +121,7 @@ module _ (s : List ℕ) (view : View) (R : Rising view) (xs : List Cell) (ts : L
   pub opening-on : (next : Cells) (t : Pending) (m : Bool) → cellsIn s next ≡ drop (visibleAt view i .number - passed) (cellsIn s left) → cellsEnd s
       next ≡ cellsEnd s left
       → OpenedAt s (firstCell s next) (visibleAt view i) t → m ≡ (more || t .line .found) → Opening s view xs (set ts i t) next
-          (visibleAt view i .number) m (i + 1)
+      (visibleAt view i .number) m (i + 1)
   unfolding anyFound
   opening-on next t m e f o x =
       let k : i < length ts = omega (arith, O .size, R .most) in

@@ -73,7 +73,7 @@ leb-add a b c = go (leb b c) refl
 pub part-join : (ls ms : List (List ℕ)) (b a c ys : List ℕ) (r q : Part) → PartIs ls b a r → r .whole ≡ true → PartIs ms
     (take (length a - r .bytes) (drop (r .bytes) a)) ys q
     → c ≡ putMid (r .bytes) (length a - r .bytes) a ys → PartIs (ls ++ ms) b c
-        (record { lines = r .lines + q .lines; bytes = r .bytes + q .bytes; whole = q .whole })
+    (record { lines = r .lines + q .lines; bytes = r .bytes + q .bytes; whole = q .whole })
 part-join ls ms b a c ys r q P w Q e =
     let n = length b in
     let all = part-whole ls b a r P w in
@@ -91,8 +91,15 @@ part-join ls ms b a c ys r q P w Q e =
     let over-ls : a ≡ over (closed ls) b = P .page ∙ ap (λ l. over (closed l) b) (past .0) in
     record {
       lines = omega (arith, lines, P .lines, all, ap length (past .1), length-append ls (fitting (length b - length (closed ls)) ms));
-      bytes = omega (arith, bytes, at, ap (λ l. length (closed l)) (past .1), ap length both, length-append (closed ls)
-          (closed (fitting (length b - length (closed ls)) ms)));
+      bytes = omega (
+        arith,
+        bytes,
+        at,
+        ap (λ l. length (closed l)) (past .1),
+        ap length both,
+        length-append (closed ls)
+            (closed (fitting (length b - length (closed ls)) ms)),
+      );
       page = e ∙ lent-back a (r .bytes) (closed (fitting (length b - length (closed ls)) ms)) ys room text
           ∙ ap (λ d. putAt d (r .bytes) (closed (fitting (length b - length (closed ls)) ms))) over-ls
           ∙ over-put (closed ls) b (closed (fitting (length b - length (closed ls)) ms)) (r .bytes) (sym at)

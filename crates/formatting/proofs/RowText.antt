@@ -132,7 +132,7 @@ module _ (s : List ℕ) (view : View) (y : TextStyle) (r : Row) (first : ℕ) (W
         line-here =
             rw (M .are, ea, el)
             (line-styled s (tableOf s) (contents (tableOf s)) r view W line ts (G .stands .stands e) y
-                (stands-within s view r W line more ts (G .stands) e)
+            (stands-within s view r W line more ts (G .stands) e)
             ∙ ap (λ l. l ++ (10 ∷ [])) (sym (line-of s y r line less)))
 
         pub line-size : (size : ℕ) → Sized s y r size → length (lineBytes s view (take (i .count) (i .characters)) y ts last) ≡ size
@@ -140,14 +140,14 @@ module _ (s : List ℕ) (view : View) (y : TextStyle) (r : Row) (first : ℕ) (W
 
         pub running-on : (size : ℕ) → Sized s y r size → size ≤ length page - at → (c ys : List ℕ) (us : List Pending) (found m : Bool) (n : ℕ)
             → ys ≡ over (lineBytes s view (take (i .count) (i .characters)) y ts last) (take (length page - at) (drop at page)) → c ≡ putMid at
-                (length page - at) page ys
+            (length page - at) page ys
             → n ≡ length (lineBytes s view (take (i .count) (i .characters)) y ts last) → AfterAll s view ts us → found ≡ anyFound us (view .count)
             → m ≡ (inLimit limit (line + 1) && found) → Running s view y r first b c us m (at + n) (line + 1)
         running-on size Z room c ys us found m n o p q a f g =
             let l = getD (rowLines s y r) line [] in
             let lines = drop first (rowLines s y r) in
             let wide : n ≡ length (getD (rowLines s y r) line []) + 1 = q ∙ ap length line-here ∙ length-append (getD (rowLines s y r) line [])
-                  (10 ∷ []) in
+            (10 ∷ []) in
             let fits : length (getD (rowLines s y r) line []) + 1 ≤ length (take (length page - at) (drop at page)) =
             omega (arith, room, Z .each line less, ap length (lent page at), length-drop at page) in
             let one = part-line (getD (rowLines s y r) line []) (take (length page - at) (drop at page)) ys fits
@@ -155,11 +155,11 @@ module _ (s : List ℕ) (view : View) (y : TextStyle) (r : Row) (first : ℕ) (W
             let so-far = take (line - first) (drop first (rowLines s y r)) in
             let both = part-join (take (line - first) (drop first (rowLines s y r))) (getD (rowLines s y r) line [] ∷ []) b page c ys
             (record { lines = line - first; bytes = at; whole = true })
-                (record { lines = 1; bytes = length (getD (rowLines s y r) line []) + 1; whole = true })
+            (record { lines = 1; bytes = length (getD (rowLines s y r) line []) + 1; whole = true })
             (G .part) refl one p in
             let k : line + 1 - first ≡ suc (line - first) = omega (arith, G .onward) in
             let grown : take (line + 1 - first) (drop first (rowLines s y r)) ≡ take (line - first) (drop first (rowLines s y r)) ++
-                  (getD (rowLines s y r) line [] ∷ []) =
+            (getD (rowLines s y r) line [] ∷ []) =
             ap (λ j. take j (drop first (rowLines s y r))) k ∙ take-suc (drop first (rowLines s y r)) (line - first) [] left ∙ rw here-at in
             let count : line + 1 - first ≡ line - first + 1 = omega (arith, G .onward) in
             record {
@@ -183,19 +183,19 @@ module _ (s : List ℕ) (view : View) (y : TextStyle) (r : Row) (first : ℕ) (W
         let lines = drop first (rowLines s y r) in
         let rest = drop (suc (line - first)) (drop first (rowLines s y r)) in
         let next : drop (line - first) (drop first (rowLines s y r)) ≡ getD (rowLines s y r) line [] ∷ drop (suc (line - first))
-              (drop first (rowLines s y r)) =
+        (drop first (rowLines s y r)) =
         drop-cons (drop first (rowLines s y r)) (line - first) [] (left e) ∙ rw (here-at e) in
         let whole : drop first (rowLines s y r)
         ≡ take (line - first) (drop first (rowLines s y r)) ++ (getD (rowLines s y r) line [] ∷ drop (suc (line - first))
-            (drop first (rowLines s y r))) =
+        (drop first (rowLines s y r))) =
         sym (take-append-drop (line - first) (drop first (rowLines s y r))) ∙ rw next in
         let none = part-full (getD (rowLines s y r) line []) (drop (suc (line - first)) (drop first (rowLines s y r)))
-              (take (length page - at) (drop at page))
+        (take (length page - at) (drop at page))
         (omega (arith, Z .each line (less e), ap length (lent page at), length-drop at page)) in
         let both = part-join (take (line - first) (drop first (rowLines s y r)))
-              (getD (rowLines s y r) line [] ∷ drop (suc (line - first)) (drop first (rowLines s y r)))
+        (getD (rowLines s y r) line [] ∷ drop (suc (line - first)) (drop first (rowLines s y r)))
         b page page (take (length page - at) (drop at page)) (record { lines = line - first; bytes = at; whole = true })
-            (record { lines = 0; bytes = 0; whole = false })
+        (record { lines = 0; bytes = 0; whole = false })
         (G .part) refl none (sym (lent-same page at running-room)) in
         let z : at + 0 ≡ at = omega arith in
         let w : line - first + 0 ≡ line - first = omega arith in

@@ -23,7 +23,7 @@ module _ (view : View) (style : RuleStyle) where
 
   pub rule-length : length (ruleBytes view style)
       ≡ length (edge (style .opens) (style .left)) + length (build (rulePiece view style) (view .count)) + length
-          (edge (style .closes) (style .right)) + 1
+      (edge (style .closes) (style .right)) + 1
   unfolding ruleBytes
   rule-length =
       let l = edge (style .opens) (style .left) in
@@ -35,7 +35,7 @@ module _ (view : View) (style : RuleStyle) where
   pub rule-whole : (d d₁ d₂ d₃ : List ℕ) (p q e : ℕ) → d₁ ≡ putAt d 0 (edge (style .opens) (style .left)) → d₂ ≡ putAt d₁ p
       (build (rulePiece view style) (view .count))
       → d₃ ≡ putAt d₂ q (edge (style .closes) (style .right)) → length (edge (style .opens) (style .left)) ≡ p → p + length
-          (build (rulePiece view style) (view .count)) ≡ q
+      (build (rulePiece view style) (view .count)) ≡ q
       → q + length (edge (style .closes) (style .right)) ≡ e → e < length d₃ → set d₃ e 10 ≡ over (ruleBytes view style) d
   rule-whole d d₁ d₂ d₃ p q e e₁ e₂ e₃ x y z h =
       let l = edge (style .opens) (style .left) in
@@ -45,7 +45,7 @@ module _ (view : View) (style : RuleStyle) where
       let g : d₃ ≡ putAt d 0 ((l ++ b) ++ r) = two d 0 (l ++ b) r d₂ d₃ q f e₃ (omega (arith, length-append l b)) (omega arith) in
       let i : set d₃ e 10 ≡ putAt d 0 (((l ++ b) ++ r) ++ (10 ∷ [])) =
       two d 0 ((l ++ b) ++ r) (10 ∷ []) d₃ (set d₃ e 10) e g (put-one d₃ e 10 h) (omega (arith, length-append l b, length-append (l ++ b) r))
-          (omega arith) in
+      (omega arith) in
       i ∙ ap (putAt d 0) ((simp append-assoc) ∙ sym rule-is) ∙ sym (over-put-zero (ruleBytes view style) d)
 
 -- columns before i are drawn
@@ -66,16 +66,16 @@ module _ (view : View) (style : RuleStyle) (page₀ : List ℕ) (at₀ : ℕ) wh
     here-length =
         length-append (edge (lead i (style .joined)) (style .junction)) (ruleArea (visibleAt view i) (style .fill))
         ∙ ap (λ n. length (edge (lead i (style .joined)) (style .junction)) + n)
-            (length-replicate (visibleAt view i .left + (visibleAt view i .width + visibleAt view i .right)) (style .fill))
+        (length-replicate (visibleAt view i .left + (visibleAt view i .width + visibleAt view i .right)) (style .fill))
 
     pub ruling-room : at₀ + length (build (rulePiece view style) (view .count)) ≤ length page₀
         → at + (length (edge (lead i (style .joined)) (style .junction)) +
-            (visibleAt view i .left + (visibleAt view i .width + visibleAt view i .right))) ≤ length page
+        (visibleAt view i .left + (visibleAt view i .width + visibleAt view i .right))) ≤ length page
     ruling-room r = omega (arith, D .place, D .size, here-length, build-room (rulePiece view style) i (view .count) h)
 
     pub ruling-on : (page₁ : List ℕ) (at₁ : ℕ) → at₀ + length (build (rulePiece view style) (view .count)) ≤ length page₀
         → at₁ ≡ at + (length (edge (lead i (style .joined)) (style .junction)) +
-            (visibleAt view i .left + (visibleAt view i .width + visibleAt view i .right)))
+        (visibleAt view i .left + (visibleAt view i .width + visibleAt view i .right)))
         → page₁ ≡ putAt page at (edge (lead i (style .joined)) (style .junction) ++ ruleArea (visibleAt view i) (style .fill))
         → length page₁ ≡ length page → Ruling view style page₀ at₀ page₁ at₁ (i + 1)
     unfolding rulePiece

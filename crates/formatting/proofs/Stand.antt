@@ -117,8 +117,10 @@ cut-at w ind (suc h) j ls e = go (ltb (suc h) (length ls)) refl (eqb (j + 1) (su
     below = ltb-true j (suc h) e
 
     go : (x : Bool) → ltb (suc h) (length ls) ≡ x → (y : Bool) → eqb (j + 1) (suc h) ≡ y
-        → getD {A = List ℕ} (elim x as (λ z. List (List ℕ)) [ true ↦ take (suc h - 1) ls ++ (cutLine w ind (getD ls (suc h - 1) []) ∷ []) | false ↦ ls
-            ]) j []
+        → getD {A = List ℕ} (elim x as (λ z. List (List ℕ)) [
+          | true ↦ take (suc h - 1) ls ++ (cutLine w ind (getD ls (suc h - 1) []) ∷ [])
+          | false ↦ ls
+        ]) j []
         ≡ elim (y && ltb (j + 1) (length ls)) as (λ z. List ℕ) [ true ↦ cutLine w ind (getD ls j []) | false ↦ getD ls j [] ]
     go true f true g =
         let q = eqb-true (j + 1) (suc h) g in
@@ -131,7 +133,7 @@ cut-at w ind (suc h) j ls e = go (ltb (suc h) (length ls)) refl (eqb (j + 1) (su
         let l = ltb-true (suc h) (length ls) f in
         let m : j < suc h - 1 = omega (arith, q, below) in
         List·getD-append (take (suc h - 1) ls) (cutLine w ind (getD ls (suc h - 1) []) ∷ []) [] j
-            (omega (arith, length-take-le (suc h - 1) ls (omega arith)))
+        (omega (arith, length-take-le (suc h - 1) ls (omega arith)))
         ∙ getD-take (suc h - 1) ls j [] m
     go false f true g =
         let q = eqb-true (j + 1) (suc h) g in
@@ -148,12 +150,12 @@ cut-has w ind (suc h) j ls = go (ltb (suc h) (length ls)) refl (ltb j (suc h)) r
   where
     go : (x : Bool) → ltb (suc h) (length ls) ≡ x → (y : Bool) → ltb j (suc h) ≡ y
         → ltb j (length {A = List ℕ} (elim x as (λ z. List (List ℕ))
-            [ true ↦ take (suc h - 1) ls ++ (cutLine w ind (getD ls (suc h - 1) []) ∷ []) | false ↦ ls ])) ≡ (y && ltb j (length ls))
+        [ true ↦ take (suc h - 1) ls ++ (cutLine w ind (getD ls (suc h - 1) []) ∷ []) | false ↦ ls ])) ≡ (y && ltb j (length ls))
     go true f y g =
         let l = ltb-true (suc h) (length ls) f in
         let n : length (take (suc h - 1) ls ++ (cutLine w ind (getD ls (suc h - 1) []) ∷ [])) ≡ suc h =
         length-append (take (suc h - 1) ls) (cutLine w ind (getD ls (suc h - 1) []) ∷ []) ∙ omega (arith, length-take-le (suc h - 1) ls (omega arith))
-            in
+        in
         rw n (more y g l)
       where
         more : (y : Bool) → ltb j (suc h) ≡ y → suc h < length ls → ltb j (suc h) ≡ (y && ltb j (length ls))
@@ -213,13 +215,13 @@ module _ (s : List ℕ) (t : Table) (ws : List ℕ) (r : Row) (view : View) (W :
       let f = stands-follows s v ls j st (C .stands) in
       let l = stands-line s v ls j st (C .stands) in
       let y : shownText s (v .width) (t .indicator) (lastOf (r .limit) j && ltb 0 (length (following s (v .width) st))) st ≡ getD
-            (cut (v .width) (t .indicator) (r .limit) ls) j [] =
+      (cut (v .width) (t .indicator) (r .limit) ls) j [] =
       ap (λ b. shownText s (v .width) (t .indicator) (lastOf (r .limit) j && b) st) f
       ∙ text-shown s (v .width) (t .indicator) (lastOf (r .limit) j && ltb (j + 1) (length ls)) st (getD ls j []) l
       ∙ sym (cut-at (v .width) (t .indicator) (r .limit) j ls e) in
       ap (areaIn v (st .alignment)) y
       ∙ rw (C .alignment, w)
       (ap (λ u. areaIn u (alignmentOf (columnAt t (numberOf t i)) (cellAt r (numberOf t i)))
-          (getD (cut (getD ws (numberOf t i) 0) (t .indicator) (r .limit) ls) j [])) x
+      (getD (cut (getD ws (numberOf t i) 0) (t .indicator) (r .limit) ls) j [])) x
       ∙ area-in t ws (numberOf t i) (alignmentOf (columnAt t (numberOf t i)) (cellAt r (numberOf t i)))
-          (getD (cut (getD ws (numberOf t i) 0) (t .indicator) (r .limit) ls) j []))
+      (getD (cut (getD ws (numberOf t i) 0) (t .indicator) (r .limit) ls) j []))

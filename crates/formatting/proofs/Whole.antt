@@ -55,10 +55,10 @@ build-joined b c f zero = none-joined b c f
 build-joined b c f (suc n) =
     let z : 0 + n ≡ n = omega arith in
     let e : map f (upFrom 0 (suc n)) ≡ map f (upFrom 0 n) ++ (f n ∷ []) = ap (map f) (upFrom-last 0 n ∙ ap (λ m. upFrom 0 n ++ (m ∷ [])) z) ∙ map-snoc
-          f (upFrom 0 n) n in
+    f (upFrom 0 n) n in
     ap (λ l. l ++ (edge (lead n b) c ++ f n)) (build-joined b c f n)
     ∙ sym (joined-snoc b c (map f (upFrom 0 n)) (f n) ∙ ap (λ m. joined (edge b c) (map f (upFrom 0 n)) ++ (edge (lead m b) c ++ f n))
-        (length-up n f))
+    (length-up n f))
     ∙ ap (joined (edge b c)) (sym e)
 
 map-map : {A B C : Type 0} (f : A → B) (g : B → C) (xs : List A) → map g (map f xs) ≡ map (λ x. g (f x)) xs
@@ -92,8 +92,12 @@ edge-same false c = refl
 -- a line drawn by the characters at k is the document's
 pub styled-text : (S : List ℕ) (k : ℕ) (ps : List (List ℕ)) → styled (textStyleOf S k) ps ≡ textLine S k ps
 unfolding styled textStyleOf textLine
-styled-text S k ps = rw (edge-same (anyLeft S) (glyphAt S k), edge-same (anyJunction S) (glyphAt S (k + 1)), edge-same (anyRight S)
-    (glyphAt S (k + 2)))
+styled-text S k ps = rw (
+  edge-same (anyLeft S) (glyphAt S k),
+  edge-same (anyJunction S) (glyphAt S (k + 1)),
+  edge-same (anyRight S)
+      (glyphAt S (k + 2)),
+)
 
 module _ (s : List ℕ) (t : Table) (ws : List ℕ) (r : Row) (view : View) (W : Views t ws view) (j : ℕ) (ts : List Pending)
     (R : StandsRow s t ws r view j ts) where
@@ -103,12 +107,12 @@ module _ (s : List ℕ) (t : Table) (ws : List ℕ) (r : Row) (view : View) (W :
   line-styled y e =
       let g : ℕ → List ℕ = λ i. areaAt t ws r j (numberOf t i) in
       let p : build (λ i. edge (lead i (y .joined)) (y .junction) ++ columnPiece s (visibleAt view i) (pendingAt ts i) (t .indicator)
-            (lastOf (r .limit) j)) (view .count)
+      (lastOf (r .limit) j)) (view .count)
       ≡ build (λ i. edge (lead i (y .joined)) (y .junction) ++ g i) (view .count) =
       build-same _ _ (view .count) (λ i h. ap (λ l. edge (lead i (y .joined)) (y .junction) ++ l)
-          (piece-area s t ws r view W j i (pendingAt ts i) h (R .each i h) e)) in
+      (piece-area s t ws r view W j i (pendingAt ts i) h (R .each i h) e)) in
       let q : map (areaAt t ws r j) (visible t) ≡ map g (upFrom 0 (view .count)) = map-numbered (areaAt t ws r j) 0 (visible t) ∙ ap
-            (λ n. map g (upFrom 0 n)) (sym (W .count)) in
+      (λ n. map g (upFrom 0 n)) (sym (W .count)) in
       rw (p, build-joined (y .joined) (y .junction) g (view .count), q) (simp append-assoc)
 
   pub line-drawn : (S : List ℕ) (k : ℕ) → inLimit (r .limit) j ≡ true
@@ -131,14 +135,20 @@ rule-drawn t ws view W S always k =
     let f = glyph (glyphAt S (k + 1)) in
     let g : ℕ → List ℕ = λ i. replicate (visibleWidth t ws (numberOf t i)) f in
     let p : build (λ i. edge (lead i b) (glyph (glyphAt S (k + 2))) ++ ruleArea (visibleAt view i) f) (view .count) ≡ build
-          (λ i. edge (lead i b) (glyph (glyphAt S (k + 2))) ++ g i) (view .count) =
+    (λ i. edge (lead i b) (glyph (glyphAt S (k + 2))) ++ g i) (view .count) =
     build-same _ _ (view .count) (λ i h. ap (λ l. edge (lead i b) (glyph (glyphAt S (k + 2))) ++ l)
-        (area-fill t ws (numberOf t i) f (visibleAt view i) (W .each i h))) in
+    (area-fill t ws (numberOf t i) f (visibleAt view i) (W .each i h))) in
     let q : map (λ v. replicate v f) (map (visibleWidth t ws) (visible t)) ≡ map g (upFrom 0 (view .count)) =
     map-map (visibleWidth t ws) (λ v. replicate v f) (visible t) ∙ map-numbered (λ j. replicate (visibleWidth t ws j) f) 0 (visible t) ∙ ap
-        (λ n. map g (upFrom 0 n)) (sym (W .count)) in
-    rw (p, build-joined b (glyph (glyphAt S (k + 2))) g (view .count), q, edge-same (anyLeft S) (glyphAt S k), edge-same b (glyphAt S (k + 2)),
-        edge-same (anyRight S) (glyphAt S (k + 3)))
+    (λ n. map g (upFrom 0 n)) (sym (W .count)) in
+    rw (
+      p,
+      build-joined b (glyph (glyphAt S (k + 2))) g (view .count),
+      q,
+      edge-same (anyLeft S) (glyphAt S k),
+      edge-same b (glyphAt S (k + 2)),
+      edge-same (anyRight S) (glyphAt S (k + 3)),
+    )
 
 -- ---- a row's height
 
@@ -174,7 +184,7 @@ pub height-numbered : (t : Table) (ws : List ℕ) (r : Row) (view : View) → Vi
 unfolding height
 height-numbered t ws r view W =
     ap greatest (map-numbered (λ c. length (cellLines t ws r c)) 0 (visible t) ∙ ap
-        (λ n. map (λ i. length (cellLines t ws r (numberOf t i))) (upFrom 0 n)) (sym (W .count)))
+    (λ n. map (λ i. length (cellLines t ws r (numberOf t i))) (upFrom 0 n)) (sym (W .count)))
 
 module _ (s : List ℕ) (t : Table) (ws : List ℕ) (r : Row) (view : View) (W : Views t ws view) (j : ℕ) (ts : List Pending)
     (R : StandsRow s t ws r view j ts) where
@@ -186,7 +196,7 @@ module _ (s : List ℕ) (t : Table) (ws : List ℕ) (r : Row) (view : View) (W :
   column-has i h =
       cut-has (getD ws (numberOf t i) 0) (t .indicator) (r .limit) j (wrapped t ws r (numberOf t i))
       ∙ ap (λ b. inLimit (r .limit) j && b) (sym (stands-found s (visibleAt view i) (wrapped t ws r (numberOf t i)) j (pendingAt ts i)
-          (R .each i h .stands)))
+      (R .each i h .stands)))
 
   up-to : (n : ℕ) → n ≤ view .count → ltb j (greatest (map lines-of (upFrom 0 n))) ≡ (inLimit (r .limit) j && anyFound ts n)
   unfolding anyFound
@@ -226,8 +236,11 @@ opened-cell s t ws r i v st e o =
 
 pub opened-stands : (s : List ℕ) (t : Table) (ws : List ℕ) (r : Row) (view : View) (ts : List Pending) → Views t ws view → OpenedRow s (r .cells) view
     ts → StandsRow s t ws r view 0 ts
-opened-stands s t ws r view ts W o = record { size = o .size; each = λ i h. opened-cell s t ws r i (visibleAt view i) (pendingAt ts i) (W .each i h)
-    (o .each i h) }
+opened-stands s t ws r view ts W o = record {
+  size = o .size;
+  each = λ i h. opened-cell s t ws r i (visibleAt view i) (pendingAt ts i) (W .each i h)
+      (o .each i h);
+}
 
 -- the next line of a row
 pub stands-after : (s : List ℕ) (t : Table) (ws : List ℕ) (r : Row) (view : View) (j : ℕ) (ts us : List Pending) → StandsRow s t ws r view j ts →

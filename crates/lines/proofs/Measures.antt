@@ -72,7 +72,7 @@ module _ (t : Table) (ws : List ℕ) (view : View) (W : Views t ws view) where
   up-to (suc n) h =
       let z : 0 + n ≡ n = omega arith in
       let e : map here (upFrom 0 (suc n)) ≡ map here (upFrom 0 n) ++ (here n ∷ []) = ap (map here)
-            (upFrom-last 0 n ∙ ap (λ m. upFrom 0 n ++ (m ∷ [])) z) ∙ map-append here (upFrom 0 n) (n ∷ []) in
+      (upFrom-last 0 n ∙ ap (λ m. upFrom 0 n ++ (m ∷ [])) z) ∙ map-append here (upFrom 0 n) (n ∷ []) in
       omega (arith, up-to n (omega arith), shown-here n (omega arith), ap sum e, sum-snoc (map here (upFrom 0 n)) (here n))
 
   pub width-sum : widthUpTo view (view .count) ≡ sum (visibleWidths t ws)
@@ -88,7 +88,7 @@ one-if false = refl
 pub lengths-are : (s : List ℕ) (cols : List (List ℕ)) (p : Page) → Opened s cols p → (a b i j n : ℕ) → a ≡ cond (p .styles .body .rule .opens) 1 0 → b
     ≡ cond (p .styles .body .rule .closes) 1 0
     → i ≡ p .count - 1 → j ≡ cond (p .styles .body .rule .joined) i 0 → n ≡ widthUpTo (viewOf cols (p .count)) (p .count) → LengthsAre s
-        (record { line = a + b + j + n; border = a + b + i + n })
+    (record { line = a + b + j + n; border = a + b + i + n })
 unfolding lineLength borderLength borders bordersOf stylesOf ruleStyleOf
 lengths-are s cols p O a b i j n ea eb ei ej en =
     let S = tableOf s .style in
@@ -98,7 +98,7 @@ lengths-are s cols p O a b i j n ea eb ei ej en =
     let y : b ≡ oneIf (anyRight S) = eb ∙ ap (λ (l : LineStyles). cond (l .body .rule .closes) 1 0) (O .styles) ∙ one-if (anyRight S) in
     let v : i ≡ length (visible (tableOf s)) - 1 = ei ∙ ap (λ k. k - 1) (O .views .count) in
     let u : j ≡ cond (anyJunction S) (length (visible (tableOf s)) - 1) 0 = ej ∙ ap (λ (l : LineStyles). cond (l .body .rule .joined) i 0) (O .styles)
-          ∙ ap (λ k. cond (anyJunction S) k 0) v in
+    ∙ ap (λ k. cond (anyJunction S) k 0) v in
     let e : a + b + j + n ≡ lineLength (tableOf s) (widthsIn s) = rw (x, y, u, w) in
     let f : a + b + i + n ≡ borderLength (tableOf s) (widthsIn s) = rw (x, y, v, w) in
     record {

@@ -63,15 +63,22 @@ glyph-is (suc c) r e = e
 
 pub rule-style-is : (S : List ℕ) (k l f j r : ℕ) (opens joined closes : Bool) → l ≡ glyph (glyphAt S k) → f ≡ glyph (glyphAt S (k + 1)) → j ≡ glyph
     (glyphAt S (k + 2)) → r ≡ glyph (glyphAt S (k + 3))
-    → opens ≡ anyLeft S → closes ≡ anyRight S → record { left = l; fill = f; junction = j; right = r; opens = opens; joined = joined; closes = closes
-        } ≡ ruleStyleOf S joined k
+    → opens ≡ anyLeft S → closes ≡ anyRight S → record {
+      left = l;
+      fill = f;
+      junction = j;
+      right = r;
+      opens = opens;
+      joined = joined;
+      closes = closes;
+    } ≡ ruleStyleOf S joined k
 unfolding ruleStyleOf
 rule-style-is S k l f j r opens joined closes a b c d e g = rw (a, b, c, d, e, g)
 
 pub text-style-is : (S : List ℕ) (k l j r : ℕ) (opens joined closes : Bool) → l ≡ glyph (glyphAt S k) → j ≡ glyph (glyphAt S (k + 1)) → r ≡ glyph
     (glyphAt S (k + 2))
     → opens ≡ anyLeft S → joined ≡ anyJunction S → closes ≡ anyRight S → record
-        { left = l; junction = j; right = r; opens = opens; joined = joined; closes = closes } ≡ textStyleOf S k
+    { left = l; junction = j; right = r; opens = opens; joined = joined; closes = closes } ≡ textStyleOf S k
 unfolding textStyleOf
 text-style-is S k l j r opens joined closes a b c d e f = rw (a, b, c, d, e, f)
 
@@ -85,10 +92,10 @@ edges-are S y opens joined closes e a b c = (a ∙ rw e, (b ∙ rw e, c ∙ rw e
 pub styles-are : (S : List ℕ) (y : TableStyle) (joined : Bool) (top header row bottom : RuleStyle) (head text : TextStyle) (a b c d : Bool) → y ≡
     styleFrom S → joined ≡ anyJunction S
     → top ≡ ruleStyleOf S true topBorder → head ≡ textStyleOf S headerLines → header ≡ ruleStyleOf S joined headerRule → text ≡ textStyleOf S
-        contentLines
+    contentLines
     → row ≡ ruleStyleOf S joined rowRule → bottom ≡ ruleStyleOf S true bottomBorder
     → b ≡ isVisible (bytesOf y) headerRule → c ≡ isVisible (bytesOf y) rowRule → a ≡ isVisible (bytesOf y) topBorder → d ≡ isVisible (bytesOf y)
-        bottomBorder
+    bottomBorder
     → _≡_ {A = LineStyles}
     (record {
       top = top;
@@ -125,8 +132,13 @@ pub record Showing (t : Table) (j : ℕ) (view : View) : Type 0 where
   pub each : (i : ℕ) → i < view .count → visibleAt view i ≡ shownOf t (contents t) (getD (visibleTo t j) i 0)
 
 pub showing-begin : (t : Table) (columns : List (List ℕ)) → length columns ≡ mostColumns → Showing t 0 (viewOf columns 0)
-showing-begin t columns e = record { count = sym (ap length (visible-to-none t)); few = omega arith; size = length-map columns columnFrom ∙ e; each =
-    λ i h. absurd (omega arith) }
+showing-begin t columns e = record {
+  count = sym (ap length (visible-to-none t));
+  few = omega arith;
+  size = length-map columns columnFrom ∙ e;
+  each =
+      λ i h. absurd (omega arith);
+}
 
 -- a column as it was read and as it is drawn
 shown-is : (t : Table) (j : ℕ) → shownFrom j (columnAt t j) (getD (contents t) j 0) (orElse (t .delimiter) 32) ≡ shownOf t (contents t) j
@@ -155,7 +167,7 @@ module _ (t : Table) (j : ℕ) (view : View) (S : Showing t j view) where
       old i k =
           let c = S .count in
           getD-set-other (view .columns) (view .count) i v noVisible (λ z. omega arith) ∙
-              (S .each i k ∙ ap (shownOf t (contents t)) (sym (List·getD-append (visibleTo t j) (j ∷ []) 0 i (omega arith))))
+          (S .each i k ∙ ap (shownOf t (contents t)) (sym (List·getD-append (visibleTo t j) (j ∷ []) 0 i (omega arith))))
 
       new : (i : ℕ) → i ≡ view .count → getD (set (view .columns) (view .count) v) i noVisible ≡ shownOf t (contents t)
           (getD (visibleTo t j ++ (j ∷ [])) i 0)
@@ -163,7 +175,7 @@ module _ (t : Table) (j : ℕ) (view : View) (S : Showing t j view) where
           let m = S .size in
           let b = S .few in
           rw k (getD-set-same (view .columns) (view .count) v noVisible (omega arith) ∙
-              (e ∙ ap (shownOf t (contents t)) (sym (getD-at (visibleTo t j) j [] 0 (view .count) (sym (S .count))))))
+          (e ∙ ap (shownOf t (contents t)) (sym (getD-at (visibleTo t j) j [] 0 (view .count) (sym (S .count))))))
 
   -- column j has been looked at too
   pub showing-on : (c : Column) (w d : ℕ) (u : View) → j < mostColumns → c ≡ columnAt t j → w ≡ getD (contents t) j 0 → d ≡ orElse (t .delimiter) 32 →
@@ -220,8 +232,11 @@ module _ (t : Table) (view : View) (T : TableLimits t) (W : Views t (contents t)
   inside i h = let c = W .count in visible-number t i (omega arith)
 
   pub view-rising : Rising view
-  view-rising = record { most = W .most; order = λ i k h l. let c = W .count in
-      rw (number-at i (omega arith), number-at k l) (visible-rising t i k h (omega arith)) }
+  view-rising = record {
+    most = W .most;
+    order = λ i k h l. let c = W .count in
+        rw (number-at i (omega arith), number-at k l) (visible-rising t i k h (omega arith));
+  }
 
   pub view-wide : WideAll view
   unfolding shownOf

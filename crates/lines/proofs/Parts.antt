@@ -98,7 +98,7 @@ body-ahead s p here =
     let rule = ruleLines s false rowRule in
     sym (ap (λ ls. ls ++ ruleLines s true bottomBorder) (first-then (textLines s contentLines) (ruleLines s false rowRule) (rowsIn s here))
     ∙ append-assoc (firstRuled (textLines s contentLines) (ruleLines s false rowRule) (rowsIn s here))
-        (ruledRows (textLines s contentLines) (ruleLines s false rowRule) (drop 1 (rowsIn s here))) (ruleLines s true bottomBorder))
+    (ruledRows (textLines s contentLines) (ruleLines s false rowRule) (drop 1 (rowsIn s here))) (ruleLines s true bottomBorder))
 
 last-ahead : (s : List ℕ) (p : Page) (here : Rows) → ahead s p (record { stage = Bottom; here = here; line = 0 }) ≡ ruleLines s true bottomBorder
 unfolding ahead partLines restLines
@@ -148,8 +148,13 @@ module _ (s : List ℕ) (p : Page) (c : Cursor) (A : RowsAt s (c .here)) where
 
   pub next-end : c .stage ≡ End → Next s p c (record { stage = End; here = c .here; line = 0 })
   unfolding ahead partLines restLines
-  next-end e = record { lines = rw e; at = at-start s p _ A refl; start = refl; fewer = λ f. let g = sym (ap isEnd e) ∙ f in
-      let z : _≡_ {A = ℕ} 0 1 = cc in absurd (omega arith) }
+  next-end e = record {
+    lines = rw e;
+    at = at-start s p _ A refl;
+    start = refl;
+    fewer = λ f. let g = sym (ap isEnd e) ∙ f in
+        let z : _≡_ {A = ℕ} 0 1 = cc in absurd (omega arith);
+  }
 
 -- the end has no line before it
 pub end-ahead : (s : List ℕ) (p : Page) (c : Cursor) → isEnd (c .stage) ≡ true → ahead s p c ≡ []
@@ -233,7 +238,7 @@ module _ (s : List ℕ) (cols : List (List ℕ)) (p : Page) (O : Opened s cols p
   unfolding stylesOf bandLines bodyLines firstRuled
   body-drawn here y e =
       rw (e, O .styles) (ap (λ n. bandLines s (viewOf cols (p .count)) (bodyStyle (stylesOf (tableOf s .style) .body) n) (rowsIn s here))
-          (sym (rows-number s here)) ∙ go (rowsIn s here))
+      (sym (rows-number s here)) ∙ go (rowsIn s here))
     where
       out : (b : Bool) (x : List (List ℕ)) → cond (b && false) x [] ≡ []
       out true x = refl
@@ -303,7 +308,7 @@ module _ (s : List ℕ) (cols : List (List ℕ)) (p : Page) (O : Opened s cols p
     text-sized k here A h = record {
       each = λ j i.
           let e = getD-map (textLine (tableOf s .style) k) (areas (tableOf s) (widthsIn s) (firstRow s here)) j [] []
-                (omega (arith, length-areas (tableOf s) (widthsIn s) (firstRow s here)))
+          (omega (arith, length-areas (tableOf s) (widthsIn s) (firstRow s here)))
           ∙ ap (textLine (tableOf s .style) k) (line-at (tableOf s) (widthsIn s) (firstRow s here) j i) in
           rw (text-styled s k (firstRow s here), e, text-length (tableOf s) (widthsIn s) (firstRow s here) k j, L .line);
       few = omega (arith, row-height-few s here A h);
@@ -311,12 +316,20 @@ module _ (s : List ℕ) (cols : List (List ℕ)) (p : Page) (O : Opened s cols p
 
     rule-sized : (k : ℕ) → l .line + 1 ≡ length (ruleText (viewOf cols (p .count))
         (ruleStyleOf (tableOf s .style) (anyJunction (tableOf s .style)) k)) + 1
-    rule-sized k = rw (rule-drawn (tableOf s) (widthsIn s) (viewOf cols (p .count)) (O .views) (tableOf s .style) false k, rule-length (tableOf s)
-        (widthsIn s) k, L .line)
+    rule-sized k = rw (
+      rule-drawn (tableOf s) (widthsIn s) (viewOf cols (p .count)) (O .views) (tableOf s .style) false k,
+      rule-length (tableOf s)
+          (widthsIn s) k,
+      L .line,
+    )
 
     pub border-sized : (k : ℕ) → l .border + 1 ≡ length (ruleText (viewOf cols (p .count)) (ruleStyleOf (tableOf s .style) true k)) + 1
-    border-sized k = rw (rule-drawn (tableOf s) (widthsIn s) (viewOf cols (p .count)) (O .views) (tableOf s .style) true k, border-length (tableOf s)
-        (widthsIn s) k, L .border)
+    border-sized k = rw (
+      rule-drawn (tableOf s) (widthsIn s) (viewOf cols (p .count)) (O .views) (tableOf s .style) true k,
+      border-length (tableOf s)
+          (widthsIn s) k,
+      L .border,
+    )
 
     pub top-sized : l .border + 1 ≡ length (ruleText (viewOf cols (p .count)) (p .styles .top)) + 1
     unfolding stylesOf
@@ -328,14 +341,19 @@ module _ (s : List ℕ) (cols : List (List ℕ)) (p : Page) (O : Opened s cols p
 
     pub header-sized : SizedBand s (viewOf cols (p .count)) (p .styles .header) (rowsIn s (p .header)) (l .line + 1)
     unfolding stylesOf
-    header-sized = rw (O .styles) (record { text = λ h. text-sized headerLines (p .header) (O .header-at) (omega (arith, rows-number s (p .header)));
-        rule = rule-sized headerRule })
+    header-sized = rw (O .styles) (record {
+      text = λ h. text-sized headerLines (p .header) (O .header-at) (omega (arith, rows-number s (p .header)));
+      rule = rule-sized headerRule;
+    })
 
     pub body-sized : (here : Rows) (y : RowStyle) → RowsAt s here → y ≡ bodyStyle (p .styles .body) (here .left) → SizedBand s
         (viewOf cols (p .count)) y (rowsIn s here) (l .line + 1)
     unfolding stylesOf
-    body-sized here y A e = rw (e, O .styles) (record { text = λ h. text-sized contentLines here A (omega (arith, rows-number s here)); rule =
-        rule-sized rowRule })
+    body-sized here y A e = rw (e, O .styles) (record {
+      text = λ h. text-sized contentLines here A (omega (arith, rows-number s here));
+      rule =
+          rule-sized rowRule;
+    })
 
 -- each line of a part has the part's length
 module _ (s : List ℕ) where
@@ -355,9 +373,9 @@ module _ (s : List ℕ) where
       let t = tableOf s in
       let n = lineLength t (widthsIn s) in
       all-map-imp (λ x. length (textLine (t .style) k x) + 1 ≡ n + 1) (λ l. length l + 1 ≡ n + 1) (textLine (t .style) k) (λ x h. h)
-          (areas t (widthsIn s) r)
+      (areas t (widthsIn s) r)
       (all-map (λ x. length (textLine (t .style) k x) + 1 ≡ n + 1) (λ i. map (areaAt t (widthsIn s) r i) (visible t))
-          (λ i. rw (text-length t (widthsIn s) r k i)) (upFrom 0 (height t (widthsIn s) r)))
+      (λ i. rw (text-length t (widthsIn s) r k i)) (upFrom 0 (height t (widthsIn s) r)))
 
   each-text : (k : ℕ) (rs : List Row) → All (λ r. All (λ l. length l + 1 ≡ lineLength (tableOf s) (widthsIn s) + 1) (textLines s k r)) rs
   each-text k [] = tt
@@ -369,7 +387,7 @@ module _ (s : List ℕ) where
   first-lengths (r ∷ []) = text-lengths contentLines r
   first-lengths (r ∷ q ∷ rs) =
       all-append (λ l. length l + 1 ≡ lineLength (tableOf s) (widthsIn s) + 1) (textLines s contentLines r) (ruleLines s false rowRule)
-          (text-lengths contentLines r)
+      (text-lengths contentLines r)
       (rule-lengths false rowRule (lineLength (tableOf s) (widthsIn s)) (rule-length (tableOf s) (widthsIn s) rowRule))
 
   header-lengths : (rs : List Row) → All (λ l. length l + 1 ≡ lineLength (tableOf s) (widthsIn s) + 1) (headerLinesOf s rs)
@@ -377,18 +395,23 @@ module _ (s : List ℕ) where
   header-lengths rs =
       all-headed (λ l. length l + 1 ≡ lineLength (tableOf s) (widthsIn s) + 1) (textLines s headerLines) (ruleLines s false headerRule)
       (rule-lengths false headerRule (lineLength (tableOf s) (widthsIn s)) (rule-length (tableOf s) (widthsIn s) headerRule)) rs
-          (each-text headerLines rs)
+      (each-text headerLines rs)
 
   module _ (p : Page) (l : Lengths) (L : LengthsAre s l) (c : Cursor) where
     pub top-size : c .stage ≡ Top → SizeIs s p c (l .border + 1)
     unfolding partLines
-    top-size e = record { each = rw (e, L .border) (rule-lengths true topBorder _ (border-length (tableOf s) (widthsIn s) topBorder)); small = omega
-        (arith, L .border-small) }
+    top-size e = record {
+      each = rw (e, L .border) (rule-lengths true topBorder _ (border-length (tableOf s) (widthsIn s) topBorder));
+      small = omega
+          (arith, L .border-small);
+    }
 
     pub bottom-size : c .stage ≡ Bottom → SizeIs s p c (l .border + 1)
     unfolding partLines
-    bottom-size e = record { each = rw (e, L .border) (rule-lengths true bottomBorder _ (border-length (tableOf s) (widthsIn s) bottomBorder));
-        small = omega (arith, L .border-small) }
+    bottom-size e = record {
+      each = rw (e, L .border) (rule-lengths true bottomBorder _ (border-length (tableOf s) (widthsIn s) bottomBorder));
+      small = omega (arith, L .border-small);
+    }
 
     pub header-size : c .stage ≡ Header → SizeIs s p c (l .line + 1)
     unfolding partLines

@@ -175,8 +175,14 @@ module _ (s : List ℕ) (view : View) (y : RowStyle) (here : Rows) (first : ℕ)
   band-split =
       let l = rowLines s (y .lines) (firstRow s here) in
       ap (drop first) band-is ∙ drop-append first (rowLines s (y .lines) (firstRow s here)) (cond (y .ruled) (ruleText view (y .rule) ∷ []) [])
-      (omega (arith, within, ap length band-is, length-append (rowLines s (y .lines) (firstRow s here))
-          (cond (y .ruled) (ruleText view (y .rule) ∷ []) []), few (y .ruled)))
+      (omega (
+        arith,
+        within,
+        ap length band-is,
+        length-append (rowLines s (y .lines) (firstRow s here))
+            (cond (y .ruled) (ruleText view (y .rule) ∷ []) []),
+        few (y .ruled),
+      ))
 
   pub band-cut : (b a : List ℕ) (r : Part) → PartIs (drop first (rowLines s (y .lines) (firstRow s here))) b a r → not (r .whole) ≡ true → PartIs
       (drop first (bandLines s view y (rowsIn s here))) b a r
@@ -184,9 +190,9 @@ module _ (s : List ℕ) (view : View) (y : RowStyle) (here : Rows) (first : ℕ)
 
   pub band-whole : (b a c ys : List ℕ) (r q : Part) → PartIs (drop first (rowLines s (y .lines) (firstRow s here))) b a r → not (r .whole) ≡ false
       → PartIs (cond (y .ruled) (ruleText view (y .rule) ∷ []) []) (take (length a - r .bytes) (drop (r .bytes) a)) ys q → c ≡ putMid (r .bytes)
-          (length a - r .bytes) a ys
+      (length a - r .bytes) a ys
       → PartIs (drop first (bandLines s view y (rowsIn s here))) b c
-          (record { lines = r .lines + q .lines; bytes = r .bytes + q .bytes; whole = q .whole })
+      (record { lines = r .lines + q .lines; bytes = r .bytes + q .bytes; whole = q .whole })
   band-whole b a c ys r q P e Q f = rw band-split (part-join _ _ b a c ys r q P (not-false (r .whole) e) Q f)
 
 -- ---- a part drawn
@@ -229,7 +235,7 @@ module _ (s : List ℕ) (cols : List (List ℕ)) (p : Page) (O : Opened s cols p
 
     pub draw-body : (y : RowStyle) → c .stage ≡ Body → y ≡ bodyStyle (p .styles .body) (c .here .left)
         → PartIs (drop (c .line) (bandLines s (viewOf cols (p .count)) y (rowsIn s (c .here)))) b a r → PartIs (drop (c .line) (partLines s p c)) b a
-            r
+        r
     draw-body y e f P = rw (body-part y e f) P
 
   pub draw-end : (b : List ℕ) → c .stage ≡ End → PartIs (drop (c .line) (partLines s p c)) b b (record { lines = 0; bytes = 0; whole = true })
@@ -378,7 +384,7 @@ module _ (s : List ℕ) (p : Page) (k : ℕ) (c : Cursor) (left : ℕ) (R : Reac
       let same : partLines s p r ≡ partLines s p c = rw q in
       let on : drop left (ahead s p c) ≡ ahead s p r =
       ap (drop left) (ahead-start s p c (R .start)) ∙ drop-append left (partLines s p c) (restLines s p c) (omega arith) ∙ sym (rw (q, R .start, z))
-          in
+      in
       let k-is : k - left + left ≡ k = omega arith in
       let there : drop left (ahead s p c) ≡ drop k (linesOf s p) =
       ap (drop left) (R .lines) ∙ drop-drop left (k - left) (linesOf s p) ∙ ap (λ m. drop m (linesOf s p)) k-is in
@@ -397,7 +403,7 @@ module _ (s : List ℕ) (p : Page) (k : ℕ) (c : Cursor) (left : ℕ) (R : Reac
       let m : k - (left - n) ≡ k - left + n = omega arith in
       let rest : restLines s p c ≡ drop n (ahead s p c) =
       sym (ap (drop n) (ahead-start s p c (R .start)) ∙ drop-append n (partLines s p c) (restLines s p c) (omega arith) ∙ rw
-          (drop-whole n (partLines s p c) (omega arith))) in
+      (drop-whole n (partLines s p c) (omega arith))) in
       record {
         at = N .at;
         start = N .start;
@@ -419,8 +425,13 @@ module _ (s : List ℕ) (p : Page) (k : ℕ) (c : Cursor) (left : ℕ) (R : Reac
 module _ (s : List ℕ) (p : Page) (k : ℕ) (r : Sought) (S : SoughtIs s p k r) where
   pub found-past : isEnd (r .cursor .stage) ≡ true → (room : ℕ) → FoundIs s p k room (record { number = 21; place = r .passed; cursor = r .cursor })
   found-past e room =
-      let all : r .passed ≡ length (linesOf s p) = omega (arith, S .passed, ap length (sym (S .lines) ∙ end-ahead s p (r .cursor) e), length-drop
-            (r .passed) (linesOf s p)) in
+      let all : r .passed ≡ length (linesOf s p) = omega (
+        arith,
+        S .passed,
+        ap length (sym (S .lines) ∙ end-ahead s p (r .cursor) e),
+        length-drop
+            (r .passed) (linesOf s p),
+      ) in
       let past : length (linesOf s p) ≤ k = omega (arith, S .within) in
       record {
         past = λ _. (refl, all);
@@ -440,7 +451,7 @@ module _ (s : List ℕ) (p : Page) (k : ℕ) (r : Sought) (S : SoughtIs s p k r)
         let c = r .cursor in
         let z : r .cursor .line + 0 ≡ r .cursor .line = omega arith in
         List·getD-append (drop (r .cursor .line) (partLines s p (r .cursor))) (restLines s p (r .cursor)) [] 0
-            (omega (arith, length-drop (r .cursor .line) (partLines s p (r .cursor)), S .some e))
+        (omega (arith, length-drop (r .cursor .line) (partLines s p (r .cursor)), S .some e))
         ∙ getD-drop (r .cursor .line) (partLines s p (r .cursor)) 0 [] ∙ ap (λ n. getD (partLines s p (r .cursor)) n []) z
 
     size-is : size ≡ sizeOf s p k
@@ -452,8 +463,14 @@ module _ (s : List ℕ) (p : Page) (k : ℕ) (r : Sought) (S : SoughtIs s p k r)
 
     before : k < length (linesOf s p)
     unfolding ahead
-    before = omega (arith, S .some e, ap length there, length-append (drop (r .cursor .line) (partLines s p (r .cursor))) (restLines s p (r .cursor)),
-        length-drop (r .cursor .line) (partLines s p (r .cursor)), length-drop k (linesOf s p))
+    before = omega (
+      arith,
+      S .some e,
+      ap length there,
+      length-append (drop (r .cursor .line) (partLines s p (r .cursor))) (restLines s p (r .cursor)),
+      length-drop (r .cursor .line) (partLines s p (r .cursor)),
+      length-drop k (linesOf s p),
+    )
 
     pub found-short : (room : ℕ) → room < size → FoundIs s p k room (record { number = 20; place = size; cursor = r .cursor })
     found-short room h = record {
@@ -520,8 +537,14 @@ module _ (s : List ℕ) (p : Page) (from : Cursor) (b page : List ℕ) (c : Curs
     filling-kept = part-length _ b d _ both
 
     pub filling-lines : n + r .lines ≤ length (ahead s p from)
-    filling-lines = omega (arith, part-few _ _ _ _ P, ap length left-is, length-append (drop (c .line) (partLines s p c)) (restLines s p c),
-        length-drop n (ahead s p from), G .few)
+    filling-lines = omega (
+      arith,
+      part-few _ _ _ _ P,
+      ap length left-is,
+      length-append (drop (c .line) (partLines s p c)) (restLines s p c),
+      length-drop n (ahead s p from),
+      G .few,
+    )
 
     pub filling-bytes : at + r .bytes ≤ length b
     filling-bytes = omega (arith, part-room _ b d _ both, part-length _ b d _ both)
@@ -533,7 +556,7 @@ module _ (s : List ℕ) (p : Page) (from : Cursor) (b page : List ℕ) (c : Curs
         let rest : drop (n + r .lines) (ahead s p from) ≡ restLines s p c =
         sym (drop-drop (r .lines) n (ahead s p from)) ∙ ap (drop (r .lines)) left-is
         ∙ drop-append (r .lines) (drop (c .line) (partLines s p c)) (restLines s p c) (omega arith) ∙ rw
-            (drop-whole (r .lines) (drop (c .line) (partLines s p c)) (omega arith)) in
+        (drop-whole (r .lines) (drop (c .line) (partLines s p c)) (omega arith)) in
         let done : take (n + r .lines) (ahead s p from) ≡ take n (ahead s p from) ++ drop (c .line) (partLines s p c) =
         take-more n (r .lines) (ahead s p from) ∙ ap (λ ls. take n (ahead s p from) ++ take (r .lines) ls) left-is
         ∙ ap (λ ls. take n (ahead s p from) ++ ls) (take-at (drop (c .line) (partLines s p c)) (restLines s p c) (r .lines) (sym m)) in
@@ -562,8 +585,14 @@ module _ (s : List ℕ) (p : Page) (from : Cursor) (b page : List ℕ) (c : Curs
           page = S .page ∙ rw (← all-lines);
           next = sym on ∙ ap (drop (r .lines)) (G .rest) ∙ drop-drop (r .lines) n (ahead s p from);
           at = record { rows = rw q (G .stands .rows); within = rw q (omega arith) };
-          left = λ _. omega (arith, ap length left-is, length-append (drop (c .line) (partLines s p c)) (restLines s p c), length-drop n
-              (ahead s p from), G .few);
+          left = λ _. omega (
+            arith,
+            ap length left-is,
+            length-append (drop (c .line) (partLines s p c)) (restLines s p c),
+            length-drop n
+                (ahead s p from),
+            G .few,
+          );
         }
 
   -- nothing is left
@@ -571,7 +600,7 @@ module _ (s : List ℕ) (p : Page) (from : Cursor) (b page : List ℕ) (c : Curs
   filling-done e =
       let none : drop n (ahead s p from) ≡ [] = sym (G .rest) ∙ end-ahead s p c e in
       let whole : take n (ahead s p from) ≡ ahead s p from = take-all n (ahead s p from)
-            (omega (arith, ap length none, length-drop n (ahead s p from))) in
+      (omega (arith, ap length none, length-drop n (ahead s p from))) in
       record {
         lines = G .part .lines ∙ rw whole;
         bytes = G .part .bytes ∙ rw whole;

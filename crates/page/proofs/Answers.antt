@@ -235,7 +235,7 @@ module _ (s : List ℕ) (h : Passes s) where
           (λ e f. let q = F .short e f in
           lines-put k b (omega (arith, count-lines))
           ∙ passed-over (leb (length (lineAt (tableOf s) k)) (length b)) (several.given k (fitting (length b) (drop k (pageLines (tableOf s)))) b)
-              (several.turned 20 (length (lineAt (tableOf s) k)) b)
+          (several.turned 20 (length (lineAt (tableOf s) k)) b)
           (le-false (length (lineAt (tableOf s) k)) (length b) (omega (arith, size-all k))) ∙ rw (q .0, q .1, size-all k))
           (λ e f. absurd (n (F .found e f .0)))
 
@@ -259,16 +259,16 @@ module _ (s : List ℕ) (h : Passes s) where
             let l = getD (pageLines (tableOf s)) k [] in
             let rest = drop (suc k) (pageLines (tableOf s)) in
             let size : length (getD (pageLines (tableOf s)) k []) + 1 ≡ length (lineAt (tableOf s) k) = sym
-                  (length-append (getD (pageLines (tableOf s)) k []) (10 ∷ [])) in
+            (length-append (getD (pageLines (tableOf s)) k []) (10 ∷ [])) in
             let m : length y ≡ length (getD (pageLines (tableOf s)) k []) + 1 = e ∙ found-here .1 .0 ∙ sym size in
             let z : length y - (length (getD (pageLines (tableOf s)) k []) + 1) ≡ 0 = omega arith in
             let only : fitting (length y) (ahead s p (r .cursor)) ≡ getD (pageLines (tableOf s)) k [] ∷ [] =
             ap (fitting (length y)) first-line ∙ fitting-more (length y) (getD (pageLines (tableOf s)) k []) (drop (suc k) (pageLines (tableOf s)))
-                (omega arith)
+            (omega arith)
             ∙ ap (λ ls. getD (pageLines (tableOf s)) k [] ∷ ls) (ap (λ i. fitting i (drop (suc k) (pageLines (tableOf s)))) z ∙ fitting-nothing
-                (drop (suc k) (pageLines (tableOf s)))) in
+            (drop (suc k) (pageLines (tableOf s)))) in
             let closed-is : closed (fitting (length y) (ahead s p (r .cursor))) ≡ lineAt (tableOf s) k = ap closed only ∙ closed-one
-                  (getD (pageLines (tableOf s)) k []) in
+            (getD (pageLines (tableOf s)) k []) in
             (W .bytes ∙ ap length closed-is, W .page ∙ ap (λ t. over t y) closed-is)
 
         pub line-answer : (m : ℕ) (a : List ℕ) → m ≡ length (lineAt (tableOf s) k) → a ≡ over (lineAt (tableOf s) k) b
@@ -276,7 +276,7 @@ module _ (s : List ℕ) (h : Passes s) where
         line-answer m a e f =
             let h = found-here in
             line-put k b (h .0) ∙ put-whole (lineAt (tableOf s) k) b m e (omega (arith, h .1 .0, h .1 .1)) ∙ ap
-                (λ x. record { answer = record { number = 0; place = 0; written = m }; buffer = x }) (sym f)
+            (λ x. record { answer = record { number = 0; place = 0; written = m }; buffer = x }) (sym f)
 
         -- lines from it on
         pub lines-answer : (a : List ℕ) (w : Written) → WroteIs s p (r .cursor) b a w
@@ -287,7 +287,7 @@ module _ (s : List ℕ) (h : Passes s) where
             let from : ahead s p (r .cursor) ≡ drop k (pageLines (tableOf s)) = F .lines n ∙ ap (drop k) lines-all in
             lines-put k b (h .0)
             ∙ chosen (leb (length (lineAt (tableOf s) k)) (length b)) (several.given k (fitting (length b) (drop k (pageLines (tableOf s)))) b)
-                (several.turned 20 (length (lineAt (tableOf s) k)) b)
+            (several.turned 20 (length (lineAt (tableOf s) k)) b)
             (le-true (length (lineAt (tableOf s) k)) (length b) (omega (arith, h .1 .0, h .1 .1)))
             ∙ rw (W .bytes, W .lines, W .page, from)
 

@@ -18,14 +18,26 @@ use Rattle.arrangement.specs.Widths.{widthsOf}
 module _ (s : List ℕ) (c : Checked) (checked : c ≡ check s) where
   -- a refused sheet: number and place of the check
   pub measure-refused : (c .number ≡ 0 → ⊥)
-      → _≡_ {A = Measured} (record { number = c .number; place = c .place; columns = 0; content = replicate mostColumns 0; hidden = replicate
-          mostColumns false }) (measure s)
+      → _≡_ {A = Measured} (record {
+        number = c .number;
+        place = c .place;
+        columns = 0;
+        content = replicate mostColumns 0;
+        hidden = replicate
+            mostColumns false;
+      }) (measure s)
   unfolding check measure checkOf measureOf
   measure-refused h = go (sheet s) refl
     where
       go : (y : Read Table) → sheet s ≡ y
-          → _≡_ {A = Measured} (record { number = c .number; place = c .place; columns = 0; content = replicate mostColumns 0; hidden = replicate
-              mostColumns false }) (measureOf (sheet s))
+          → _≡_ {A = Measured} (record {
+            number = c .number;
+            place = c .place;
+            columns = 0;
+            content = replicate mostColumns 0;
+            hidden = replicate
+                mostColumns false;
+          }) (measureOf (sheet s))
       go (got t p) e = let z : c .number ≡ 0 = ap (λ (x : Checked). x .number) checked ∙ rw e in absurd (h z)
       go (refused n p) e = let k : c ≡ record { number = n; place = p } = checked ∙ rw e in rw (e, k)
 

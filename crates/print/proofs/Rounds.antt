@@ -50,8 +50,12 @@ module _ (s : List ℕ) (cols : List (List ℕ)) (p : Page) (O : Opened s cols p
   round-bytes = omega (arith, W .bytes, fitted (length b) (ahead s p c))
 
   pub round-on : Standing s p (r .next)
-  round-on = record { at = W .at; passed = S .passed + r .lines; lines = W .next ∙ ap (drop (r .lines)) (S .lines) ∙ drop-drop (r .lines) (S .passed)
-      (linesOf s p) }
+  round-on = record {
+    at = W .at;
+    passed = S .passed + r .lines;
+    lines = W .next ∙ ap (drop (r .lines)) (S .lines) ∙ drop-drop (r .lines) (S .passed)
+        (linesOf s p);
+  }
 
   -- the space holds any line, so that a part that leaves some has some
   some : longestLine + 1 ≤ length b → 0 < length (ahead s p c) → 0 < length (fitting (length b) (ahead s p c))

@@ -1,9 +1,9 @@
 // Answers beside the stored ones. Each function says what differs, and counts it.
-use rules::MOST_COLUMNS;
 use crate::stored;
 use libc::STDOUT_FILENO;
 use rules::Checked;
 use rules::Counted;
+use rules::MOST_COLUMNS;
 use rules::Measured;
 
 // Far more than there are answers: from there on a count stands still, so that no sum wraps around to 0.

@@ -118,8 +118,11 @@ column-limits c k = record {
 
 line-limits : (l : List ℕ) → keeps line l → LineLimits l
 unfolding keeps line
-line-limits l k = record { length = at-most 0 200 (length l) (k .0); characters = all-imp (λ c. printable c ≡ true) Printable (between-both 32 126) l
-    (k .1) }
+line-limits l k = record {
+  length = at-most 0 200 (length l) (k .0);
+  characters = all-imp (λ c. printable c ≡ true) Printable (between-both 32 126) l
+      (k .1);
+}
 
 cell-limits : (x : Cell) → keeps cell x → CellLimits x
 unfolding keeps cell
@@ -197,8 +200,11 @@ unfolding sheet
 sheet-sound s = go (ltb 32768 (length s)) refl
   where
     go : (b : Bool) → ltb 32768 (length s) ≡ b
-        → SheetSound s (elim b as (λ x. Read Table) [ true ↦ refused 2 32768 | false ↦ onward (reads table s 0)
-            (λ t p. onward (ended s p) (λ u q. got t q)) ])
+        → SheetSound s (elim b as (λ x. Read Table) [
+          | true ↦ refused 2 32768
+          | false ↦ onward (reads table s 0)
+              (λ t p. onward (ended s p) (λ u q. got t q))
+        ])
     go true e = (omega arith, omega arith)
     go false e = ended-sound s (ltb-false 32768 (length s) e) (reads table s 0) (sound table Whole table-whole s 0)
 
@@ -247,8 +253,11 @@ sheet-steps s = go (ltb 32768 (length s))
     inner (refused n p) = refl
 
     go : (b : Bool)
-        → stepOf {A = Table} (elim b as (λ x. Read Table) [ true ↦ refused 2 32768 | false ↦ onward (reads table s 0)
-            (λ t p. onward (ended s p) (λ u q. got t q)) ])
+        → stepOf {A = Table} (elim b as (λ x. Read Table) [
+          | true ↦ refused 2 32768
+          | false ↦ onward (reads table s 0)
+              (λ t p. onward (ended s p) (λ u q. got t q))
+        ])
         ≡ elim b as (λ x. Step) [ true ↦ Refused 2 32768 | false ↦ readFrom ended s (after table s (At 0)) ]
     go true = refl
     go false = inner (reads table s 0) ∙ ap (readFrom ended s) (sym (steps table Whole table-whole s 0))

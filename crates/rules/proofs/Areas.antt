@@ -48,7 +48,7 @@ module _ (t : Table) (ws : List ℕ) (r : Row) where
   line-at k h =
       let e : 0 + k ≡ k = omega arith in
       getD-map (λ k. map (areaAt t ws r k) (visible t)) (upFrom 0 (height t ws r)) k 0 [] (omega (arith, length-upFrom 0 (height t ws r))) ∙ rw
-          (getD-upFrom 0 (height t ws r) k 0 h, e)
+      (getD-upFrom 0 (height t ws r) k 0 h, e)
 
   length-line : (k : ℕ) → k < height t ws r → length (getD (areas t ws r) k []) ≡ length (visible t)
   length-line k h = ap length (line-at k h) ∙ length-map (visible t) (areaAt t ws r k)
@@ -60,7 +60,7 @@ module _ (t : Table) (ws : List ℕ) (r : Row) where
 -- two rows with equal areas in every place
 areas-same : (t u : Table) (ws vs : List ℕ) (r q : Row) → length (visible t) ≡ length (visible u) → height t ws r ≡ height u vs q
     → ((k c : ℕ) → k < height t ws r → c < length (visible t) → areaAt t ws r k (getD (visible t) c 0) ≡ areaAt u vs q k (getD (visible u) c 0)) →
-        areas t ws r ≡ areas u vs q
+    areas t ws r ≡ areas u vs q
 areas-same t u ws vs r q n m e =
     ext-getD [] (areas t ws r) (areas u vs q) (length-areas t ws r ∙ m ∙ sym (length-areas u vs q))
     (λ k h. line k (omega (arith, length-areas t ws r)))
@@ -95,7 +95,7 @@ module _ (t u : Table) where
     row-alike : (i : ℕ) → i < length (allRows t) → shownIn t (rowAt t i) ≡ shownIn u (rowAt u i)
     row-alike i h =
         sym (getD-map (shownIn t) (allRows t) i noRow [] h) ∙ ap (λ l. getD l i []) all-rows ∙ getD-map (shownIn u) (allRows u) i noRow []
-            (omega (arith, as-many-rows))
+        (omega (arith, as-many-rows))
 
     lines-alike : (i : ℕ) → i < length (allRows t) → linesOf t i ≡ linesOf u i
     lines-alike i h = sym (length-areas t (contents t) (rowAt t i)) ∙ ap length (row-alike i h) ∙ length-areas u (contents u) (rowAt u i)
@@ -119,13 +119,13 @@ module _ (t u : Table) where
     rows-agree : map (shownIn t) (allRows t) ≡ map (shownIn u) (allRows u)
     rows-agree = ext-getD [] (map (shownIn t) (allRows t)) (map (shownIn u) (allRows u))
         (length-map (allRows t) (shownIn t) ∙ a .rows ∙ sym (length-map (allRows u) (shownIn u)))
-            (λ i h. row i (omega (arith, length-map (allRows t) (shownIn t))))
+        (λ i h. row i (omega (arith, length-map (allRows t) (shownIn t))))
       where
         row : (i : ℕ) → i < length (allRows t) → getD (map (shownIn t) (allRows t)) i [] ≡ getD (map (shownIn u) (allRows u)) i []
         row i h =
             getD-map (shownIn t) (allRows t) i noRow [] h
             ∙ areas-same t u (contents t) (contents u) (rowAt t i) (rowAt u i) (as-many-columns (a .widths)) (a .lines i h)
-                (λ k c l m. a .areas i k c h l m)
+            (λ k c l m. a .areas i k c h l m)
             ∙ sym (getD-map (shownIn u) (allRows u) i noRow [] (omega (arith, a .rows)))
 
     -- and the other way round

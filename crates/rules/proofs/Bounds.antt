@@ -72,7 +72,7 @@ module _ (t : Table) (T : TableLimits t) where
   longest-200 j =
       greatest-le 200 (map cellLongest (cellsOf j (allRows t)))
       (cells-200 (length (t .columns)) j (allRows t) (all-append (RowLimits (length (t .columns))) (t .header) (t .rows) (T .header-row)
-          (T .each-row)))
+      (T .each-row)))
 
   percent-400 : (p : ℕ) → Offered (Most 400) (percentOf t p)
   unfolding percentOf
@@ -137,8 +137,11 @@ module _ (t : Table) (T : TableLimits t) where
   upper-400 j = go (eqb (columnAt t j .constraint) 5) (eqb (columnAt t j .constraint) 6)
     where
       go : (b c : Bool) → Offered (Most 400)
-          (valueOf t (elim b as (λ x. Option Width) [ true ↦ some (columnAt t j .first) | false ↦ elim c as (λ x. Option Width)
-              [ true ↦ some (columnAt t j .second) | false ↦ none ] ]))
+          (valueOf t (elim b as (λ x. Option Width) [
+            | true ↦ some (columnAt t j .first)
+            | false ↦ elim c as (λ x. Option Width)
+                [ true ↦ some (columnAt t j .second) | false ↦ none ]
+          ]))
       go true c = first-400 j
       go false true = second-400 j
       go false false = tt
@@ -196,8 +199,11 @@ module _ (t : Table) (T : TableLimits t) where
       inner b h false = omega (arith, longest-200 j)
 
       go : (o : Option ℕ) → Offered (Most 400) o
-          → elim o as (λ x. ℕ) [ some b ↦ elim (ltb b (longest t j)) [ true ↦ contentOf (columnAt t j) b | false ↦ lifted (longest t j) ] | none ↦
-              lifted (longest t j) ] ≤ 400
+          → elim o as (λ x. ℕ) [
+            | some b ↦ elim (ltb b (longest t j)) [ true ↦ contentOf (columnAt t j) b | false ↦ lifted (longest t j) ]
+            | none ↦
+                lifted (longest t j)
+          ] ≤ 400
       go (some b) h = inner b h (ltb b (longest t j))
       go none h = omega (arith, longest-200 j)
 
@@ -212,8 +218,11 @@ SmallRule rule = (j a : ℕ) → a ≤ 400 → Offered (Most 400) (rule j a)
 
 small-fixAt : (j : ℕ) (o : Option ℕ) (s : State) → Offered (Most 400) o → Small s → Small (fixAt j o s)
 unfolding fixAt fix
-small-fixAt j (some w) s h k = record { widths = all-set (Most 400) (s .widths) j (lifted w) (omega arith) (k .widths); remaining = omega
-    (arith, k .remaining) }
+small-fixAt j (some w) s h k = record {
+  widths = all-set (Most 400) (s .widths) j (lifted w) (omega arith) (k .widths);
+  remaining = omega
+      (arith, k .remaining);
+}
 small-fixAt j none s h k = k
 
 pub average-le : (s : State) → average s ≤ s .remaining
@@ -237,11 +246,13 @@ unfolding passes
 small-passes begins rule h n zero s k = k
 small-passes begins rule h n (suc fuel) s k =
     go (begins s) (ltb (undecided (pass rule n s)) (undecided s)) (small-pass rule h n s k)
-        (small-passes begins rule h n fuel (pass rule n s) (small-pass rule h n s k))
+    (small-passes begins rule h n fuel (pass rule n s) (small-pass rule h n s k))
   where
     go : (b c : Bool) → Small (pass rule n s) → Small (passes begins rule n fuel (pass rule n s))
-        → Small (elim b as (λ x. State) [ true ↦ elim c as (λ x. State) [ true ↦ passes begins rule n fuel (pass rule n s) | false ↦ pass rule n s ] |
-            false ↦ s ])
+        → Small (elim b as (λ x. State) [
+          | true ↦ elim c as (λ x. State) [ true ↦ passes begins rule n fuel (pass rule n s) | false ↦ pass rule n s ]
+          | false ↦ s
+        ])
     go true true i m = m
     go true false i m = i
     go false c i m = k
@@ -346,8 +357,11 @@ module _ (t : Table) (T : TableLimits t) where
       w : getD (s .widths) j 0 ≤ 400
       w = all-default (Most 400) (s .widths) j 0 (omega arith) (k .widths)
 
-      go : (b : Bool) → elim b as (λ x. ℕ) [ true ↦ getD (s .widths) j 0 | false ↦ getD (s .widths) j 0 + share (s .remaining) (length (visible t))
-          (length (keep (λ i. ltb i j) (visible t))) ] ≤ 801
+      go : (b : Bool) → elim b as (λ x. ℕ) [
+        | true ↦ getD (s .widths) j 0
+        | false ↦ getD (s .widths) j 0 + share (s .remaining) (length (visible t))
+            (length (keep (λ i. ltb i j) (visible t)))
+      ] ≤ 801
       go true = omega (arith, w)
       go false = omega (arith, w, share-le (s .remaining) (length (visible t)) (length (keep (λ i. ltb i j) (visible t))), k .remaining)
 
@@ -355,8 +369,11 @@ module _ (t : Table) (T : TableLimits t) where
   unfolding step4
   step4-801 s k u = go (eqb (undecided s) 0) (eqb (t .arrangement) 2)
     where
-      go : (b c : Bool) → All (Most 801) (elim b as (λ x. List ℕ) [ false ↦ map (shared s) (numbers t) | true ↦ elim c as (λ x. List ℕ)
-          [ true ↦ map (widened t s) (numbers t) | false ↦ s .widths ] ])
+      go : (b c : Bool) → All (Most 801) (elim b as (λ x. List ℕ) [
+        | false ↦ map (shared s) (numbers t)
+        | true ↦ elim c as (λ x. List ℕ)
+            [ true ↦ map (widened t s) (numbers t) | false ↦ s .widths ]
+      ])
       go false c = all-numbers 801 (shared s) (shared-801 s k u) (numbers t)
       go true true = all-numbers 801 (widened t s) (widened-801 s k) (numbers t)
       go true false = all-imp (Most 400) (Most 801) (λ w h. omega arith) (s .widths) (k .widths)
@@ -375,8 +392,11 @@ module _ (t : Table) (T : TableLimits t) where
       u3 : undecided s3 ≤ 400
       u3 = omega (arith, zeros-le (s3 .widths), length-steps t, T .columns)
 
-      go : (b : Bool) → All (Most 801) (elim b as (λ x. List ℕ) [ true ↦ map (λ j. orElse (first t j) (untargeted t j)) (numbers t) | false ↦ step4 t
-          (step3 t (step2 t (step1 t (start t)))) ])
+      go : (b : Bool) → All (Most 801) (elim b as (λ x. List ℕ) [
+        | true ↦ map (λ j. orElse (first t j) (untargeted t j)) (numbers t)
+        | false ↦ step4 t
+            (step3 t (step2 t (step1 t (start t))))
+      ])
       go true = all-numbers 801 (λ j. orElse (first t j) (untargeted t j))
           (λ j. orElse-le 801 (first t j) (untargeted t j) (omega (arith, first-step-400 t T j)) (omega (arith, untargeted-400 t T j))) (numbers t)
       go false = step4-801 s3 k3 u3

@@ -39,11 +39,15 @@ module _ (p : ℕ → Bool) (space : p 32 ≡ false) where
   keep-column c w a [] zero h = refl
   keep-column c w a [] (suc n) h =
       keep-append p (area c w a []) _ ∙ rw (keep-area c w a [], map-shift (λ k. area c w a (getD {A = List ℕ} [] k [])) 0 n)
-          (keep-column c w a [] n (omega arith))
+      (keep-column c w a [] n (omega arith))
   keep-column c w a (l ∷ ls) zero h = absurd (not-suc-le-zero h)
   keep-column c w a (l ∷ ls) (suc n) h =
-      keep-append p (area c w a l) _ ∙ rw (keep-area c w a l, map-shift (λ k. area c w a (getD (l ∷ ls) k [])) 0 n, keep-column c w a ls n
-          (le-of-suc-le-suc h)) (sym (keep-append p l (flat ls)))
+      keep-append p (area c w a l) _ ∙ rw (
+        keep-area c w a l,
+        map-shift (λ k. area c w a (getD (l ∷ ls) k [])) 0 n,
+        keep-column c w a ls n
+            (le-of-suc-le-suc h),
+      ) (sym (keep-append p l (flat ls)))
 
 -- no more lines than the limit, 0 being none
 within-limit : (h n : ℕ) → (h ≡ 0) ⊎ (n ≤ h) → exceeds h n ≡ false
@@ -72,7 +76,7 @@ module _ (q : ℕ → Bool) (t : Table) (ws : List ℕ) (r : Row) (j : ℕ) (som
     where
       go : (b : Bool) → ltb j (length (r .cells)) ≡ b
           → keep (λ ch. not (q ch)) (flat (wrapLines (getD ws j 0) (delimiterOf t (columnAt t j) (cellAt r j)) (cellAt r j .lines))) ≡ keep
-              (λ ch. not (q ch)) (flat (cellAt r j .lines))
+          (λ ch. not (q ch)) (flat (cellAt r j .lines))
       go true e = kept-lines q (delimiterOf t (columnAt t j) (cellAt r j)) (delimiter e) (getD ws j 0) some (cellAt r j .lines)
       go false e =
           let m : cellAt r j ≡ noCell = List·getD-eq-default (r .cells) noCell (ltb-false j (length (r .cells)) e) in
@@ -81,7 +85,7 @@ module _ (q : ℕ → Bool) (t : Table) (ws : List ℕ) (r : Row) (j : ℕ) (som
 -- the text of a place
 pub place-text : (q : ℕ → Bool) → q 32 ≡ true → (t : Table) (i c : ℕ) → c < length (visible t)
     → (ltb (columnOf t c) (length (rowAt t i .cells)) ≡ true → q (delimiterOf t (columnAt t (columnOf t c)) (cellAt (rowAt t i) (columnOf t c))) ≡
-        true) → Uncut t i c
+    true) → Uncut t i c
     → keep (λ ch. not (q ch)) (flat (map (λ k. areaOf t i k c) (upFrom 0 (linesOf t i)))) ≡ keep (λ ch. not (q ch)) (characters t i c)
 unfolding areaAt height
 place-text q space t i c h d o =
@@ -90,7 +94,7 @@ place-text q space t i c h d o =
     let j = columnOf t c in
     let below = all-getD (λ j. j < length (t .columns)) (visible t) c 0 h (visible-below t) in
     keep-column (λ ch. not (q ch)) (rw space) (columnAt t j) (getD ws j 0) (alignmentOf (columnAt t j) (cellAt r j)) (cellLines t ws r j)
-        (linesOf t i)
+    (linesOf t i)
     (le-greatest (λ j. length (cellLines t ws r j)) (visible t) c 0 h)
     ∙ ap (λ l. keep (λ ch. not (q ch)) (flat l)) (uncut-lines t ws r j o)
     ∙ wrapped-text q t ws r j (content-some t j below) d

@@ -108,17 +108,17 @@ module _ (t : Table) (T : TableLimits t) (ws : List ℕ) where
     printable-delimiter j =
         let space : Printable 32 = omega arith in
         let c = all-default (λ c. Optional (c .delimiter)) (t .columns) j noColumn (inl refl)
-              (all-imp ColumnLimits (λ c. Optional (c .delimiter)) (λ c k. k .delimiter) (t .columns) (T .each-column)) in
+        (all-imp ColumnLimits (λ c. Optional (c .delimiter)) (λ c k. k .delimiter) (t .columns) (T .each-column)) in
         printable-orElse (cellAt r j .delimiter) _ (plain-at j .0) (printable-orElse (columnAt t j .delimiter) _ c
-            (printable-orElse (t .delimiter) 32 (T .delimiter) space))
+        (printable-orElse (t .delimiter) 32 (T .delimiter) space))
 
     pub printable-cell : (j : ℕ) → All (All Printable) (cellLines t ws r j)
     unfolding cellLines wrapped
     printable-cell j =
         all-cut (All Printable) (getD ws j 0) (t .indicator) (r .limit) (wrapped t ws r j) tt
-            (λ l k. printable-cutLine (getD ws j 0) (t .indicator) l (T .indicator-characters) k)
+        (λ l k. printable-cutLine (getD ws j 0) (t .indicator) l (T .indicator-characters) k)
         (all-wrapLines Printable (delimiterOf t (columnAt t j) (cellAt r j)) (printable-delimiter j) (getD ws j 0) (cellAt r j .lines)
-            (plain-at j .1))
+        (plain-at j .1))
 
     pub printable-areaAt : (k j : ℕ) → All Printable (areaAt t ws r k j)
     unfolding areaAt
@@ -130,9 +130,9 @@ module _ (t : Table) (T : TableLimits t) (ws : List ℕ) where
     unfolding rowText areas
     printable-rowText k =
         all-map-imp (All (All Printable)) (All Printable) (textLine (t .style) k) (printable-textLine (t .style) (T .style-characters) k)
-            (areas t ws r)
+        (areas t ws r)
         (all-map (All (All Printable)) (λ n. map (areaAt t ws r n) (visible t))
-            (λ n. all-map (All Printable) (areaAt t ws r n) (printable-areaAt n) (visible t)) (upFrom 0 (height t ws r)))
+        (λ n. all-map (All Printable) (areaAt t ws r n) (printable-areaAt n) (visible t)) (upFrom 0 (height t ws r)))
 
   rows-cells : (rs : List Row) (n : ℕ) → All (RowLimits n) rs → All (λ r. All CellLimits (r .cells)) rs
   rows-cells rs n h = all-imp (RowLimits n) (λ r. All CellLimits (r .cells)) (λ r k. k .each) rs h
@@ -143,7 +143,7 @@ module _ (t : Table) (T : TableLimits t) (ws : List ℕ) where
   printable-framed rs h =
       let shows = printable-shown (t .style) (T .style-characters) in
       let text : (k : ℕ) (qs : List Row) → All (λ r. All CellLimits (r .cells)) qs → All (λ r. All (All Printable) (rowText t ws k r)) qs = λ k qs g.
-            all-imp (λ r. All CellLimits (r .cells)) (λ r. All (All Printable) (rowText t ws k r)) (λ r c. printable-rowText r c k) qs g in
+      all-imp (λ r. All CellLimits (r .cells)) (λ r. All (All Printable) (rowText t ws k r)) (λ r c. printable-rowText r c k) qs g in
       let header = rows-cells (t .header) _ (T .header-row) in
       search (all-append, all-headed, all-ruledRows, shows, text, header)
 

@@ -40,8 +40,10 @@ length-passes begins rule n (suc fuel) s = go (begins s) (ltb (undecided (pass r
     (length-passes begins rule n fuel (pass rule n s))
   where
     go : (b c : Bool) → length (passes begins rule n fuel (pass rule n s) .widths) ≡ length (pass rule n s .widths)
-        → length ((elim b as (λ x. State) [ true ↦ elim c as (λ x. State) [ true ↦ passes begins rule n fuel (pass rule n s) | false ↦ pass rule n s ]
-            | false ↦ s ]) .widths) ≡ length (s .widths)
+        → length ((elim b as (λ x. State) [
+          | true ↦ elim c as (λ x. State) [ true ↦ passes begins rule n fuel (pass rule n s) | false ↦ pass rule n s ]
+          | false ↦ s
+        ]) .widths) ≡ length (s .widths)
     go true true ih = ih ∙ length-pass rule n s
     go true false ih = length-pass rule n s
     go false c ih = refl
@@ -73,8 +75,11 @@ length-step4 : (t : Table) (s : State) → length (s .widths) ≡ length (t .col
 unfolding step4
 length-step4 t s h = go (eqb (undecided s) 0) (eqb (t .arrangement) 2)
   where
-    go : (b c : Bool) → length {A = ℕ} (elim b as (λ x. List ℕ) [ false ↦ map (shared s) (numbers t) | true ↦ elim c as (λ x. List ℕ)
-        [ true ↦ map (widened t s) (numbers t) | false ↦ s .widths ] ]) ≡ length (t .columns)
+    go : (b c : Bool) → length {A = ℕ} (elim b as (λ x. List ℕ) [
+      | false ↦ map (shared s) (numbers t)
+      | true ↦ elim c as (λ x. List ℕ)
+          [ true ↦ map (widened t s) (numbers t) | false ↦ s .widths ]
+    ]) ≡ length (t .columns)
     go false c = length-map (numbers t) (shared s) ∙ length-numbers t
     go true true = length-map (numbers t) (widened t s) ∙ length-numbers t
     go true false = h
@@ -84,8 +89,11 @@ pub length-contents : (t : Table) → length (contents t) ≡ length (t .columns
 unfolding contents
 length-contents t = go (eqb (t .target) 0 || eqb (t .arrangement) 0)
   where
-    go : (b : Bool) → length {A = ℕ} (elim b as (λ x. List ℕ) [ true ↦ map (λ j. orElse (first t j) (untargeted t j)) (numbers t) | false ↦ step4 t
-        (step3 t (step2 t (step1 t (start t)))) ]) ≡ length (t .columns)
+    go : (b : Bool) → length {A = ℕ} (elim b as (λ x. List ℕ) [
+      | true ↦ map (λ j. orElse (first t j) (untargeted t j)) (numbers t)
+      | false ↦ step4 t
+          (step3 t (step2 t (step1 t (start t))))
+    ]) ≡ length (t .columns)
     go true = length-map (numbers t) (λ j. orElse (first t j) (untargeted t j)) ∙ length-numbers t
     go false = length-step4 t (step3 t (step2 t (step1 t (start t)))) (length-steps t)
 
@@ -105,8 +113,11 @@ untargeted-some t j = go (upper t (columnAt t j))
     inner b true = omega arith
     inner b false = omega arith
 
-    go : (o : Option ℕ) → 1 ≤ elim o as (λ x. ℕ) [ some b ↦ elim (ltb b (longest t j))
-        [ true ↦ contentOf (columnAt t j) b | false ↦ lifted (longest t j) ] | none ↦ lifted (longest t j) ]
+    go : (o : Option ℕ) → 1 ≤ elim o as (λ x. ℕ) [
+      | some b ↦ elim (ltb b (longest t j))
+          [ true ↦ contentOf (columnAt t j) b | false ↦ lifted (longest t j) ]
+      | none ↦ lifted (longest t j)
+    ]
     go (some b) = inner b (ltb b (longest t j))
     go none = omega arith
 
@@ -133,8 +144,11 @@ widened-some : (t : Table) (s : State) (j : ℕ) → 1 ≤ getD (s .widths) j 0 
 unfolding widened
 widened-some t s j h = go (isHidden (columnAt t j))
   where
-    go : (b : Bool) → 1 ≤ elim b as (λ x. ℕ) [ true ↦ getD (s .widths) j 0 | false ↦ getD (s .widths) j 0 + share (s .remaining) (length (visible t))
-        (length (keep (λ i. ltb i j) (visible t))) ]
+    go : (b : Bool) → 1 ≤ elim b as (λ x. ℕ) [
+      | true ↦ getD (s .widths) j 0
+      | false ↦ getD (s .widths) j 0 + share (s .remaining) (length (visible t))
+          (length (keep (λ i. ltb i j) (visible t)))
+    ]
     go true = h
     go false = omega arith
 
@@ -143,21 +157,27 @@ unfolding step4 numbers
 step4-some t s h = go (eqb (undecided s) 0) refl (eqb (t .arrangement) 2)
   where
     go : (b : Bool) → eqb (undecided s) 0 ≡ b → (c : Bool)
-        → All Some (elim b as (λ x. List ℕ) [ false ↦ map (shared s) (numbers t) | true ↦ elim c as (λ x. List ℕ)
-            [ true ↦ map (widened t s) (numbers t) | false ↦ s .widths ] ])
+        → All Some (elim b as (λ x. List ℕ) [
+          | false ↦ map (shared s) (numbers t)
+          | true ↦ elim c as (λ x. List ℕ)
+              [ true ↦ map (widened t s) (numbers t) | false ↦ s .widths ]
+        ])
     go false e c = let q = eqb-false (undecided s) 0 e in all-map Some (shared s) (λ j. shared-some s j (omega arith)) (numbers t)
     go true e true =
         let a = decided-some (s .widths) (eqb-true (undecided s) 0 e) in
         all-upFrom Some (widened t s) 0 (length (t .columns)) (length (t .columns)) (omega arith)
-            (λ j l. widened-some t s j (all-getD Some (s .widths) j 0 (omega arith) a))
+        (λ j l. widened-some t s j (all-getD Some (s .widths) j 0 (omega arith) a))
     go true e false = decided-some (s .widths) (eqb-true (undecided s) 0 e)
 
 pub contents-some : (t : Table) → All (λ w. 1 ≤ w) (contents t)
 unfolding contents
 contents-some t = go (eqb (t .target) 0 || eqb (t .arrangement) 0)
   where
-    go : (b : Bool) → All Some (elim b as (λ x. List ℕ) [ true ↦ map (λ j. orElse (first t j) (untargeted t j)) (numbers t) | false ↦ step4 t
-        (step3 t (step2 t (step1 t (start t)))) ])
+    go : (b : Bool) → All Some (elim b as (λ x. List ℕ) [
+      | true ↦ map (λ j. orElse (first t j) (untargeted t j)) (numbers t)
+      | false ↦ step4 t
+          (step3 t (step2 t (step1 t (start t))))
+    ])
     go true = all-map Some (λ j. orElse (first t j) (untargeted t j)) (λ j. orElse-some (first t j) (untargeted t j) (untargeted-some t j))
         (numbers t)
     go false = step4-some t _ (length-steps t)

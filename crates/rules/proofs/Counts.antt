@@ -90,8 +90,10 @@ length-cut w i zero ls = omega arith
 length-cut w i (suc h) ls = go (ltb (suc h) (length ls)) refl
   where
     go : (b : Bool) → ltb (suc h) (length ls) ≡ b
-        → length {A = List ℕ} (elim b as (λ x. List (List ℕ)) [ true ↦ take (suc h - 1) ls ++ (cutLine w i (getD ls (suc h - 1) []) ∷ []) | false ↦ ls
-            ]) ≤ length ls
+        → length {A = List ℕ} (elim b as (λ x. List (List ℕ)) [
+          | true ↦ take (suc h - 1) ls ++ (cutLine w i (getD ls (suc h - 1) []) ∷ [])
+          | false ↦ ls
+        ]) ≤ length ls
     go true e = simp (length-append, length-take) (omega (arith, ltb-true (suc h) (length ls) e))
     go false e = omega arith
 
@@ -109,9 +111,14 @@ module _ (t : Table) (ws : List ℕ) (r : Row) (R : All CellLimits (r .cells)) w
   unfolding cellLines wrapped
   length-cell j =
       let c : Lined (cellAt r j) = all-default Lined (r .cells) j noCell (omega arith, (omega arith, tt))
-            (all-imp CellLimits Lined lined (r .cells) R) in
-      omega (arith, length-cut (getD ws j 0) (t .indicator) (r .limit) (wrapped t ws r j), length-wrapLines (getD ws j 0)
-          (delimiterOf t (columnAt t j) (cellAt r j)) (cellAt r j .lines) (c .1), c .0)
+      (all-imp CellLimits Lined lined (r .cells) R) in
+      omega (
+        arith,
+        length-cut (getD ws j 0) (t .indicator) (r .limit) (wrapped t ws r j),
+        length-wrapLines (getD ws j 0)
+            (delimiterOf t (columnAt t j) (cellAt r j)) (cellAt r j .lines) (c .1),
+        c .0,
+      )
 
   -- a row of at most 8 lines a cell, each of at most 200 characters
   pub height-bound : height t ws r ≤ 6448
@@ -262,8 +269,12 @@ module _ (t : Table) where
   -- no more than columns
   pub visible-count : length (visible t) ≤ length (t .columns)
   unfolding visible numbers
-  visible-count = omega (arith, length-keep (λ j. not (isHidden (columnAt t j))) (upFrom 0 (length (t .columns))), length-upFrom 0
-      (length (t .columns)))
+  visible-count = omega (
+    arith,
+    length-keep (λ j. not (isHidden (columnAt t j))) (upFrom 0 (length (t .columns))),
+    length-upFrom 0
+        (length (t .columns)),
+  )
 
   -- each a column
   pub visible-number : (i : ℕ) → i < length (visible t) → getD (visible t) i 0 < length (t .columns)
@@ -298,21 +309,31 @@ module _ (t : Table) (T : TableLimits t) where
   visible-841 : (j : ℕ) → visibleWidth t (contents t) j ≤ 841
   visible-841 j =
       let c = all-default (λ c. padding c ≤ 40) (t .columns) j noColumn (omega arith)
-            (all-imp ColumnLimits (λ c. padding c ≤ 40) (λ c k. omega (arith, k .left, k .right)) (t .columns) (T .each-column)) in
+      (all-imp ColumnLimits (λ c. padding c ≤ 40) (λ c k. omega (arith, k .left, k .right)) (t .columns) (T .each-column)) in
       let w = all-default (Most 801) (contents t) j 0 (omega arith) (contents-801 t T) in
       omega arith
 
   widths-bound : sum (visibleWidths t (contents t)) ≤ 841 * length (visible t)
   unfolding visibleWidths
-  widths-bound = omega (arith, sum-841 (visibleWidths t (contents t)) (all-map (Most 841) (visibleWidth t (contents t)) visible-841 (visible t)),
-      length-widths t (contents t))
+  widths-bound = omega (
+    arith,
+    sum-841 (visibleWidths t (contents t)) (all-map (Most 841) (visibleWidth t (contents t)) visible-841 (visible t)),
+    length-widths t (contents t),
+  )
 
   -- text lines and rules
   pub line-length-bound : lineLength t (contents t) ≤ longestLine
   unfolding lineLength borders bordersOf
   line-length-bound =
-      omega (arith, one-le (anyLeft (t .style)), one-le (anyRight (t .style)), cond-le (anyJunction (t .style)) (length (visible t) - 1),
-          widths-bound, visible-count t, T .columns)
+      omega (
+        arith,
+        one-le (anyLeft (t .style)),
+        one-le (anyRight (t .style)),
+        cond-le (anyJunction (t .style)) (length (visible t) - 1),
+        widths-bound,
+        visible-count t,
+        T .columns,
+      )
 
   -- borders
   pub border-length-bound : borderLength t (contents t) ≤ longestLine
@@ -339,7 +360,7 @@ module _ (t : Table) (ws : List ℕ) where
   text-lengths k (r ∷ rs) = (
     all-map-imp (λ x. Drawn t ws (textLine (t .style) k x)) (Drawn t ws) (textLine (t .style) k) (λ x h. h) (areas t ws r)
         (all-map (λ x. Drawn t ws (textLine (t .style) k x)) (λ i. map (areaAt t ws r i) (visible t)) (λ i. inl (text-length t ws r k i))
-            (upFrom 0 (height t ws r))),
+        (upFrom 0 (height t ws r))),
     text-lengths k rs,
   )
 
@@ -371,15 +392,23 @@ module _ (t : Table) (T : TableLimits t) where
   -- line k of the page, its 0A included
   pub line-at-bound : (k : ℕ) → length (lineAt t k) ≤ longestLine + 1
   unfolding lineAt pageLines
-  line-at-bound k = simp length-append (omega (arith, all-default (λ l. length l ≤ longestLine) (pageLines t) k [] (omega arith)
-      (framed-line-bound (t .rows))))
+  line-at-bound k = simp length-append (omega (
+    arith,
+    all-default (λ l. length l ≤ longestLine) (pageLines t) k [] (omega arith)
+        (framed-line-bound (t .rows)),
+  ))
 
   -- the bytes of lines over some of the rows
   pub framed-byte-bound : (rs : List Row) → length rs ≤ 100 → All (RowLimits (length (t .columns))) rs → length (closed (framed t (contents t) rs)) ≤
       mostLines * (longestLine + 1)
   framed-byte-bound rs n h =
-      omega (arith, length-closed (framed t (contents t) rs), bytes-longest (framed t (contents t) rs) (framed-line-bound rs), framed-count t T
-          (contents t) rs n h)
+      omega (
+        arith,
+        length-closed (framed t (contents t) rs),
+        bytes-longest (framed t (contents t) rs) (framed-line-bound rs),
+        framed-count t T
+            (contents t) rs n h,
+      )
 
   -- and those of the page
   pub byte-count-bound : byteCount t ≤ mostLines * (longestLine + 1)

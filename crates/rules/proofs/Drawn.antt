@@ -55,7 +55,7 @@ module _ (S : List ℕ) (R : Readable S) where
   unfolding ruled
   top-tells vs ws h k e =
       border-cancel (edge (anyLeft S) (glyphAt S topBorder)) (edge (anyRight S) (glyphAt S (topBorder + 3))) (glyph (glyphAt S (topBorder + 2)))
-          (glyph (glyphAt S (topBorder + 1))) (R .top) vs ws h k e
+      (glyph (glyphAt S (topBorder + 1))) (R .top) vs ws h k e
 
   -- a rule begins like no text line
   abbrev Rule : List ℕ → Type 0
@@ -84,7 +84,7 @@ module _ (S : List ℕ) (R : Readable S) where
   rules-differ (zero ∷ vs) h k e = not-suc-le-zero (k .0)
   rules-differ (suc v ∷ vs) h k e =
       R .fills (fill-of (glyph (glyphAt S headerRule)) (glyph (glyphAt S rowRule)) (glyph (glyphAt S (headerRule + 1)))
-          (glyph (glyphAt S (rowRule + 1))) v vs
+      (glyph (glyphAt S (rowRule + 1))) v vs
       (edge (anyJunction S) (glyphAt S (headerRule + 2))) (edge (anyJunction S) (glyphAt S (rowRule + 2)))
       (edge (anyRight S) (glyphAt S (headerRule + 3))) (edge (anyRight S) (glyphAt S (rowRule + 3))) (rw left-drawn at e))
 
@@ -121,13 +121,16 @@ module _ (S : List ℕ) (a b : Row → List (List (List ℕ))) (hs is rs qs : Li
     -- the first line tells the widths
     pub drawn-widths : (vs ws : List ℕ) → 0 < length vs → 0 < length ws → drawn S vs a hs rs ≡ drawn S ws b is qs → vs ≡ ws
     unfolding drawn
-    drawn-widths vs ws h k e = top-tells S R vs ws h k (cc (shown-visible S true topBorder vs (top-visible S R), shown-visible S true topBorder ws
-        (top-visible S R)))
+    drawn-widths vs ws h k e = top-tells S R vs ws h k (cc (
+      shown-visible S true topBorder vs (top-visible S R),
+      shown-visible S true topBorder ws
+          (top-visible S R),
+    ))
 
     -- the others tell the rest
     pub drawn-shown : (vs : List ℕ) → 0 < length vs → All (λ v. 1 ≤ v) vs
         → ((r : Row) → All (λ x. map length x ≡ vs) (a r)) → ((r : Row) → All (λ x. map length x ≡ vs) (b r)) → All (λ r. 0 < length (a r)) rs → All
-            (λ r. 0 < length (b r)) qs
+        (λ r. 0 < length (b r)) qs
         → drawn S vs a hs rs ≡ drawn S vs b is qs → (map a hs ≡ map b is) × (map a rs ≡ map b qs)
     unfolding drawn
     drawn-shown vs some wide fa fb la lb e =
@@ -143,6 +146,6 @@ module _ (S : List ℕ) (a b : Row → List (List (List ℕ))) (hs is rs qs : Li
         let rb = ruledRows (λ r. map (textLine S contentLines) (b r)) (Q ∷ []) qs in
         let z = shown S true bottomBorder vs in
         apart (λ x. map length x ≡ vs) (Rule S R) (textLine S headerLines) (textLine S contentLines) H Q (text-tells S headerLines vs)
-            (text-tells S contentLines vs)
+        (text-tells S contentLines vs)
         (header-text S R) (content-text S R) (header-rule S R vs) (row-rule S R vs) (rules-differ S R vs some wide) a b fa fb hs is rs qs la lb
         (append-cancel-right (ta ++ ra) (tb ++ rb) z (append-assoc ta ra z ∙ g ∙ sym (append-assoc tb rb z)))

@@ -55,10 +55,10 @@ fitting-past n (l ∷ ls) ms e = step (leb (length l + 1) n) e (fitting-past (n 
     step : (b : Bool) → length {A = List ℕ} (elim b as (λ x. List (List ℕ)) [ true ↦ l ∷ fitting (n - (length l + 1)) ls | false ↦ [] ]) ≡ length
         (l ∷ ls)
         → (length (fitting (n - (length l + 1)) ls) ≡ length ls → (fitting (n - (length l + 1)) ls ≡ ls) ×
-            (fitting (n - (length l + 1)) (ls ++ ms) ≡ ls ++ fitting (n - (length l + 1) - length (closed ls)) ms))
+        (fitting (n - (length l + 1)) (ls ++ ms) ≡ ls ++ fitting (n - (length l + 1) - length (closed ls)) ms))
         → (_≡_ {A = List (List ℕ)} (elim b [ true ↦ l ∷ fitting (n - (length l + 1)) ls | false ↦ [] ]) (l ∷ ls))
         × (_≡_ {A = List (List ℕ)} (elim b [ true ↦ l ∷ fitting (n - (length l + 1)) (ls ++ ms) | false ↦ [] ])
-            (l ∷ (ls ++ fitting (n - length (l ++ (10 ∷ closed ls))) ms)))
+        (l ∷ (ls ++ fitting (n - length (l ++ (10 ∷ closed ls))) ms)))
     step true e ih =
         let h = ih (omega arith) in
         let k : n - (length l + 1) - length (closed ls) ≡ n - length (l ++ (10 ∷ closed ls)) = omega (arith, length-append l (10 ∷ closed ls)) in
@@ -75,7 +75,7 @@ fitting-within n (l ∷ ls) ms h = step (leb (length l + 1) n) h (fitting-within
         (l ∷ ls)
         → (length (fitting (n - (length l + 1)) ls) < length ls → fitting (n - (length l + 1)) (ls ++ ms) ≡ fitting (n - (length l + 1)) ls)
         → _≡_ {A = List (List ℕ)} (elim b [ true ↦ l ∷ fitting (n - (length l + 1)) (ls ++ ms) | false ↦ [] ])
-            (elim b [ true ↦ l ∷ fitting (n - (length l + 1)) ls | false ↦ [] ])
+        (elim b [ true ↦ l ∷ fitting (n - (length l + 1)) ls | false ↦ [] ])
     step true h ih = ap (λ xs. l ∷ xs) (ih (omega arith))
     step false h ih = refl
 

@@ -71,7 +71,7 @@ module _ (w d : ℕ) (some : 0 < w) where
     where
       ended : (m : List ℕ) → weight ps + 1 ≤ f → weight ps + 1 ≤ g → (b : Bool)
           → _≡_ {A = List (List ℕ)} (elim b [ true ↦ m ∷ place f w d [] ps | false ↦ place f w d m ps ])
-              (elim b [ true ↦ m ∷ place g w d [] ps | false ↦ place g w d m ps ])
+          (elim b [ true ↦ m ∷ place g w d [] ps | false ↦ place g w d m ps ])
       ended m kf kg true = ap (λ r. m ∷ r) (same [] ps (omega arith) (omega arith))
       ended m kf kg false = let h = held-le m in same m ps (omega arith) (omega arith)
 
@@ -126,7 +126,7 @@ module _ (w d : ℕ) (some : 0 < w) where
   run-join l p ps h k =
       let e : act w d l p ≡ join = rw (le-leb _ _ h, act) in
       run-step l p ps ∙ rw (e, place, le-ltb _ _ k) (place-run (held l + (length p + 1 + weight ps)) (glue d l p) ps
-          (omega (arith, held-le (glue d l p))))
+      (omega (arith, held-le (glue d l p))))
 
   -- a line with at most 2 columns free is flushed, and the piece tried again
   pub run-retry : (l p : List ℕ) (ps : List (List ℕ)) → w < textWidth (glue d l p) → tight w l ≡ true → run w d l (p ∷ ps) ≡ l ∷ run w d [] (p ∷ ps)
@@ -144,7 +144,7 @@ module _ (w d : ℕ) (some : 0 < w) where
       let e : act w d l p ≡ fill = rw (lt-leb _ _ h, t, lt-ltb _ _ n, act) in
       let q = rest-shorter (room w l) p (room-some w l some t) (omega arith) in
       run-step l p ps ∙ rw (e, place) (ap (λ r. glue d l (firstOf (room w l) p) ∷ r)
-          (place-run (held l + (length p + 1 + weight ps)) [] (restOf (room w l) p ∷ ps) (omega arith)))
+      (place-run (held l + (length p + 1 + weight ps)) [] (restOf (room w l) p ∷ ps) (omega arith)))
 
   -- the line is flushed, the piece begins another, and that one is flushed after it
   pub run-begin-full : (l p : List ℕ) (ps : List (List ℕ)) → w < textWidth (glue d l p) → tight w l ≡ false → textWidth p ≤ w → w - 2 < textWidth p
@@ -161,7 +161,7 @@ module _ (w d : ℕ) (some : 0 < w) where
   run-begin l p ps h t n k =
       let e : act w d l p ≡ begin = rw (lt-leb _ _ h, t, le-ltb _ _ n, act) in
       run-step l p ps ∙ rw (e, place, le-ltb _ _ k) (ap (λ r. l ∷ r)
-          (place-run (held l + (length p + 1 + weight ps)) p ps (omega (arith, held-le p))))
+      (place-run (held l + (length p + 1 + weight ps)) p ps (omega (arith, held-le p))))
 
   -- a nonempty last line is kept
   pub run-end : (l : List ℕ) → run w d l [] ≡ last l

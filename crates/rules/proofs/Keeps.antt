@@ -82,8 +82,14 @@ module _ (q : ℕ → Bool) (d : ℕ) (out : q d ≡ true) where
             let f = fresh n keeping (restOf (room w l) p ∷ ps) (omega arith) in
             rw (e, place) (
             rest-append (glue d l (firstOf (room w l) p)) (flat (place n w d [] (restOf (room w l) p ∷ ps)))
-            ∙ rw (f, rest-glue l (firstOf (room w l) p), rest-append (restOf (room w l) p) (flat ps), rest-append p (flat ps), ← rest-cut (room w l)
-                p)
+            ∙ rw (
+              f,
+              rest-glue l (firstOf (room w l) p),
+              rest-append (restOf (room w l) p) (flat ps),
+              rest-append p (flat ps),
+              ← rest-cut (room w l)
+                  p,
+            )
             simp append-assoc
             )
         go begin e (begins i t j) =

@@ -49,7 +49,7 @@ pub length-ruled : (S : List ℕ) (always : Bool) (k : ℕ) (vs : List ℕ)
 unfolding ruled
 length-ruled S always k vs =
     length-lineOf (anyLeft S) (always || anyJunction S) (anyRight S) (glyphAt S k) (glyphAt S (k + 2)) (glyphAt S (k + 3))
-        (map (λ v. replicate v (glyph (glyphAt S (k + 1)))) vs)
+    (map (λ v. replicate v (glyph (glyphAt S (k + 1)))) vs)
     ∙ rw (fill-lengths (glyph (glyphAt S (k + 1))) vs, length-map)
 
 pub length-textLine : (S : List ℕ) (k : ℕ) (ps : List (List ℕ)) → length (textLine S k ps) ≡ bordersOf S (length ps) + sum (map length ps)

@@ -163,7 +163,7 @@ keep-append {A} p (x ∷ xs) ys = go (p x) (keep-append p xs ys)
   where
     go : (b : Bool) → keep p (xs ++ ys) ≡ keep p xs ++ keep p ys
         → _≡_ {A = List A} (elim b [ true ↦ x ∷ keep p (xs ++ ys) | false ↦ keep p (xs ++ ys) ])
-            ((elim b as (λ c. List A) [ true ↦ x ∷ keep p xs | false ↦ keep p xs ]) ++ keep p ys)
+        ((elim b as (λ c. List A) [ true ↦ x ∷ keep p xs | false ↦ keep p xs ]) ++ keep p ys)
     go true ih = ap (λ l. x ∷ l) ih
     go false ih = ih
 

@@ -41,7 +41,7 @@ abbrev pub sheetOf : Table → List ℕ
 sheetOf t =
     (t .edition ∷ t .arrangement ∷ twoBytes (t .target)) ++ (t .delimiter ∷ length (t .indicator) ∷ t .indicator) ++ (length (t .style) ∷ t .style)
     ++ (length (t .columns) ∷ flat (map columnBytes (t .columns))) ++ (length (t .header) ∷ flat (map rowBytes (t .header))) ++
-        (length (t .rows) ∷ flat (map rowBytes (t .rows)))
+    (length (t .rows) ∷ flat (map rowBytes (t .rows)))
 
 -- columns of absolute widths without padding; rows of one cell: its limit, delimiter (0 is none) and lines
 abbrev made : List ℕ → List ℕ → List Row → List Row → Table
@@ -52,8 +52,16 @@ made S ws hs rs = record {
   delimiter = 0;
   indicator = [];
   style = S;
-  columns = map (λ w. record { left = 0; right = 0; delimiter = 0; alignment = 0; constraint = 3; first = record { unit = 0; value = w }; second =
-      noWidth }) ws;
+  columns = map (λ w. record {
+    left = 0;
+    right = 0;
+    delimiter = 0;
+    alignment = 0;
+    constraint = 3;
+    first = record { unit = 0; value = w };
+    second =
+        noWidth;
+  }) ws;
   header = hs;
   rows = rs;
 }
@@ -216,22 +224,80 @@ pub record Needed : Type 0 where
 pub needed : Needed
 unfolding rules
 needed = record {
-  top-junction = record { first-read = refl; second-read = refl; one-style = refl; style = refl; first-column = omega arith; second-column = omega
-      arith; first-lines = refl; second-lines = refl; one-page = refl };
+  top-junction = record {
+    first-read = refl;
+    second-read = refl;
+    one-style = refl;
+    style = refl;
+    first-column = omega arith;
+    second-column = omega
+        arith;
+    first-lines = refl;
+    second-lines = refl;
+    one-page = refl;
+  };
   top-junction-breaks = λ x. let e : _≡_ {A = List ℕ} (3 ∷ 5 ∷ []) (5 ∷ 3 ∷ []) = x .widths in let z : _≡_ {A = ℕ} 3 5 = cc in omega arith;
-  rule-fills = record { first-read = refl; second-read = refl; one-style = refl; style = refl; first-column = omega arith; second-column = omega
-      arith; first-lines = refl; second-lines = refl; one-page = refl };
+  rule-fills = record {
+    first-read = refl;
+    second-read = refl;
+    one-style = refl;
+    style = refl;
+    first-column = omega arith;
+    second-column = omega
+        arith;
+    first-lines = refl;
+    second-lines = refl;
+    one-page = refl;
+  };
   rule-fills-break = λ x. let e : _≡_ {A = ℕ} 1 0 = x .header in omega arith;
-  content-left = record { first-read = refl; second-read = refl; one-style = refl; style = refl; first-column = omega arith; second-column = omega
-      arith; first-lines = refl; second-lines = refl; one-page = refl };
+  content-left = record {
+    first-read = refl;
+    second-read = refl;
+    one-style = refl;
+    style = refl;
+    first-column = omega arith;
+    second-column = omega
+        arith;
+    first-lines = refl;
+    second-lines = refl;
+    one-page = refl;
+  };
   content-left-breaks = λ x. let e : _≡_ {A = ℕ} 2 1 = x .rows in omega arith;
-  header-left = record { first-read = refl; second-read = refl; one-style = refl; style = refl; first-column = omega arith; second-column = omega
-      arith; first-lines = refl; second-lines = refl; one-page = refl };
+  header-left = record {
+    first-read = refl;
+    second-read = refl;
+    one-style = refl;
+    style = refl;
+    first-column = omega arith;
+    second-column = omega
+        arith;
+    first-lines = refl;
+    second-lines = refl;
+    one-page = refl;
+  };
   header-left-breaks = λ x. let e : _≡_ {A = ℕ} 1 2 = x .rows in omega arith;
-  no-line = record { first-read = refl; second-read = refl; one-style = refl; style = refl; first-column = omega arith; second-column = omega arith;
-      first-lines = refl; second-lines = refl; one-page = refl };
+  no-line = record {
+    first-read = refl;
+    second-read = refl;
+    one-style = refl;
+    style = refl;
+    first-column = omega arith;
+    second-column = omega arith;
+    first-lines = refl;
+    second-lines = refl;
+    one-page = refl;
+  };
   no-line-breaks = λ x. let e : _≡_ {A = ℕ} 0 1 = x .rows in omega arith;
-  cut-cells = record { first-read = refl; second-read = refl; one-style = refl; style = refl; first-column = omega arith; second-column = omega arith;
-      first-lines = refl; second-lines = refl; one-page = refl };
+  cut-cells = record {
+    first-read = refl;
+    second-read = refl;
+    one-style = refl;
+    style = refl;
+    first-column = omega arith;
+    second-column = omega arith;
+    first-lines = refl;
+    second-lines = refl;
+    one-page = refl;
+  };
   cut-cells-break = λ e. let z : _≡_ {A = List ℕ} (ascii "abcd") (ascii "abce") = e in let y : _≡_ {A = ℕ} 100 101 = cc in omega arith;
 }

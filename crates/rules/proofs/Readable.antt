@@ -48,7 +48,7 @@ module _ (t u : Table) (one : t .style ≡ u .style) where
       ap closed (
       lines-drawn t ∙ shown-drawn (t .style) (shownIn t) (shownIn u) (t .header) (u .header) (t .rows) (u .rows) (widthsOf t) (a .header) (a .rows)
       ∙ ap (λ S. drawn S (widthsOf t) (shownIn u) (u .header) (u .rows)) one ∙ ap (λ vs. drawn (u .style) vs (shownIn u) (u .header) (u .rows))
-          (a .widths) ∙ sym (lines-drawn u)
+      (a .widths) ∙ sym (lines-drawn u)
       )
 
   module _ (T : TableLimits t) (U : TableLimits u) (R : Readable (t .style)) (t-column : 0 < length (visible t)) (u-column : 0 < length (visible u))
@@ -63,11 +63,11 @@ module _ (t u : Table) (one : t .style ≡ u .style) where
         = sym (lines-drawn t) ∙ l ∙ lines-drawn u ∙ ap (λ S. drawn S (widthsOf u) (shownIn u) (u .header) (u .rows)) (sym one) in
         let some : 0 < length (widthsOf t) = omega (arith, length-widths t (contents t)) in
         let w = drawn-widths S (shownIn t) (shownIn u) (t .header) (u .header) (t .rows) (u .rows) R (widthsOf t) (widthsOf u) some
-              (omega (arith, length-widths u (contents u))) m in
+        (omega (arith, length-widths u (contents u))) m in
         let n = m ∙ ap (λ vs. drawn S vs (shownIn u) (u .header) (u .rows)) (sym w) in
         let s = drawn-shown S (shownIn t) (shownIn u) (t .header) (u .header) (t .rows) (u .rows) R (widthsOf t) some (widths-some t)
         (areas-fit t (contents t)) (λ r. all-imp _ _ (λ x f. f ∙ sym w) (shownIn u r) (areas-fit u (contents u) r)) (lined t t-lines)
-            (lined u u-lines) n in
+        (lined u u-lines) n in
         record { widths = w; header = s .0; rows = s .1 }
 
     -- so pages are equal exactly where the tables agree
@@ -92,12 +92,12 @@ texts-on-tables t u a i c hi hc x y =
     let dt = delimiterOf t (columnAt t (columnOf t c)) (cellAt (rowAt t i) (columnOf t c)) in
     let du = delimiterOf u (columnAt u (columnOf u c)) (cellAt (rowAt u i) (columnOf u c)) in
     sym (place-text q refl t i c hc (λ h. or-left (eqb dt 32 || isDelimiter t i c dt) (isDelimiter u i c dt)
-        (or-right (eqb dt 32) (isDelimiter t i c dt) (is-delimiter t i c h))) x)
+    (or-right (eqb dt 32) (isDelimiter t i c dt) (is-delimiter t i c h))) x)
     ∙ ap (λ l. keep (λ ch. not (q ch)) (flat l)) (map-below (λ k. areaOf t i k c) (λ k. areaOf u i k c) 0 (linesOf t i) (linesOf t i) (omega arith)
-        (λ k l. a .areas i k c hi l hc))
+    (λ k l. a .areas i k c hi l hc))
     ∙ ap (λ n. keep (λ ch. not (q ch)) (flat (map (λ k. areaOf u i k c) (upFrom 0 n)))) (a .lines i hi)
     ∙ place-text q refl u i c (omega (arith, length-widths t (contents t), length-widths u (contents u), ap length (a .widths)))
-        (λ h. or-right (eqb du 32 || isDelimiter t i c du) (isDelimiter u i c du) (is-delimiter u i c h)) y
+    (λ h. or-right (eqb du 32 || isDelimiter t i c du) (isDelimiter u i c du) (is-delimiter u i c h)) y
 
 -- demand 3, over the calls
 pub demand-3 : Demand3
@@ -111,7 +111,7 @@ demand-3 = record { pages = pages; texts = texts }
         let e = wrote-page s b t (C .first-accepted) m in
         let f = wrote-page v d u (C .second-accepted) n in
         let p = pages-on-tables t u (C .one-style) (limits s t (C .first-accepted)) (limits v u (C .second-accepted)) (C .readable) (C .first-column)
-              (C .second-column) (C .first-lines) (C .second-lines) in
+        (C .second-column) (C .first-lines) (C .second-lines) in
         ((λ g. p .0 (sym e ∙ g ∙ f)), (λ a. e ∙ p .1 a ∙ sym f))
 
     texts : (s v : List ℕ) (t u : Table) → Comparable s v t u → (b d : List ℕ) → Answered s b → Answered v d → wrote s b ≡ wrote v d → SameText t u

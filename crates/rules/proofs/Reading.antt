@@ -95,8 +95,11 @@ unfolding onward stands keeps
 zeros-sound P s p (got v q) r = go (eqb v 0) (eqb (v % 256) 0) refl
   where
     go : (b c : Bool) → eqb v 0 ≡ b
-        → Sound zeroWord P s p (elim b as (λ x. Read ℕ) [ true ↦ got v q | false ↦ elim c as (λ x. Read ℕ)
-            [ true ↦ refused 8 (p + 1) | false ↦ refused 8 p ] ])
+        → Sound zeroWord P s p (elim b as (λ x. Read ℕ) [
+          | true ↦ got v q
+          | false ↦ elim c as (λ x. Read ℕ)
+              [ true ↦ refused 8 (p + 1) | false ↦ refused 8 p ]
+        ])
     go true c e = record { value = r .value; end = r .end; onward = r .onward; inside = r .inside; kept = eqb-true v 0 e; proper = r .proper }
     go false true e = (omega arith, omega arith)
     go false false e = (omega arith, omega arith)
@@ -361,7 +364,7 @@ steps (only good fault x) P h s p = refl
 steps zeroWord P h s p = refl
 steps (text low high good) P h s p =
     counted-steps (character good) (readFrom (character good) s) s (readFrom-off (character good) s) (λ q. refl) (byteAt s p)
-        (textLength low high s p)
+    (textLength low high s p)
     (λ n q e. tested (between low high) 5 s p n q e .value)
 steps (listed count x) P h s p =
     rw (steps count (λ n. Unit {0}) (h .0) s p)

@@ -93,7 +93,7 @@ module _ {X : Type 0} (Fits : X → Type 0) (Rule : List ℕ → Type 0) (head t
       (us ≡ vs)
   row-apart r q us vs s t e =
       let c = at-stop Rule (map text (a r)) (map text (b q)) us vs (all-map (λ x. ¬ Rule x) text row-text (a r))
-            (all-map (λ x. ¬ Rule x) text row-text (b q)) s t e in
+      (all-map (λ x. ¬ Rule x) text row-text (b q)) s t e in
       (map-tells Fits text text-tells (a r) (b q) (a-fits r) (b-fits q) (c .0), c .1)
 
   more-apart : (rs qs : List Row) → ruledMore (λ r. map text (a r)) (rr ∷ []) rs ≡ ruledMore (λ q. map text (b q)) (rr ∷ []) qs → map a rs ≡ map b qs
@@ -103,7 +103,7 @@ module _ {X : Type 0} (Fits : X → Type 0) (Rule : List ℕ → Type 0) (head t
   more-apart (r ∷ rs) [] e = cc
   more-apart (r ∷ rs) (q ∷ qs) e =
       let c = row-apart r q (ruledMore (λ r. map text (a r)) (rr ∷ []) rs) (ruledMore (λ q. map text (b q)) (rr ∷ []) qs) (stops a rs) (stops b qs) cc
-            in
+      in
       let i = more-apart rs qs (c .1) in
       cc
 
@@ -123,7 +123,7 @@ module _ {X : Type 0} (Fits : X → Type 0) (Rule : List ℕ → Type 0) (head t
   rows-apart (r ∷ rs) [] h k e = absurd (some-row a r (ruledMore (λ q. map text (a q)) (rr ∷ []) rs) (h .0) e)
   rows-apart (r ∷ rs) (q ∷ qs) h k e =
       let c = row-apart r q (ruledMore (λ r. map text (a r)) (rr ∷ []) rs) (ruledMore (λ q. map text (b q)) (rr ∷ []) qs) (stops a rs) (stops b qs) e
-            in
+      in
       let i = more-apart rs qs (c .1) in
       cc
 
@@ -146,7 +146,7 @@ module _ {X : Type 0} (Fits : X → Type 0) (Rule : List ℕ → Type 0) (head t
   -- the lines between the borders tell what every row shows, and which of the rows are the header
   pub apart : (hs is rs qs : List Row) → All (λ r. 0 < length (a r)) rs → All (λ q. 0 < length (b q)) qs
       → headed (λ r. map head (a r)) (hr ∷ []) hs ++ ruledRows (λ r. map text (a r)) (rr ∷ []) rs ≡ headed (λ q. map head (b q)) (hr ∷ []) is ++
-          ruledRows (λ q. map text (b q)) (rr ∷ []) qs
+      ruledRows (λ q. map text (b q)) (rr ∷ []) qs
       → (map a hs ≡ map b is) × (map a rs ≡ map b qs)
   unfolding headed
   apart [] [] rs qs h k e = (refl, rows-apart rs qs h k e)
@@ -164,7 +164,7 @@ module _ {X : Type 0} (Fits : X → Type 0) (Rule : List ℕ → Type 0) (head t
       let ys = headed (λ q. map head (b q)) (hr ∷ []) is in
       let zs = ruledRows (λ q. map text (b q)) (rr ∷ []) qs in
       let c = at-stop Rule (map head (a j)) (map head (b i)) (hr ∷ (us ++ vs)) (hr ∷ (ys ++ zs)) (all-map (λ x. ¬ Rule x) head head-text (a j))
-            (all-map (λ x. ¬ Rule x) head head-text (b i))
+      (all-map (λ x. ¬ Rule x) head head-text (b i))
       hr-rule hr-rule (sym (append-assoc (map head (a j)) (hr ∷ us) vs) ∙ e ∙ append-assoc (map head (b i)) (hr ∷ ys) zs) in
       let m : a j ≡ b i = map-tells Fits head head-tells (a j) (b i) (a-fits j) (b-fits i) (c .0) in
       let n : us ++ vs ≡ ys ++ zs = tail-eq-of-cons-eq (c .1) in

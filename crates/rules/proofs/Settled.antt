@@ -27,7 +27,7 @@ module _ (begins : State → Bool) (rule : Rule) (n : ℕ) where
     where
       go : (b c : Bool) → ltb (undecided (pass rule n s)) (undecided s) ≡ c
           → (undecided (pass rule n s) < f → undecided (pass rule n s) < g → passes begins rule n f (pass rule n s) ≡ passes begins rule n g
-              (pass rule n s))
+          (pass rule n s))
           → _≡_ {A = State}
           (elim b [ true ↦ elim c [ true ↦ passes begins rule n f (pass rule n s) | false ↦ pass rule n s ] | false ↦ s ])
           (elim b [ true ↦ elim c [ true ↦ passes begins rule n g (pass rule n s) | false ↦ pass rule n s ] | false ↦ s ])
@@ -46,8 +46,11 @@ module _ (begins : State → Bool) (rule : Rule) (n : ℕ) where
   unfolding passes again
   one-more f s = go (begins s) (ltb (undecided (pass rule n s)) (undecided s))
     where
-      go : (b c : Bool) → _≡_ {A = State} (elim b [ true ↦ elim c [ true ↦ passes begins rule n f (pass rule n s) | false ↦ pass rule n s ] | false ↦
-          s ])
+      go : (b c : Bool) → _≡_ {A = State} (elim b [
+        | true ↦ elim c [ true ↦ passes begins rule n f (pass rule n s) | false ↦ pass rule n s ]
+        | false ↦
+            s
+      ])
           (again b c (passes begins rule n f (pass rule n s)) (pass rule n s) s)
       go true true = refl
       go true false = refl

@@ -98,7 +98,9 @@ unfolding put
 length-put l b = go (leb (length l) (length b)) refl
   where
     go : (x : Bool) → leb (length l) (length b) ≡ x
-        → length ((elim x as (λ y. Written) [ true ↦ record { answer = record { number = 0; place = 0; written = length l }; buffer = over l b } |
-            false ↦ turned 20 (length l) b ]) .buffer) ≡ length b
+        → length ((elim x as (λ y. Written) [
+          | true ↦ record { answer = record { number = 0; place = 0; written = length l }; buffer = over l b }
+          | false ↦ turned 20 (length l) b
+        ]) .buffer) ≡ length b
     go true e = simp (length-append, length-drop) (omega (arith, leb-true (length l) (length b) e))
     go false e = refl

@@ -18,8 +18,11 @@ unfolding put
 put-wrote l b = go (leb (length l) (length b))
   where
     done : Bool → Written
-    done x = elim x [ true ↦ record { answer = record { number = 0; place = 0; written = length l }; buffer = over l b } | false ↦ turned 20
-        (length l) b ]
+    done x = elim x [
+      | true ↦ record { answer = record { number = 0; place = 0; written = length l }; buffer = over l b }
+      | false ↦ turned 20
+          (length l) b
+    ]
 
     go : (x : Bool) → done x .answer .number ≡ 0 → take (done x .answer .written) (done x .buffer) ≡ l
     go true e = take-append-seam l (drop (length l) b)

@@ -91,8 +91,15 @@ module _ (most : ℕ) (s : List ℕ) (x : Step) (p : ℕ) (e : x ≡ At p) where
   word-high l h i j a b m =
       let k : p + 1 < length s = omega arith in
       let n = rw (i, j) at m in
-      rw (e, lt-ltb (p + 1) (length s) k, word, le-leb 0 (getD s p 0 + getD s (p + 1) 0 * 256) (omega arith), lt-leb
-          (getD s p 0 + getD s (p + 1) 0 * 256) most n, onward)
+      rw (
+        e,
+        lt-ltb (p + 1) (length s) k,
+        word,
+        le-leb 0 (getD s p 0 + getD s (p + 1) 0 * 256) (omega arith),
+        lt-leb
+            (getD s p 0 + getD s (p + 1) 0 * 256) most n,
+        onward,
+      )
 
   pub word-good : (l h : ℕ) → l ≡ getD s p 0 → h ≡ getD s (p + 1) 0 → p < length s → 2 ≤ length s - p → l + h * 256 ≤ most → At (p + 2) ≡ after
       (wordTo most) s x
@@ -100,8 +107,15 @@ module _ (most : ℕ) (s : List ℕ) (x : Step) (p : ℕ) (e : x ≡ At p) where
   word-good l h i j a b m =
       let k : p + 1 < length s = omega arith in
       let n = rw (i, j) at m in
-      rw (e, lt-ltb (p + 1) (length s) k, word, le-leb 0 (getD s p 0 + getD s (p + 1) 0 * 256) (omega arith), le-leb
-          (getD s p 0 + getD s (p + 1) 0 * 256) most n, onward)
+      rw (
+        e,
+        lt-ltb (p + 1) (length s) k,
+        word,
+        le-leb 0 (getD s p 0 + getD s (p + 1) 0 * 256) (omega arith),
+        le-leb
+            (getD s p 0 + getD s (p + 1) 0 * 256) most n,
+        onward,
+      )
 
 module _ (s : List ℕ) (x : Step) (p : ℕ) (e : x ≡ At p) where
   pub zeros-ended : length s ≤ p → Refused 1 (length s) ≡ after zeroWord s x
@@ -126,8 +140,15 @@ module _ (s : List ℕ) (x : Step) (p : ℕ) (e : x ≡ At p) where
       let h : p + 1 < length s = omega arith in
       let v : getD s p 0 + getD s (p + 1) 0 * 256 ≡ 0 → ⊥ = λ i. k (omega arith) in
       let w : (getD s p 0 + getD s (p + 1) 0 * 256) % 256 ≡ 0 = omega arith in
-      rw (e, lt-ltb (p + 1) (length s) h, word, ne-eqb (getD s p 0 + getD s (p + 1) 0 * 256) 0 v, eq-eqb ((getD s p 0 + getD s (p + 1) 0 * 256) % 256)
-          0 w, onward)
+      rw (
+        e,
+        lt-ltb (p + 1) (length s) h,
+        word,
+        ne-eqb (getD s p 0 + getD s (p + 1) 0 * 256) 0 v,
+        eq-eqb ((getD s p 0 + getD s (p + 1) 0 * 256) % 256)
+            0 w,
+        onward,
+      )
 
   pub zeros-good : p < length s → 2 ≤ length s - p → getD s p 0 ≡ 0 → getD s (p + 1) 0 ≡ 0 → At (p + 2) ≡ after zeroWord s x
   unfolding after readFrom reads field.zeroWord word onward
@@ -192,6 +213,28 @@ count-over columns s (At p) y v q few value e l = go (byteBetween 0 mostColumns 
     go (refused n o) i = let j = rw i at few in let z : _≡_ {A = ℕ} 0 1 = cc in absurd (omega arith)
 count-over columns s (Refused n p) y v q few value e l = let z : _≡_ {A = ℕ} 0 1 = cc in absurd (omega arith)
 
-pub ruleset fields = (after-stopped, read-stopped, byte-stopped, byte-there, byte-past, between-ended, between-low, between-high, between-good,
-    optional-ended, optional-zero, optional-low, optional-high, optional-good, word-ended, word-cut, word-high, word-good, zeros-ended, zeros-cut,
-    zeros-low, zeros-high, zeros-good)
+pub ruleset fields = (
+  after-stopped,
+  read-stopped,
+  byte-stopped,
+  byte-there,
+  byte-past,
+  between-ended,
+  between-low,
+  between-high,
+  between-good,
+  optional-ended,
+  optional-zero,
+  optional-low,
+  optional-high,
+  optional-good,
+  word-ended,
+  word-cut,
+  word-high,
+  word-good,
+  zeros-ended,
+  zeros-cut,
+  zeros-low,
+  zeros-high,
+  zeros-good,
+)

@@ -127,8 +127,12 @@ unfolding columnsOf padded
 columns-whole s n i a h e j k c =
     let l = columns-inside s h in
     let m : n ≡ length (tableOf s .columns) = omega arith in
-    rw (m, copied-done (tableOf s .columns) (replicate mostColumns noColumn) i a (omega arith) c, drop-replicate (length (tableOf s .columns))
-        mostColumns noColumn)
+    rw (
+      m,
+      copied-done (tableOf s .columns) (replicate mostColumns noColumn) i a (omega arith) c,
+      drop-replicate (length (tableOf s .columns))
+          mostColumns noColumn,
+    )
 
 pub style-character : (s : List ℕ) (first i : ℕ) → Passes s → first ≡ stylePlace s + 1 → i < 22 → getD s (first + i) 0 ≡ getD
     (textAt s (stylePlace s)) i 0

@@ -61,7 +61,7 @@ lines-again s all c r n m k some e i next so =
     let g = next .lines in
     let t : textWidth (textAt s (c .at)) ≡ n = width-length (textAt s (c .at)) ∙ (text-length s (c .at) (line-whole s c some (so .inside)) ∙ sym e) in
     let h : max m (max n (greatest (map textWidth (parts (r .left) (textAt s) (lineStop s) (r .at))))) ≡ max 1
-          (greatest (map textWidth (linesIn s all))) = rw (f, ← g, t) at (so .whole) in
+    (greatest (map textWidth (linesIn s all))) = rw (f, ← g, t) at (so .whole) in
     record { whole = omega arith; ends = next .ends ∙ so .ends; inside = rw (next .ends) (so .inside) }
 
 pub lines-done : (s : List ℕ) (all c : Lines) (m : ℕ) → c .left ≤ 0 → LinesSoFar s all c m → CellWalked s all (record { longest = m; end = c .at })
@@ -118,7 +118,7 @@ cells-again s all c x found before longest j v some is walked e so =
     let z : j + 0 ≡ j = omega arith in
     let here : firstCell s c ≡ getD (cellsIn s all) j noCell = rw (so .rest) (getD-drop j (cellsIn s all) 0 noCell ∙ rw z) in
     let size : found .longest ≡ longestAt j (cellsIn s all) = walked .longest ∙ rw (is .lines, here) (sym (at-there j (cellsIn s all) (omega arith)))
-          in
+    in
     let new : v ≡ max (getD before j 0) (longestAt j (cellsIn s all)) = e ∙ rw (size, so .todo j (omega arith)) in
     record {
       long = rw (length-set longest j v) long;
@@ -221,7 +221,7 @@ rows-again s all c row found before longest some is walked so = record {
     one j l =
         let a : getD (found .longest) j 0 ≡ max (getD longest j 0) (longestAt j (firstRow s c .cells)) = walked .each j l ∙ rw (is .cells) in
         let b : longestIn j (rowsIn s c) ≡ max (longestAt j (firstRow s c .cells)) (longestIn j (drop 1 (rowsIn s c))) = ap (longestIn j)
-              (rows-cons s c some) ∙ in-cons j (firstRow s c) (drop 1 (rowsIn s c)) in
+        (rows-cons s c some) ∙ in-cons j (firstRow s c) (drop 1 (rowsIn s c)) in
         let d = so .each j l in
         let e = ap (longestIn j) (next .rows) in
         omega arith
@@ -253,7 +253,7 @@ pub longest-whole : (t : Table) (r : List ℕ) → length r ≡ mostColumns →
     → r ≡ map (widths.longest t) (upFrom 0 mostColumns)
 longest-whole t r l each =
     let n : length (map (widths.longest t) (upFrom 0 mostColumns)) ≡ mostColumns = length-map (upFrom 0 mostColumns) (widths.longest t) ∙
-          length-upFrom 0 mostColumns in
+    length-upFrom 0 mostColumns in
     ext-getD 0 r (map (widths.longest t) (upFrom 0 mostColumns)) (l ∙ sym n) (λ j h. one j (omega arith))
   where
     one : (j : ℕ) → j < mostColumns → getD r j 0 ≡ getD (map (widths.longest t) (upFrom 0 mostColumns)) j 0

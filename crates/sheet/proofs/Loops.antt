@@ -65,8 +65,10 @@ module _ (s : List ℕ) (e i : ℕ) (w : Step) (c : Characters s e i w) where
       (between-high 32 126 6 s (At i) i refl h k m)
 
   pub character-next : i < e → i < length s → 32 ≤ getD s i 0 → getD s i 0 ≤ 126 → Characters s e (i + 1) w
-  character-next l h k m = record { items = items-again (characterFrom s) e i (At i) (At (i + 1)) w l (c .items)
-      (between-good 32 126 6 s (At i) i refl h k m) }
+  character-next l h k m = record {
+    items = items-again (characterFrom s) e i (At i) (At (i + 1)) w l (c .items)
+        (between-good 32 126 6 s (At i) i refl h k m);
+  }
 
   pub character-cut : i < e → length s ≤ i → Refused 1 (length s) ≡ w
   character-cut l h = stopped (characterFrom s) (readFrom-off (description.character printable) s) e i (At i) w 1 (length s) l (c .items)
@@ -130,7 +132,12 @@ characters-past s start n end r h k l e = go (printables s start (end - start)) 
     go : (b : Bool) → printables s start (end - start) ≡ b → (start ≤ r) ×
         ((r ≤ end) × Characters s (start + n) r (times n (characterFrom s) (At start)))
     go true f =
-        let z : r ≡ start + (end - start) = e ∙ rw f (omega arith) in
-        (omega arith, (omega arith, rw z (characters-on s start (start + n) (end - start) _ (omega arith) (omega arith) f
-            (characters-begin s start n))))
+        let z : r ≡ start + (end - start) = e ∙ rw f (omega arith) in (
+          omega arith,
+          (
+            omega arith,
+            rw z (characters-on s start (start + n) (end - start) _ (omega arith) (omega arith) f
+                (characters-begin s start n)),
+          ),
+        )
     go false f = let z : r ≡ start = e ∙ rw f in (omega arith, (omega arith, rw z (characters-begin s start n)))

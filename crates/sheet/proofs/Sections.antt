@@ -30,7 +30,7 @@ counted-whole low high f s x y v e i = rw (e, i)
 -- a text's length and as many characters
 characters-whole : (low high : ℕ) (good : ℕ → Bool) (s : List ℕ) (x y : Step) (v : ℕ)
     → y ≡ readFrom (byteBetween low high 5) s x → v ≡ byteOf s x → times v (readFrom (description.character good) s) y ≡ after (text low high good) s
-        x
+    x
 unfolding after
 characters-whole low high good s x y v e i = rw (e, i)
 

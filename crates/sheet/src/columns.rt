@@ -7,9 +7,9 @@ ghost use Rattle.rules.specs.Description.{counted};
 ghost use Rattle.rules.specs.Format as format;
 ghost use Rattle.rules.specs.Steps.{byteOf, after};
 ghost use Rattle.sheet.specs.Steps.{constraintAfter};
-use rules::MOST_CELLS;
 use super::field;
 use super::field::Field;
+use rules::MOST_CELLS;
 use rules::Step;
 
 // Fixed is 0 to 400, percent any value.

@@ -9,12 +9,12 @@ ghost use Rattle.rules.specs.Widths as widths;
 ghost use Rattle.sheet.specs.Held.{Passes, tableOf};
 ghost use Rattle.sheet.specs.Walk.{rowsIn, rowsEnd, cellsEnd, linesEnd};
 ghost use Rattle.sheet.specs.Longest.{Narrow, CellWalked, RowWalked, RowsWalked};
-use rules::MOST_COLUMNS;
 use super::field;
 use super::records::Cells;
 use super::records::Lines;
 use super::records::Rows;
 use super::walk;
+use rules::MOST_COLUMNS;
 
 // A cell's longest line, and where the cell ends.
 pub struct LongestLine {

@@ -1,6 +1,6 @@
 // What the sheet holds, as values: each record is equal to a part of the definition's table.
-use rules::MOST_COLUMNS;
 use rules::Column;
+use rules::MOST_COLUMNS;
 
 // Codes as the sheet has them: a target or a delimiter of 0 is none.
 pub struct Settings {

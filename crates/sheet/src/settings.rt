@@ -4,13 +4,13 @@ ghost use Prim.Native.Nat.{_+_, _<_, _≤_};
 ghost use lib.ListN.{length};
 ghost use Rattle.rules.specs.Places.{wordAt, widthHere, columnHere};
 ghost use Rattle.sheet.specs.Held.{Passes, tableOf, settingsOf, indicatorOf, columnsOf};
-use rules::MOST_COLUMNS;
 use super::field;
 use super::places;
 use super::records::Columns;
 use super::records::Indicator;
 use super::records::Settings;
 use rules::Column;
+use rules::MOST_COLUMNS;
 use rules::Width;
 
 // Two bytes, low byte first.

@@ -24,8 +24,12 @@ cell-height-spec =
     (λ c.
     let i = c .before .before in
     let a = i .before .before in
-    omega (arith, counting-room _ _ _ _ _ _ (a .loop .inv) (i .if1 .taken) (c .line-height .result)
-        (rw (c .before .line .ensures) at (c .line-height .ensures .1)), a .before .before .good))
+    omega (
+      arith,
+      counting-room _ _ _ _ _ _ (a .loop .inv) (i .if1 .taken) (c .line-height .result)
+          (rw (c .before .line .ensures) at (c .line-height .ensures .1)),
+      a .before .before .good,
+    ))
     (λ c κs. (c .before .before .if1 .taken, c .before .before .before .before .loop .inv .ends))
     (λ c. omega (arith, c .next-line .ensures .left))
     (λ c.
@@ -33,5 +37,5 @@ cell-height-spec =
     let i = h .before .before in
     let e = h .before .line .ensures in
     counting-on _ _ _ _ _ _ (i .before .before .loop .inv) (i .if1 .taken) (h .line-height .result) _ (rw e at (h .line-height .ensures .0))
-        (rw e at (h .line-height .ensures .1)) refl _ (c .next-line .ensures))
+    (rw e at (h .line-height .ensures .1)) refl _ (c .next-line .ensures))
     (λ c. counting-done _ _ _ _ _ _ (c .before .before .loop .inv) (c .if1 .left)))

@@ -29,7 +29,7 @@ first-line-spec =
     let a = i .before .before in
     let s = a .before .before in
     seeking-found _ _ _ (s .pre .1) _ _ (a .loop .inv) (i .if1 .taken) _ (l .line .ensures) (p .first-part .result) (p .first-part .ensures) _
-        (t .take-part .ensures) (c .if2 .taken))
+    (t .take-part .ensures) (c .if2 .taken))
     (λ c κs. let i = c .before .before .before .before in (i .if1 .taken, i .before .before .loop .inv .ends))
     (λ c. omega (arith, c .next-line .ensures .left))
     (λ c.
@@ -40,7 +40,7 @@ first-line-spec =
     let a = i .before .before in
     let s = a .before .before in
     seeking-on _ _ _ (s .pre .1) _ _ (a .loop .inv) (i .if1 .taken) _ (l .line .ensures) (p .first-part .result) (p .first-part .ensures) _
-        (t .take-part .ensures) (c .before .if2 .left) _ (c .next-line .ensures))
+    (t .take-part .ensures) (c .before .if2 .left) _ (c .next-line .ensures))
     (λ c κs. search needs)
     (λ c.
     let a = c .before .before .before in

@@ -13,4 +13,4 @@ first-part-spec =
     (λ c.
     let b = c .before .before .before in
     long-head (b .args .width) (b .args .delimiter) (b .pre) (now (b .args .text)) (c .before .if1 .left) (c .split-line .result)
-        (c .split-line .ensures)))
+    (c .split-line .ensures)))

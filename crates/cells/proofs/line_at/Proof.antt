@@ -16,6 +16,6 @@ line-at-spec =
     (λ c. search needs)
     (λ c. search needs)
     (λ c. let a = c .before .before .before .before .args in
-        sym (ap (λ ls. getD ls 0 []) (lines-none (now (a .sheet)) (a .lines) (omega (arith, c .before .if1 .taken)))))
+    sym (ap (λ ls. getD ls 0 []) (lines-none (now (a .sheet)) (a .lines) (omega (arith, c .before .if1 .taken)))))
     (λ c κs. search needs)
     (λ c. search needs))

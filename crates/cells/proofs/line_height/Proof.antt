@@ -10,5 +10,5 @@ line-height-spec =
     (tie.spec
     (λ c κs. search needs)
     (λ c. let start = c .before .before .before in line-long _ _ (start .pre) (now (start .args .text)) _ (c .before .if1 .taken)
-        (c .count-parts .ensures))
+    (c .count-parts .ensures))
     (λ c. line-short _ _ (c .before .before .pre) (now (c .before .before .args .text)) (c .if1 .left)))

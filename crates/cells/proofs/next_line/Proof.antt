@@ -22,7 +22,7 @@ next-line-spec =
     let l = p .before in
     let b = l .before .before .before .before .before in
     next-found _ _ _ (b .pre .1) _ (b .pre .0) _ (l .line .ensures) (p .split-line .result) (p .split-line .ensures) _ (t .take-part .ensures)
-        (c .if2 .taken))
+    (c .if2 .taken))
     (λ c κs. search needs)
     (λ c κs. search needs)
     (λ c.
@@ -33,5 +33,5 @@ next-line-spec =
     let b = l .before .before .before .before .before in
     rw
     (next-further _ _ _ (b .pre .1) _ (b .pre .0) _ (l .line .ensures) (p .split-line .result) (p .split-line .ensures) _ (t .take-part .ensures)
-        (k .before .if2 .left) _ (k .next-line .ensures))
+    (k .before .if2 .left) _ (k .next-line .ensures))
     (c .first-line .ensures)))

@@ -13,15 +13,15 @@ find-spec =
     (λ c κs. search needs)
     (λ c κs. search needs)
     (λ c. let s = c .before .before .before .before .before .args in
-        found-past (now (s .sheet)) (s .p) (s .k) _ (c .before .before .before .seek .ensures) (sym (c .before .is-end .ensures) ∙ c .if1 .taken)
-        (s .room))
+    found-past (now (s .sheet)) (s .p) (s .k) _ (c .before .before .before .seek .ensures) (sym (c .before .is-end .ensures) ∙ c .if1 .taken)
+    (s .room))
     (λ c κs. search needs)
     (λ c κs. (c .before .before .before .before .before .before .pre, c .measure .ensures))
     (λ c. let s = c .before .before .before .before .before .before .before .before .args in
-        found-short (now (s .sheet)) (s .p) (s .k) _ (c .before .before .before .before .before .before .seek .ensures)
-        (sym (c .before .before .before .before .is-end .ensures) ∙ c .before .before .before .if1 .left) _ (c .before .line-size .ensures) (s .room)
-        (c .if2 .taken))
+    found-short (now (s .sheet)) (s .p) (s .k) _ (c .before .before .before .before .before .before .seek .ensures)
+    (sym (c .before .before .before .before .is-end .ensures) ∙ c .before .before .before .if1 .left) _ (c .before .line-size .ensures) (s .room)
+    (c .if2 .taken))
     (λ c. let s = c .before .before .before .before .before .before .before .before .args in
-        found-there (now (s .sheet)) (s .p) (s .k) _ (c .before .before .before .before .before .before .seek .ensures)
-        (sym (c .before .before .before .before .is-end .ensures) ∙ c .before .before .before .if1 .left) _ (c .before .line-size .ensures) (s .room)
-        (c .if2 .left)))
+    found-there (now (s .sheet)) (s .p) (s .k) _ (c .before .before .before .before .before .before .seek .ensures)
+    (sym (c .before .before .before .before .is-end .ensures) ∙ c .before .before .before .if1 .left) _ (c .before .line-size .ensures) (s .room)
+    (c .if2 .left)))

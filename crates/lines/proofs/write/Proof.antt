@@ -23,25 +23,35 @@ write-spec =
     μ-loop
     (λ c κs. search needs)
     (λ c. let s = c .before .before .before in filling-begins (now (s .args .sheet)) (s .args .p) (s .args .from) (now (s .args .page))
-        (s .pre .1 .0))
+    (s .pre .1 .0))
     (λ c κs. search needs)
     (λ c. let start = c .before .before .before .before .before .before in let loop = c .before .before .loop in
-        filling-room (now (start .args .sheet)) (start .args .p) (start .args .from) (now (start .args .page)) (loop .page) (loop .c) (loop .lines)
-        (loop .bytes) (loop .inv))
+    filling-room (now (start .args .sheet)) (start .args .p) (start .args .from) (now (start .args .page)) (loop .page) (loop .c) (loop .lines)
+    (loop .bytes) (loop .inv))
     (λ c. let start = c .before .before .before .before .before .before in let loop = c .before .before .loop in
-        filling-room (now (start .args .sheet)) (start .args .p) (start .args .from) (now (start .args .page)) (loop .page) (loop .c) (loop .lines)
-        (loop .bytes) (loop .inv))
+    filling-room (now (start .args .sheet)) (start .args .p) (start .args .from) (now (start .args .page)) (loop .page) (loop .c) (loop .lines)
+    (loop .bytes) (loop .inv))
     (λ c. search needs)
-    (λ c κs. (c .before .before .before .before .before .before .before .pre .0,
-        (c .before .before .before .loop .inv .stands, c .before .before .before .before .measure .ensures)))
+    (λ c κs. (
+      c .before .before .before .before .before .before .before .pre .0,
+      (c .before .before .before .loop .inv .stands, c .before .before .before .before .measure .ensures),
+    ))
     (λ c. let start = c .before .before .before .before .before .before .before .before .before .before .before in
-        let loop = c .before .before .before .before .before .before .before .loop in let draw = c .before .before .before .draw in
-        omega (arith, filling-lines (now (start .args .sheet)) (start .args .p) (start .args .from) (now (start .args .page)) (loop .page) (loop .c)
-        (loop .lines) (loop .bytes) (loop .inv) (draw .last .0) _ (draw .result) (draw .ensures) refl, start .pre .1 .1))
+    let loop = c .before .before .before .before .before .before .before .loop in let draw = c .before .before .before .draw in
+    omega (
+      arith,
+      filling-lines (now (start .args .sheet)) (start .args .p) (start .args .from) (now (start .args .page)) (loop .page) (loop .c)
+          (loop .lines) (loop .bytes) (loop .inv) (draw .last .0) _ (draw .result) (draw .ensures) refl,
+      start .pre .1 .1,
+    ))
     (λ c. let start = c .before .before .before .before .before .before .before .before .before .before .before .before in
-        let loop = c .before .before .before .before .before .before .before .before .loop in let draw = c .before .before .before .before .draw in
-        omega (arith, filling-bytes (now (start .args .sheet)) (start .args .p) (start .args .from) (now (start .args .page)) (loop .page) (loop .c)
-        (loop .lines) (loop .bytes) (loop .inv) (draw .last .0) _ (draw .result) (draw .ensures) refl, start .good))
+    let loop = c .before .before .before .before .before .before .before .before .loop in let draw = c .before .before .before .before .draw in
+    omega (
+      arith,
+      filling-bytes (now (start .args .sheet)) (start .args .p) (start .args .from) (now (start .args .page)) (loop .page) (loop .c)
+          (loop .lines) (loop .bytes) (loop .inv) (draw .last .0) _ (draw .result) (draw .ensures) refl,
+      start .good,
+    ))
     (λ c κs.
     let s = c .before .before .before .before .before .before .before .before .before .before .before .before .before .before in
     let l = c .before .before .before .before .before .before .before .before .before .before .loop in
@@ -53,29 +63,29 @@ write-spec =
       lines-few (now (s .args .sheet)) (now (s .args .columns)) (s .args .p) (s .pre .0) (l .c) (l .inv .stands .rows),
     ))
     (λ c. let start = c .before .before .before .before .before .before .before .before .before .before .before .before .before .before .before in
-        let loop = c .before .before .before .before .before .before .before .before .before .before .before .loop in
-        let draw = c .before .before .before .before .before .before .before .draw in
-        filling-kept (now (start .args .sheet)) (start .args .p) (start .args .from) (now (start .args .page)) (loop .page) (loop .c) (loop .lines)
-        (loop .bytes) (loop .inv) (draw .last .0) _ (draw .result) (draw .ensures) refl)
+    let loop = c .before .before .before .before .before .before .before .before .before .before .before .loop in
+    let draw = c .before .before .before .before .before .before .before .draw in
+    filling-kept (now (start .args .sheet)) (start .args .p) (start .args .from) (now (start .args .page)) (loop .page) (loop .c) (loop .lines)
+    (loop .bytes) (loop .inv) (draw .last .0) _ (draw .result) (draw .ensures) refl)
     (λ c. let start = c .before .before .before .before .before .before .before .before .before .before .before .before .before .before .before in
-        let loop = c .before .before .before .before .before .before .before .before .before .before .before .loop in
-        let draw = c .before .before .before .before .before .before .before .draw in
-        filling-stops (now (start .args .sheet)) (start .args .p) (start .args .from) (now (start .args .page)) (loop .page) (loop .c) (loop .lines)
-        (loop .bytes) (loop .inv) (draw .last .0) _ (draw .result) (draw .ensures) refl (not-true (draw .result .whole) (c .before .if2 .taken)) _
-        (c .further .ensures))
+    let loop = c .before .before .before .before .before .before .before .before .before .before .before .loop in
+    let draw = c .before .before .before .before .before .before .before .draw in
+    filling-stops (now (start .args .sheet)) (start .args .p) (start .args .from) (now (start .args .page)) (loop .page) (loop .c) (loop .lines)
+    (loop .bytes) (loop .inv) (draw .last .0) _ (draw .result) (draw .ensures) refl (not-true (draw .result .whole) (c .before .if2 .taken)) _
+    (c .further .ensures))
     (λ c κs. c .before .before .before .before .before .before .before .before .before .before .loop .inv .stands .rows)
     (λ c. let is-end = c .before .before .before .before .before .before .before .before .before .before .is-end in
-        c .next .ensures .fewer (sym (is-end .ensures) ∙ not-true (is-end .result)
-        (c .before .before .before .before .before .before .before .before .before .if1 .taken)))
+    c .next .ensures .fewer (sym (is-end .ensures) ∙ not-true (is-end .result)
+    (c .before .before .before .before .before .before .before .before .before .if1 .taken)))
     (λ c. let start = c .before .before .before .before .before .before .before .before .before .before .before .before .before .before .before in
-        let loop = c .before .before .before .before .before .before .before .before .before .before .before .loop in
-        let draw = c .before .before .before .before .before .before .before .draw in
-        filling-on (now (start .args .sheet)) (start .args .p) (start .args .from) (now (start .args .page)) (loop .page) (loop .c) (loop .lines)
-        (loop .bytes) (loop .inv) (draw .last .0) _ (draw .result) (draw .ensures) refl (not-false (draw .result .whole) (c .before .if2 .left)) _
-        (c .next .ensures))
+    let loop = c .before .before .before .before .before .before .before .before .before .before .before .loop in
+    let draw = c .before .before .before .before .before .before .before .draw in
+    filling-on (now (start .args .sheet)) (start .args .p) (start .args .from) (now (start .args .page)) (loop .page) (loop .c) (loop .lines)
+    (loop .bytes) (loop .inv) (draw .last .0) _ (draw .result) (draw .ensures) refl (not-false (draw .result .whole) (c .before .if2 .left)) _
+    (c .next .ensures))
     (λ c. let start = c .before .before .before .before .before .before in let loop = c .before .before .loop in
-        filling-size (now (start .args .sheet)) (start .args .p) (start .args .from) (now (start .args .page)) (loop .page) (loop .c) (loop .lines)
-        (loop .bytes) (loop .inv))
+    filling-size (now (start .args .sheet)) (start .args .p) (start .args .from) (now (start .args .page)) (loop .page) (loop .c) (loop .lines)
+    (loop .bytes) (loop .inv))
     (λ c. let start = c .before .before .before .before .before .before in let loop = c .before .before .loop in
-        filling-done (now (start .args .sheet)) (start .args .p) (start .args .from) (now (start .args .page)) (loop .page) (loop .c) (loop .lines)
-        (loop .bytes) (loop .inv) (sym (c .before .is-end .ensures) ∙ not-false (c .before .is-end .result) (c .if1 .left))))
+    filling-done (now (start .args .sheet)) (start .args .p) (start .args .from) (now (start .args .page)) (loop .page) (loop .c) (loop .lines)
+    (loop .bytes) (loop .inv) (sym (c .before .is-end .ensures) ∙ not-false (c .before .is-end .result) (c .if1 .left))))

@@ -20,60 +20,65 @@ print-line-spec =
     (λ c κs. search needs)
     (λ c.
     let e = line-refused _ _ (c .before .before .before .check .ensures) (c .before .if1 .taken) _
-          (now (c .before .before .before .before .before .before .args .page)) in
+    (now (c .before .before .before .before .before .before .args .page)) in
     (c .turned-down .ensures ∙ sym (ap (λ (w : Written). w .answer) e), sym (ap (λ (w : Written). w .buffer) e)))
     (λ c κs. (passes _ _ (c .before .before .before .check .ensures) (c .before .if1 .left), refl))
     (λ c κs. c .before .«open» .ensures .0)
     (λ c κs. search needs)
     (λ c.
     let h = passes _ _ (c .before .before .before .before .before .before .before .before .before .check .ensures)
-          (c .before .before .before .before .before .before .before .if1 .left) in
+    (c .before .before .before .before .before .before .before .if1 .left) in
     let e = line-turned _ h _ (c .before .before .before .before .before .«open» .ensures .1) _
-          (now (c .before .before .before .before .before .before .before .before .before .before .before .before .args .page)) _
-          (c .before .before .before .find .ensures) (c .before .if2 .taken) in
+    (now (c .before .before .before .before .before .before .before .before .before .before .before .before .args .page)) _
+    (c .before .before .before .find .ensures) (c .before .if2 .taken) in
     (c .turned-down2 .ensures ∙ sym (ap (λ (w : Written). w .answer) e), sym (ap (λ (w : Written). w .buffer) e)))
     (λ c.
     let h = passes _ _ (c .before .before .before .before .before .before .before .before .before .check .ensures)
-          (c .before .before .before .before .before .before .before .if1 .left) in
+    (c .before .before .before .before .before .before .before .if1 .left) in
     found-here _ h _ (c .before .before .before .before .before .«open» .ensures .1)
-        (c .before .before .before .before .before .before .before .before .before .before .before .before .args .line)
-        (now (c .before .before .before .before .before .before .before .before .before .before .before .before .args .page)) _
-        (c .before .before .before .find .ensures) (c .before .if2 .left) .1 .1)
+    (c .before .before .before .before .before .before .before .before .before .before .before .before .args .line)
+    (now (c .before .before .before .before .before .before .before .before .before .before .before .before .args .page)) _
+    (c .before .before .before .find .ensures) (c .before .if2 .left) .1 .1)
     (λ c.
     let h = passes _ _ (c .before .before .before .before .before .before .before .before .before .before .check .ensures)
-          (c .before .before .before .before .before .before .before .before .if1 .left) in
+    (c .before .before .before .before .before .before .before .before .if1 .left) in
     let b = now (c .before .before .before .before .before .before .before .before .before .before .before .before .before .args .page) in
     sym (length-take-le (c .before .before .before .before .find .result .place) b
-        (found-here _ h _ (c .before .before .before .before .before .before .«open» .ensures .1)
-        (c .before .before .before .before .before .before .before .before .before .before .before .before .before .args .line) b _
-        (c .before .before .before .before .find .ensures) (c .before .before .if2 .left) .1 .1)))
+    (found-here _ h _ (c .before .before .before .before .before .before .«open» .ensures .1)
+    (c .before .before .before .before .before .before .before .before .before .before .before .before .before .args .line) b _
+    (c .before .before .before .before .find .ensures) (c .before .before .if2 .left) .1 .1)))
     (λ c κs.
     let h = passes _ _ (c .before .before .before .before .before .before .before .before .before .before .before .check .ensures)
-          (c .before .before .before .before .before .before .before .before .before .if1 .left) in
+    (c .before .before .before .before .before .before .before .before .before .if1 .left) in
     let o = c .before .before .before .before .before .before .before .«open» .ensures in
-    let f = c .before .before .before .before .before .find .ensures in
-    (o .0, (f .at, lines-bound _ h _ (o .1) _
-        (c .before .before .before .before .before .before .before .before .before .before .before .before .before .before .args .line)
-        (f .lines (c .before .before .before .if2 .left)))))
+    let f = c .before .before .before .before .before .find .ensures in (
+      o .0,
+      (
+        f .at,
+        lines-bound _ h _ (o .1) _
+            (c .before .before .before .before .before .before .before .before .before .before .before .before .before .before .args .line)
+            (f .lines (c .before .before .before .if2 .left)),
+      ),
+    ))
     (λ c. search needs)
     (λ c.
     let h = passes _ _ (c .before .before .before .before .before .before .before .before .before .before .before .before .before .before .check
-          .ensures) (c .before .before .before .before .before .before .before .before .before .before .before .before .if1 .left) in
+    .ensures) (c .before .before .before .before .before .before .before .before .before .before .before .before .if1 .left) in
     let o = c .before .before .before .before .before .before .before .before .before .before .«open» .ensures .1 in
     let f = c .before .before .before .before .before .before .before .before .find .ensures in
     let n = c .before .before .before .before .before .before .if2 .left in
     let k = c .before .before .before .before .before .before .before .before .before .before .before .before .before .before .before .before .before
-          .args .line in
+    .args .line in
     let b = now (c .before .before .before .before .before .before .before .before .before .before .before .before .before .before .before .before
-          .before .args .page) in
+    .before .args .page) in
     let w = c .before .before .write in
     let t = found-here _ h _ o k b _ f n in
     let l = line-written _ h _ o k b _ f n (take (c .before .before .before .before .before .before .before .before .find .result .place) b) _
-          (w .result) (length-take-le (c .before .before .before .before .before .before .before .before .find .result .place) b (t .1 .1))
-          (w .ensures) in
+    (w .result) (length-take-le (c .before .before .before .before .before .before .before .before .find .result .place) b (t .1 .1))
+    (w .ensures) in
     let e = line-answer _ h _ o k b _ f n (w .result .bytes) _ (l .0)
-          (prefix-back (lineAt (tableOf (now
-          (c .before .before .before .before .before .before .before .before .before .before .before .before .before .before .before .before .before
-          .args .sheet))) k) b _ (c .before .before .before .before .before .before .before .before .find .result .place) (sym (t .1 .0)) (t .1 .1)
-          (l .1)) in
+    (prefix-back (lineAt (tableOf (now
+    (c .before .before .before .before .before .before .before .before .before .before .before .before .before .before .before .before .before
+    .args .sheet))) k) b _ (c .before .before .before .before .before .before .before .before .find .result .place) (sym (t .1 .0)) (t .1 .1)
+    (l .1)) in
     (sym (ap (λ (x : Written). x .answer) e), sym (ap (λ (x : Written). x .buffer) e))))

@@ -16,45 +16,54 @@ print-lines-spec =
     (λ c κs. search needs)
     (λ c.
     let e = lines-refused _ _ (c .before .before .before .check .ensures) (c .before .if1 .taken) _
-          (now (c .before .before .before .before .before .before .args .page)) in
+    (now (c .before .before .before .before .before .before .args .page)) in
     (c .no-lines .ensures ∙ sym (ap (λ (w : Several). w .answer) e), sym (ap (λ (w : Several). w .buffer) e)))
     (λ c κs. (passes _ _ (c .before .before .before .check .ensures) (c .before .if1 .left), refl))
     (λ c κs. c .before .«open» .ensures .0)
     (λ c κs. search needs)
     (λ c.
     let h = passes _ _ (c .before .before .before .before .before .before .before .before .before .check .ensures)
-          (c .before .before .before .before .before .before .before .if1 .left) in
+    (c .before .before .before .before .before .before .before .if1 .left) in
     let e = lines-turned _ h _ (c .before .before .before .before .before .«open» .ensures .1) _
-          (now (c .before .before .before .before .before .before .before .before .before .before .before .before .args .page)) _
-          (c .before .before .before .find .ensures) (c .before .if2 .taken) in
+    (now (c .before .before .before .before .before .before .before .before .before .before .before .before .args .page)) _
+    (c .before .before .before .find .ensures) (c .before .if2 .taken) in
     (c .no-lines2 .ensures ∙ sym (ap (λ (w : Several). w .answer) e), sym (ap (λ (w : Several). w .buffer) e)))
     (λ c κs.
     let h = passes _ _ (c .before .before .before .before .before .before .before .before .before .before .before .check .ensures)
-          (c .before .before .before .before .before .before .before .before .before .if1 .left) in
+    (c .before .before .before .before .before .before .before .before .before .if1 .left) in
     let o = c .before .before .before .before .before .before .before .«open» .ensures in
-    let f = c .before .before .before .before .before .find .ensures in
-    (o .0, (f .at, lines-bound _ h _ (o .1) _
-        (c .before .before .before .before .before .before .before .before .before .before .before .before .before .before .args .line)
-        (f .lines (c .before .before .before .if2 .left)))))
+    let f = c .before .before .before .before .before .find .ensures in (
+      o .0,
+      (
+        f .at,
+        lines-bound _ h _ (o .1) _
+            (c .before .before .before .before .before .before .before .before .before .before .before .before .before .before .args .line)
+            (f .lines (c .before .before .before .if2 .left)),
+      ),
+    ))
     (λ c.
     let h = passes _ _ (c .before .before .before .before .before .before .before .before .before .before .before .before .before .before .before
-          .check .ensures) (c .before .before .before .before .before .before .before .before .before .before .before .before .before .if1 .left) in
+    .check .ensures) (c .before .before .before .before .before .before .before .before .before .before .before .before .before .if1 .left) in
     let o = c .before .before .before .before .before .before .before .before .before .before .before .«open» .ensures in
     let f = c .before .before .before .before .before .before .before .before .before .find .ensures in
     let n = c .before .before .before .before .before .before .before .if2 .left in
-    omega (arith, k-small _ h _ (o .1) _ (now
-        (c .before .before .before .before .before .before .before .before .before .before .before .before .before .before .before .before .before
-        .before .args .page)) _ f n, lines-few _ h _ (o .1) _
-        (c .before .before .before .before .before .before .before .before .before .before .before .before .before .before .before .before .before
-        .before .args .line) (c .before .before .before .write .result) (f .lines n) (c .before .before .before .write .ensures)))
+    omega (
+      arith,
+      k-small _ h _ (o .1) _ (now
+          (c .before .before .before .before .before .before .before .before .before .before .before .before .before .before .before .before .before
+          .before .args .page)) _ f n,
+      lines-few _ h _ (o .1) _
+          (c .before .before .before .before .before .before .before .before .before .before .before .before .before .before .before .before .before
+          .before .args .line) (c .before .before .before .write .result) (f .lines n) (c .before .before .before .write .ensures),
+    ))
     (λ c. search needs)
     (λ c.
     let h = passes _ _ (c .before .before .before .before .before .before .before .before .before .before .before .before .before .before .before
-          .check .ensures) (c .before .before .before .before .before .before .before .before .before .before .before .before .before .if1 .left) in
+    .check .ensures) (c .before .before .before .before .before .before .before .before .before .before .before .before .before .if1 .left) in
     let o = c .before .before .before .before .before .before .before .before .before .before .before .«open» .ensures in
     let f = c .before .before .before .before .before .before .before .before .before .find .ensures in
     let e = lines-answer _ h _ (o .1) _ (now
-          (c .before .before .before .before .before .before .before .before .before .before .before .before .before .before .before .before .before
-          .before .args .page)) _ f (c .before .before .before .before .before .before .before .if2 .left) _
-          (c .before .before .before .write .result) (c .before .before .before .write .ensures) in
+    (c .before .before .before .before .before .before .before .before .before .before .before .before .before .before .before .before .before
+    .before .args .page)) _ f (c .before .before .before .before .before .before .before .if2 .left) _
+    (c .before .before .before .write .result) (c .before .before .before .write .ensures) in
     (sym (ap (λ (w : Several). w .answer) e), sym (ap (λ (w : Several). w .buffer) e))))

@@ -30,30 +30,43 @@ print-spec =
     (λ c. (standing-first _ _ _ (c .before .«open» .ensures .0) _ (c .first .ensures), refl))
     (λ c κs. search needs)
     (λ c κs. let O = c .before .before .before .before .before .before .«open» .ensures .0 in
-        let i = c .before .before .before .before .loop .inv .0 in (O, (i .at, standing-few _ _ _ O _ i)))
+    let i = c .before .before .before .before .loop .inv .0 in (O, (i .at, standing-few _ _ _ O _ i)))
     (λ c. let loop = c .before .before .before .before .before .before .before .loop in let write = c .before .before .write in
-        omega (arith, round-bytes (now
-        (c .before .before .before .before .before .before .before .before .before .before .before .before .before .before .before .before .args
-        .sheet)) _ (c .before .before .before .before .before .before .before .before .before .«open» .result)
-        (c .before .before .before .before .before .before .before .before .before .«open» .ensures .0) (loop .c) (loop .inv .0) (loop .space) _
-        (write .result) (write .ensures), write .kept .0))
+    omega (
+      arith,
+      round-bytes (now
+          (c .before .before .before .before .before .before .before .before .before .before .before .before .before .before .before .before .args
+          .sheet)) _ (c .before .before .before .before .before .before .before .before .before .«open» .result)
+          (c .before .before .before .before .before .before .before .before .before .«open» .ensures .0) (loop .c) (loop .inv .0) (loop .space) _
+          (write .result) (write .ensures),
+      write .kept .0,
+    ))
     (λ c. let loop = c .before .before .before .before .before .before .before .before .loop in let write = c .before .before .before .write in
-        sym (length-take-le _ _ (omega (arith, round-bytes (now
-        (c .before .before .before .before .before .before .before .before .before .before .before .before .before .before .before .before .before
-        .args .sheet)) _ (c .before .before .before .before .before .before .before .before .before .before .«open» .result)
-        (c .before .before .before .before .before .before .before .before .before .before .«open» .ensures .0) (loop .c) (loop .inv .0) (loop .space)
-        _ (write .result) (write .ensures), write .kept .0))))
+    sym (length-take-le _ _ (omega (
+      arith,
+      round-bytes (now
+          (c .before .before .before .before .before .before .before .before .before .before .before .before .before .before .before .before .before
+          .args .sheet)) _ (c .before .before .before .before .before .before .before .before .before .before .«open» .result)
+          (c .before .before .before .before .before .before .before .before .before .before .«open» .ensures .0) (loop .c) (loop .inv .0) (loop .space)
+          _ (write .result) (write .ensures),
+      write .kept .0,
+    ))))
     (λ c κs. search needs)
-    (λ c. omega (arith, c .before .before .before .before .before .write .kept .0,
-        c .before .before .before .before .before .before .before .before .before .before .loop .inv .1))
+    (λ c. omega (
+      arith,
+      c .before .before .before .before .before .write .kept .0,
+      c .before .before .before .before .before .before .before .before .before .before .loop .inv .1,
+    ))
     (λ c. search needs)
     (λ c. let start = c .before .before .before .before .before .before .before .before .before .before .before .before .before .before .before .before .before .before .before .before in let loop = c .before .before .before .before .before .before .before .before .before .before .before .loop in let is-end = c .before .before .before .before .before .before .before .before .before .before .is-end in let write = c .before .before .before .before .before .before .write in round-less (now (start .args .sheet)) _ (c .before .before .before .before .before .before .before .before .before .before .before .before .before .«open» .result) (c .before .before .before .before .before .before .before .before .before .before .before .before .before .«open» .ensures .0) (loop .c) (loop .inv .0) (loop .space) _ (write .result) (write .ensures) (sym (is-end .ensures) ∙ not-true (is-end .result) (c .before .before .before .before .before .before .before .before .before .if2 .taken)) (omega (arith, start .pre, loop .inv .1)))
     (λ c. let loop = c .before .before .before .before .before .before .before .before .before .before .before .loop in
-        let write = c .before .before .before .before .before .before .write in
-        (round-on (now (c .before .before .before .before .before .before .before .before .before .before .before .before .before .before .before
-        .before .before .before .before .before .args .sheet)) _
-        (c .before .before .before .before .before .before .before .before .before .before .before .before .before .«open» .result)
-        (c .before .before .before .before .before .before .before .before .before .before .before .before .before .«open» .ensures .0) (loop .c)
-        (loop .inv .0) (loop .space) _ (write .result) (write .ensures), omega (arith, write .kept .0, loop .inv .1)))
+    let write = c .before .before .before .before .before .before .write in (
+      round-on (now (c .before .before .before .before .before .before .before .before .before .before .before .before .before .before .before
+          .before .before .before .before .before .args .sheet)) _
+          (c .before .before .before .before .before .before .before .before .before .before .before .before .before .«open» .result)
+          (c .before .before .before .before .before .before .before .before .before .before .before .before .before .«open» .ensures .0) (loop .c)
+          (loop .inv .0) (loop .space) _ (write .result) (write .ensures),
+      omega (arith, write .kept .0, loop .inv .1),
+    ))
     (λ c. c .before .before .loop .inv .1)
     (λ c. search needs))

@@ -114,11 +114,11 @@ module _ {M : Type 1} (𝓤 : URA M) (H : Heap 𝓤) (A : Atoms 𝓤) (W : Given
   goes-new =
       qed W ((‵ (flft κ q) ⊛ ‵ (flft κ′ q′) ⊛ ‵ ftrue) ∷ ‵ (owns (ShrSlice (named 0) κ u8 ∷ MutSlice (named 1) κ′ u8 ∷ []) (s, (x, tt)) vals) ∷ []) ∵
       split ! $ move ! (1 ∷ []) $ split ! $ move ! (3 ∷ []) $ fsplit ! $ use1 W (‵ Own ⊛ ‵ Own)
-          (shr-slice-copy 𝓤 H A W (named 0) κ u8 .twice s (v ∷ [])) $ split ! $
+      (shr-slice-copy 𝓤 H A W (named 0) κ u8 .twice s (v ∷ [])) $ split ! $
       -- [the sheet; the sheet; the page; κ′'s token; nothing; κ's token]
       move ! (5 ∷ 4 ∷ []) $ join ! $ nothing ! $ move ! (2 ∷ 0 ∷ []) $ fjoin ! $ move ! (1 ∷ 0 ∷ []) $
       use2 W (raw (New 𝓤 H A mem run .pre to-new)) (qed W ((‵ (flft κ q) ⊛ ‵ ftrue) ∷ ‵ (owns (ShrSlice (named 0) κ u8 ∷ []) (s, tt) (v ∷ [], tt)) ∷
-          []) ∵ join ! $ frame ! $ done !) $ frame ! $ frame ! $ frame ! $ done !
+      []) ∵ join ! $ frame ! $ done !) $ frame ! $ frame ! $ frame ! $ done !
 
   new-said : (r : PageReader) → ent 𝓤 (ensured 𝓤 H A new.ended (new.clauses 𝓤 H A mem run) (κ, tt) (s, tt) tt r)
       (fact 𝓤 ((r .sheet ≡ s) × (r .line ≡ 0)))
@@ -136,14 +136,14 @@ module _ {M : Type 1} (𝓤 : URA M) (H : Heap 𝓤) (A : Atoms 𝓤) (W : Given
       -- [the page; κ′'s token; the sheet; the reader; κ's token and nothing]
       move ! (3 ∷ 0 ∷ []) $ fjoin ! $ move ! (3 ∷ []) $ split ! $ move ! (3 ∷ 1 ∷ []) $ join ! $ move ! (1 ∷ 0 ∷ []) $ join ! $
       use2 W (raw (Next 𝓤 H A mem run .pre (to-next r u))) (qed W ((‵ (flft κ q) ⊛ ‵ (flft κ′ q′) ⊛ ‵ ftrue) ∷ ‵
-          (owns (B ∷ MutSlice (named 1) κ′ u8 ∷ []) (r, (x, tt)) (u ∷ [], (p ∷ [], tt))) ∷ []) ∵ join ! $ frame ! $ done !) $ frame ! $ done !
+      (owns (B ∷ MutSlice (named 1) κ′ u8 ∷ []) (r, (x, tt)) (u ∷ [], (p ∷ [], tt))) ∷ []) ∵ join ! $ frame ! $ done !) $ frame ! $ done !
 
   exits : (r : Printed) (u : Val) (zs : List ℕ) → Said s 0 r zs → length zs ≡ length ys
       → ent 𝓤 (⋆ 𝓤 H A (‵ (S.the-row .own r (u ∷ [])) ∷ (‵ (flft κ q) ⊛ ‵ (flft κ′ q′) ⊛ ‵ ftrue) ∷ ‵ Own ∷ ‵ (finally u8 γ zs) ∷ [])) (Post u)
   exits r u zs e l =
       qed W (‵ (S.the-row .own r (u ∷ [])) ∷ (‵ (flft κ q) ⊛ ‵ (flft κ′ q′) ⊛ ‵ ftrue) ∷ ‵ Own ∷ ‵ (finally u8 γ zs) ∷ []) ∵
       suffices ! _ (ends-at 𝓤 H A first.ended stayed (first.clauses 𝓤 H A mem run) W ((κs, (q, (q′, tt)), tt, (s, (x, tt)), vals), tt) u r
-          (tt, (zs, tt)) (tt, (l, tt))) $ says ! e $
+      (tt, (zs, tt)) (tt, (l, tt))) $ says ! e $
       move ! (1 ∷ []) $ frame ! $ nothing ! $ move ! (3 ∷ 0 ∷ []) $ fjoin ! $ move ! (2 ∷ 0 ∷ []) $ fjoin ! $ frame ! $ done !
 
   module _ (C : Calls 𝓤 H) (Λ : Loops 𝓤 H) (fm : FmC 𝓤 H (W .laws) C) (known-new : Triple 𝓤 (C #reader·new) (New 𝓤 H A mem run))
@@ -154,39 +154,41 @@ module _ {M : Type 1} (𝓤 : URA M) (H : Heap 𝓤) (A : Atoms 𝓤) (W : Given
         qed W (raw (onEntry 𝓤 H A first.signature κs (q, (q′, tt)) (s, (x, tt)) vals) ∷ []) ∵ enter ! C Λ code.function (v ∷ p ∷ []) _ $
         alloc1 ! (λ l₀. alloc1 ! (λ l₁. alloc1 ! (λ l₂. alloc1 ! (λ l₃. alloc1 ! (λ l₄. alloc1 ! (λ l₅. alloc0 ! $ params1 ! $
         pass1 ! (init ! 8 refl (shr-slice-lawful 𝓤 H A W (named 0) κ u8 .typed s (v ∷ []) g .0)) $ pass1 !
-            (init ! 6 refl (tt, (tt, (record { fits = room .0 }, tt)))) $ pass0 ! $
+        (init ! 6 refl (tt, (tt, (record { fits = room .0 }, tt)))) $ pass0 ! $
         -- [_5; …; _4; …; _3; …; _2; …; _1; …; room for _0; …; the entry]
         move ! (12 ∷ []) $ use1 W (raw (New 𝓤 H A mem run .pre to-new) ⊛ (‵ Own ⊛ ‵ Page ⊛ ‵ (flft κ′ q′))) goes-new $ split ! $
         calls-at ! fm (New 𝓤 H A mem run) known-new to-new (and-then ! (load ! (from ! (stop !)) (look ! 10 refl)) (no-more !)) (λ u.
         use1 W (later (some (λ (r : PageReader). ((‵ (flft κ q) ⊛ ‵ ftrue) ⊛ ‵ (B .own r (u ∷ []))) ⊛ raw
-            (ensured 𝓤 H A new.ended (new.clauses 𝓤 H A mem run) (κ, tt) (s, tt) tt r)))) (id⊢ 𝓤 _) $ await ! tt $ pick ! (λ r.
+        (ensured 𝓤 H A new.ended (new.clauses 𝓤 H A mem run) (κ, tt) (s, tt) tt r)))) (id⊢ 𝓤 _) $ await ! tt $ pick ! (λ r.
         split ! $ move ! (1 ∷ []) $ use1 W (raw (fact 𝓤 ((r .sheet ≡ s) × (r .line ≡ 0)))) (new-said r) $ heard ! ((r .sheet ≡ s) × (r .line ≡ 0))
-            (λ e. split ! $ move ! (1 ∷ []) $
+        (λ e. split ! $ move ! (1 ∷ []) $
         -- [what the reader owns; κ's token; the sheet, the page and κ′'s token; _5; …; _4; …; room for _3; …; _2; …; _1; …; room for _0; …]
         peeks ! B (Is B) (shows 𝓤 H A B) r (u ∷ []) (λ is.
         land ! (from ! (stop !)) (init ! 7 refl (LL.lawful (T.the-type αᵉ) (T′.the-laws αᵉ) 𝓤 H A W .typed r _ is .0)) $
         assigns ! (addr ! (from ! (fld ! refl (hop ! (look-in ! 9 (sub ! 0 refl (whole !))) (stop !))))) (from ! (stop !)) (init ! 5 refl (tt, tt)) $
         assigns ! (agg ! (and-then ! (load ! (from ! (stop !)) (look ! 5 refl))
-            (and-then ! (load ! (from ! (fld ! refl (stop !))) (look-in ! 9 (sub ! 1 refl (whole !)))) (no-more !)))) (from ! (stop !))
-            (init ! 3 refl (tt, (tt, (record { fits = room .0 }, tt)))) $
+        (and-then ! (load ! (from ! (fld ! refl (stop !))) (look-in ! 9 (sub ! 1 refl (whole !)))) (no-more !)))) (from ! (stop !))
+        (init ! 3 refl (tt, (tt, (record { fits = room .0 }, tt)))) $
         join ! $ use2 W (raw (Next 𝓤 H A mem run .pre (to-next r u)) ⊛ ‵ Own) (goes-next r u) $ split ! $
         calls-at ! fm (Next 𝓤 H A mem run) known-next (to-next r u) (and-then ! (load ! (from ! (stop !)) (look ! 6 refl))
-            (and-then ! (load ! (from ! (stop !)) (look ! 2 refl)) (no-more !))) (λ u′.
+        (and-then ! (load ! (from ! (stop !)) (look ! 2 refl)) (no-more !))) (λ u′.
         use1 W (later (some (λ (t : Printed). ((‵ (flft κ q) ⊛ ‵ (flft κ′ q′) ⊛ ‵ ftrue) ⊛ ‵ (S.the-row .own t (u′ ∷ []))) ⊛ raw
-            (ensured 𝓤 H A next.ended (next.clauses 𝓤 H A mem run) κs (r, (x, tt)) tt t)))) (id⊢ 𝓤 _) $ await ! tt $ pick ! (λ t.
+        (ensured 𝓤 H A next.ended (next.clauses 𝓤 H A mem run) κs (r, (x, tt)) tt t)))) (id⊢ 𝓤 _) $ await ! tt $ pick ! (λ t.
         split ! $ move ! (1 ∷ []) $ use1 W (some (λ (zs : Unit {0} × (List ℕ × Unit {0})). ‵ (lasts next.ended κs (r, (x, tt)) zs) ⊛ raw
-            (fact 𝓤 (Said (r .sheet) (r .line) t (zs .1 .0))))) (id⊢ 𝓤 _) $ pick ! (λ zs.
+        (fact 𝓤 (Said (r .sheet) (r .line) t (zs .1 .0))))) (id⊢ 𝓤 _) $ pick ! (λ zs.
         split ! $ move ! (1 ∷ []) $ heard ! (Said (r .sheet) (r .line) t (zs .1 .0))
-            (λ e′. fsplit ! $ drop ! $ fsplit ! $ fsplit ! $ move ! (1 ∷ []) $ feqL ! (λ l.
+        (λ e′. fsplit ! $ drop ! $ fsplit ! $ fsplit ! $ move ! (1 ∷ []) $ feqL ! (λ l.
         move ! (2 ∷ []) $ split ! $ move ! (1 ∷ []) $
         peeks ! S.the-row (Is S.the-row) (shows 𝓤 H A S.the-row) t (u′ ∷ []) (λ is′.
         land ! (from ! (stop !)) (init ! 15 refl (LL.lawful S.the-type S′.the-laws 𝓤 H A W .typed t _ is′ .0)) $
         returns ! (look ! 15 refl) $ forget ! 5 refl $ forget ! 7 refl $ forget ! 9 refl $ forget ! 11 refl $ forget ! 13 refl $ forget ! 15 refl $
         move ! (15 ∷ 16 ∷ []) $ free1 ! $ move ! (13 ∷ 14 ∷ []) $ free1 ! $ move ! (11 ∷ 12 ∷ []) $ free1 ! $ move ! (9 ∷ 10 ∷ []) $ free1 ! $ move !
-            (7 ∷ 8 ∷ []) $ free1 ! $ move ! (5 ∷ 6 ∷ []) $ free1 ! $ free0 ! $
-        keep ! (0 ∷ 1 ∷ 4 ∷ 2 ∷ []) $ by ! (exits t u′ (zs .1 .0)
-        (e′ .0 ∙ ap₂ (λ (y : RefT (List ℕ)) (k : ℕ). printLine (now y) k ys .answer) (e .0) (e .1), e′ .1 ∙ ap₂
-            (λ (y : RefT (List ℕ)) (k : ℕ). printLine (now y) k ys .buffer) (e .0) (e .1)) l)))))))))))))))))
+        (7 ∷ 8 ∷ []) $ free1 ! $ move ! (5 ∷ 6 ∷ []) $ free1 ! $ free0 ! $
+        keep ! (0 ∷ 1 ∷ 4 ∷ 2 ∷ []) $ by ! (exits t u′ (zs .1 .0) (
+          e′ .0 ∙ ap₂ (λ (y : RefT (List ℕ)) (k : ℕ). printLine (now y) k ys .answer) (e .0) (e .1),
+          e′ .1 ∙ ap₂
+              (λ (y : RefT (List ℕ)) (k : ℕ). printLine (now y) k ys .buffer) (e .0) (e .1),
+        ) l)))))))))))))))))
 
 module _ {M : Type 1} (𝓤 : URA M) (H : Heap 𝓤) (A : Atoms 𝓤) (W : Given 𝓤 H A) (mem : Memory → SProp 𝓤) (run : Routine → Fun 𝓤) where
   first-walks : (C : Calls 𝓤 H) (Λ : Loops 𝓤 H) → FmC 𝓤 H (W .laws) C → Triple 𝓤 (C #reader·new) (New 𝓤 H A mem run) → Triple 𝓤 (C #reader·next)
@@ -195,7 +197,7 @@ module _ {M : Type 1} (𝓤 : URA M) (H : Heap 𝓤) (A : Atoms 𝓤) (W : Given
   first-walks C Λ fm known-new known-next = walked 𝓤 H A first.ended stayed (first.clauses 𝓤 H A mem run) (WpFn 𝓤 H C Λ code.function)
       (λ κs. (slice-vals, (slice-vals, tt))) (λ κs. (shr-slice-tells (named 0) (κs .0) u8, (mut-slice-tells (named 1) (κs .1 .0) u8, tt)))
       (λ κs qs bounds a g are. via 𝓤 _ (fst∗ 𝓤 _ (emp 𝓤)) (walk 𝓤 H A W mem run (κs .0) (κs .1 .0) (qs .0) (qs .1 .0) (a .0) (a .1 .0 .ptr .0)
-          (a .1 .0 .ptr .1) (a .1 .0 .name) (a .1 .0 .now) C Λ fm known-new known-next (are .0) (are .1 .0 .0 .1)))
+      (a .1 .0 .ptr .1) (a .1 .0 .name) (a .1 .0 .now) C Λ fm known-new known-next (are .0) (are .1 .0 .0 .1)))
 
 first-meets : {M : Type 1} (𝓤 : URA M) (H : Heap 𝓤) (A : Atoms 𝓤) (W : Given 𝓤 H A) (mem : Memory → SProp 𝓤) (run : Routine → Fun 𝓤) (𝓣 : Tables 𝓤 H)
     → Triple 𝓤 (𝓣 .C #reader·new) (New 𝓤 H A mem run) → Triple 𝓤 (𝓣 .C #reader·next) (Next 𝓤 H A mem run)

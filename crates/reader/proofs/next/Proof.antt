@@ -129,11 +129,11 @@ module _ {M : Type 1} (𝓤 : URA M) (H : Heap 𝓤) (A : Atoms 𝓤) (W : Given
       qed W ((‵ (flft κ q) ⊛ ‵ (flft κ′ q′) ⊛ ‵ ftrue) ∷ ‵ (owns (B κs ∷ MutSlice (named 1) κ′ u8 ∷ []) (d, (x, tt)) vals) ∷ []) ∵
       move ! (1 ∷ []) $ fsplit ! $ use1 W (‵ Own ⊛ ‵ Own) (LL.copy (D κs) (T′.the-copy (namedLft 2 0 tt κs)) 𝓤 H A W .twice d (mach ∷ [])) $ split ! $
       use1 W (given (mach ∷ [] ≡ mach ∷ []) (‵ (all-own (D κs .parts) (L κs) vd))) (own-open 𝓤 H A W (D κs) (L κs) vd mach) $ learn !
-          (λ _. use1 W (‵ (ownAt (D κs .parts) (L κs) 0 (d .sheet)) ⊛ ‵ (rest (D κs .parts) (L κs) 0 vd)) (own-out 𝓤 H A W (D κs .parts) (L κs) 0 vd)
-          $ split ! $
+      (λ _. use1 W (‵ (ownAt (D κs .parts) (L κs) 0 (d .sheet)) ⊛ ‵ (rest (D κs .parts) (L κs) 0 vd)) (own-out 𝓤 H A W (D κs .parts) (L κs) 0 vd)
+      $ split ! $
       -- [what sheet owns; what line owns; what the struct owns; what the page owns; the tokens]
       move ! (1 ∷ []) $ drop ! $ move ! (2 ∷ []) $ owned ! usize (Is usize) (uint-makes 𝓤 H A W w64) (d .line) _ (refl, fits) $ fjoin ! $ move !
-          (1 ∷ 0 ∷ []) $ fjoin ! $
+      (1 ∷ 0 ∷ []) $ fjoin ! $
       move ! (2 ∷ 0 ∷ []) $ use2 W (raw (LineAt 𝓤 H A mem run .pre to)) asked $ frame ! $ done !)
 
   exits : (r : Printed) (u : Val) (zs : List ℕ) → Said r zs → length zs ≡ length ys
@@ -141,7 +141,7 @@ module _ {M : Type 1} (𝓤 : URA M) (H : Heap 𝓤) (A : Atoms 𝓤) (W : Given
   exits r u zs e l =
       qed W (‵ (S.the-row .own r (u ∷ [])) ∷ (‵ (flft κ q) ⊛ ‵ (flft κ′ q′) ⊛ ‵ ftrue) ∷ ‵ Own ∷ ‵ (finally u8 γ zs) ∷ []) ∵
       suffices ! _ (ends-at 𝓤 H A next.ended stayed (next.clauses 𝓤 H A mem run) W ((κs, (q, (q′, tt)), tt, (d, (x, tt)), vals), tt) u r
-          (tt, (zs, tt)) (tt, (l, tt))) $ says ! e $
+      (tt, (zs, tt)) (tt, (l, tt))) $ says ! e $
       move ! (1 ∷ []) $ frame ! $ nothing ! $ move ! (3 ∷ 0 ∷ []) $ fjoin ! $ move ! (2 ∷ 0 ∷ []) $ fjoin ! $ frame ! $ done !
 
   module _ (C : Calls 𝓤 H) (Λ : Loops 𝓤 H) (fm : FmC 𝓤 H (W .laws) C) (known : Triple 𝓤 (C #reader·line-at) (LineAt 𝓤 H A mem run)) where
@@ -153,31 +153,31 @@ module _ {M : Type 1} (𝓤 : URA M) (H : Heap 𝓤) (A : Atoms 𝓤) (W : Given
         pass1 ! (init ! 10 refl wt) $ pass1 ! (init ! 8 refl (tt, (tt, (record { fits = room .0 }, tt)))) $ pass0 ! $
         -- [_6; …; _5; …; _4; …; _3; …; _2; …; _1; …; room for _0; …; the entry]
         assigns ! (of-opd ! (load ! (from ! (fld ! refl (stop !))) (look-in ! 10 (sub ! 0 refl (whole !))))) (from ! (stop !))
-            (init ! 6 refl (tt, wt .1 .0)) $
+        (init ! 6 refl (tt, wt .1 .0)) $
         assigns ! (of-opd ! (load ! (from ! (fld ! refl (stop !))) (look-in ! 10 (sub ! 1 refl (whole !))))) (from ! (stop !))
-            (init ! 4 refl (tt, wt .1 .1 .0)) $
+        (init ! 4 refl (tt, wt .1 .1 .0)) $
         assigns ! (addr ! (from ! (fld ! refl (hop ! (look-in ! 8 (sub ! 0 refl (whole !))) (stop !))))) (from ! (stop !)) (init ! 2 refl (tt, tt)) $
         assigns ! (agg ! (and-then ! (load ! (from ! (stop !)) (look ! 2 refl))
-            (and-then ! (load ! (from ! (fld ! refl (stop !))) (look-in ! 8 (sub ! 1 refl (whole !)))) (no-more !)))) (from ! (stop !))
-            (init ! 0 refl (tt, (tt, (record { fits = room .0 }, tt)))) $
+        (and-then ! (load ! (from ! (fld ! refl (stop !))) (look-in ! 8 (sub ! 1 refl (whole !)))) (no-more !)))) (from ! (stop !))
+        (init ! 0 refl (tt, (tt, (record { fits = room .0 }, tt)))) $
         move ! (14 ∷ []) $ use1 W (raw (LineAt 𝓤 H A mem run .pre to) ⊛ ‵ Own) (apart (wt .1 .1 .0 .fits)) $ split ! $
         calls-at ! fm (LineAt 𝓤 H A mem run) known to (and-then ! (load ! (from ! (stop !)) (look ! 8 refl))
-            (and-then ! (load ! (from ! (stop !)) (look ! 6 refl)) (and-then ! (load ! (from ! (stop !)) (look ! 2 refl)) (no-more !)))) (λ u.
+        (and-then ! (load ! (from ! (stop !)) (look ! 6 refl)) (and-then ! (load ! (from ! (stop !)) (look ! 2 refl)) (no-more !)))) (λ u.
         use1 W (later (some (λ (r : Printed). ((‵ (flft κ q) ⊛ ‵ (flft κ′ q′) ⊛ ‵ ftrue) ⊛ ‵ (S.the-row .own r (u ∷ []))) ⊛ raw
-            (ensured 𝓤 H A line.ended (line.clauses 𝓤 H A mem run) κs (d .sheet, (d .line, (x, tt))) tt r)))) (id⊢ 𝓤 _) $ await ! tt $ pick ! (λ r.
+        (ensured 𝓤 H A line.ended (line.clauses 𝓤 H A mem run) κs (d .sheet, (d .line, (x, tt))) tt r)))) (id⊢ 𝓤 _) $ await ! tt $ pick ! (λ r.
         -- what `line_at` ensures, at some last list
         split ! $ move ! (1 ∷ []) $ use1 W (some (λ (zs : Unit {0} × (Unit {0} × (List ℕ × Unit {0}))). ‵
-            (lasts line.ended κs (d .sheet, (d .line, (x, tt))) zs) ⊛ raw (fact 𝓤 (Said r (zs .1 .1 .0))))) (id⊢ 𝓤 _) $ pick ! (λ zs.
+        (lasts line.ended κs (d .sheet, (d .line, (x, tt))) zs) ⊛ raw (fact 𝓤 (Said r (zs .1 .1 .0))))) (id⊢ 𝓤 _) $ pick ! (λ zs.
         split ! $ move ! (1 ∷ []) $ heard ! (Said r (zs .1 .1 .0)) (λ e. fsplit ! $ drop ! $ fsplit ! $ drop ! $ fsplit ! $ fsplit ! $ move ! (1 ∷ [])
-            $ feqL ! (λ l.
+        $ feqL ! (λ l.
         -- [the last list; …; the tokens and the result; what the struct owns; …]
         move ! (2 ∷ []) $ split ! $ move ! (1 ∷ []) $
         peeks ! S.the-row (Is S.the-row) (shows 𝓤 H A S.the-row) r (u ∷ []) (λ is.
         land ! (from ! (stop !)) (init ! 17 refl (LL.lawful S.the-type S′.the-laws 𝓤 H A W .typed r _ is .0)) $
         returns ! (look ! 17 refl) $ forget ! 5 refl $ forget ! 7 refl $ forget ! 9 refl $ forget ! 11 refl $ forget ! 13 refl $ forget ! 15 refl $
-            forget ! 17 refl $
+        forget ! 17 refl $
         move ! (17 ∷ 18 ∷ []) $ free1 ! $ move ! (15 ∷ 16 ∷ []) $ free1 ! $ move ! (13 ∷ 14 ∷ []) $ free1 ! $ move ! (11 ∷ 12 ∷ []) $ free1 ! $ move !
-            (9 ∷ 10 ∷ []) $ free1 ! $ move ! (7 ∷ 8 ∷ []) $ free1 ! $ move ! (5 ∷ 6 ∷ []) $ free1 ! $ free0 ! $
+        (9 ∷ 10 ∷ []) $ free1 ! $ move ! (7 ∷ 8 ∷ []) $ free1 ! $ move ! (5 ∷ 6 ∷ []) $ free1 ! $ free0 ! $
         keep ! (0 ∷ 1 ∷ 4 ∷ 2 ∷ []) $ by ! (exits r u (zs .1 .1 .0) e l))))))))))))))
 
 module _ {M : Type 1} (𝓤 : URA M) (H : Heap 𝓤) (A : Atoms 𝓤) (W : Given 𝓤 H A) (mem : Memory → SProp 𝓤) (run : Routine → Fun 𝓤) where
@@ -186,8 +186,8 @@ module _ {M : Type 1} (𝓤 : URA M) (H : Heap 𝓤) (A : Atoms 𝓤) (W : Given
   next-walks C Λ fm known = walked 𝓤 H A next.ended stayed (next.clauses 𝓤 H A mem run) (WpFn 𝓤 H C Λ code.function)
       (λ κs. (LL.vals (D κs) (L κs), (slice-vals, tt))) (λ κs. (LL.tells (D κs) (L κs), (mut-slice-tells (named 1) (κs .1 .0) u8, tt)))
       (λ κs qs bounds a g are. via 𝓤 _ (fst∗ 𝓤 _ (emp 𝓤)) (walk 𝓤 H A W mem run (κs .0) (κs .1 .0) (qs .0) (qs .1 .0) (a .0) (a .1 .0 .ptr .0)
-          (a .1 .0 .ptr .1) (a .1 .0 .name) (a .1 .0 .now) C Λ fm known (LL.lawful (D κs) (L κs) 𝓤 H A W .typed (a .0) _ (are .0) .0)
-          (are .1 .0 .0 .1)))
+      (a .1 .0 .ptr .1) (a .1 .0 .name) (a .1 .0 .now) C Λ fm known (LL.lawful (D κs) (L κs) 𝓤 H A W .typed (a .0) _ (are .0) .0)
+      (are .1 .0 .0 .1)))
 
 next-meets : {M : Type 1} (𝓤 : URA M) (H : Heap 𝓤) (A : Atoms 𝓤) (W : Given 𝓤 H A) (mem : Memory → SProp 𝓤) (run : Routine → Fun 𝓤) (𝓣 : Tables 𝓤 H)
     → Triple 𝓤 (𝓣 .C #reader·line-at) (LineAt 𝓤 H A mem run)
@@ -204,4 +204,4 @@ next-spec 𝓤 H 𝓜 𝓖 𝓡 =
     (tables 𝓤 H 𝓜 𝓡 code.env .C) (tables 𝓤 H 𝓜 𝓡 code.env .Λ) #reader·next code.function (code.unfolded 𝓤 H 𝓜 𝓡)
     (next-meets 𝓤 H (𝓖 .A) (givenOf 𝓤 H 𝓜 𝓖) (𝓜 .mem) (𝓡 .run) (tablesOf 𝓤 H 𝓜 (tables 𝓤 H 𝓜 𝓡 code.env))
     (cited 𝓤 H (LineAt 𝓤 H (𝓖 .A) (𝓜 .mem) (𝓡 .run)) 𝓜 𝓡 code.env #reader·line-at line-def.routine code.calls-reader·line-at
-        (line-thm.met 𝓤 H 𝓜 𝓖 𝓡)))
+    (line-thm.met 𝓤 H 𝓜 𝓖 𝓡)))

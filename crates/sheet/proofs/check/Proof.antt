@@ -16,4 +16,4 @@ check-spec =
     (λ c κs. search needs)
     (λ c κs. search needs)
     (λ c. rw (c .answer .ensures, c .before .ended .ensures, c .before .before .body .ensures, c .before .before .before .head .ensures)
-        (sym (check-short _ (omega arith)))))
+    (sym (check-short _ (omega arith)))))

@@ -17,5 +17,11 @@ head-spec =
     (λ c κs. search needs)
     (λ c κs. search needs)
     (λ c κs. search needs)
-    (λ c. rw (c .style .ensures, c .before .text .ensures, c .before .before .printable-or-zero .ensures, c .before .before .before .word .ensures,
-        c .before .before .before .before .within2 .ensures, c .before .before .before .before .before .within .ensures)))
+    (λ c. rw (
+      c .style .ensures,
+      c .before .text .ensures,
+      c .before .before .printable-or-zero .ensures,
+      c .before .before .before .word .ensures,
+      c .before .before .before .before .within2 .ensures,
+      c .before .before .before .before .before .within .ensures,
+    )))

@@ -24,8 +24,8 @@ draw-line-spec =
     μ-loop
     (λ c κs. let s = c .before .before in omega (arith, s .pre .1, rule-length (viewOf (now (s .args .columns)) (s .args .count)) (s .args .style)))
     (λ c. let s = c .before .before .before .before .before in
-        ruling-begins (viewOf (now (s .args .columns)) (s .args .count)) (s .args .style) (c .before .before .draw-edge .last .0)
-        (c .before .before .draw-edge .result))
+    ruling-begins (viewOf (now (s .args .columns)) (s .args .count)) (s .args .style) (c .before .before .draw-edge .last .0)
+    (c .before .before .draw-edge .result))
     (λ c. omega (arith, c .before .before .before .before .before .before .before .pre .0 .most))
     (λ c. omega (arith, c .before .before .before .before .before .before .before .pre .0 .most))
     (λ c κs. search needs)
@@ -43,8 +43,11 @@ draw-line-spec =
           (omega (arith, s .pre .1, e .ensures .0, e .kept .0, rule-length (viewOf (now (a .columns)) (a .count)) (a .style)))
           (l .page) (l .at) (l .i) (l .inv) h _ _ (c .before .before .column-from .ensures) (c .before .joins-before .ensures),
     ))
-    (λ c. omega (arith, c .before .before .before .before .before .before .before .before .before .before .before .before .before .before .pre .0
-        .most))
+    (λ c. omega (
+      arith,
+      c .before .before .before .before .before .before .before .before .before .before .before .before .before .before .pre .0
+          .most,
+    ))
     (λ c. omega arith)
     (λ c.
     let s = c .before .before .before .before .before .before .before .before .before .before .before .before .before .before in
@@ -53,17 +56,17 @@ draw-line-spec =
     let e = c .before .before .before .before .before .before .before .before .before .before .before .draw-edge in
     let d = c .before .before .draw-fill in
     fill-on (now (a .columns)) (a .count) (a .style) (e .last .0) (e .result)
-        (omega (arith, s .pre .1, e .ensures .0, e .kept .0, rule-length (viewOf (now (a .columns)) (a .count)) (a .style)))
+    (omega (arith, s .pre .1, e .ensures .0, e .kept .0, rule-length (viewOf (now (a .columns)) (a .count)) (a .style)))
     (l .page) (l .at) (l .i) (l .inv) (c .before .before .before .before .before .before .before .loop-test .taken) _ _
-        (c .before .before .before .before .before .column-from .ensures) (c .before .before .before .before .joins-before .ensures) (d .last .0)
-        (d .result) (d .ensures .0) (d .ensures .1) (d .kept .0))
+    (c .before .before .before .before .before .column-from .ensures) (c .before .before .before .before .joins-before .ensures) (d .last .0)
+    (d .result) (d .ensures .0) (d .ensures .1) (d .kept .0))
     (λ c κs.
     let s = c .before .before .before .before .before .before .before .before in
     let a = s .args in
     let l = c .before .before .loop in
     let e = c .before .before .before .before .before .draw-edge in
     let D = ruling-done (viewOf (now (a .columns)) (a .count)) (a .style) (e .last .0) (e .result) (l .page) (l .at) (l .i) (l .inv)
-          (c .before .loop-test .left) in
+    (c .before .loop-test .left) in
     omega (arith, D .place, D .size, s .pre .1, e .ensures .0, e .kept .0, rule-length (viewOf (now (a .columns)) (a .count)) (a .style)))
     (λ c.
     let s = c .before .before .before .before .before .before .before .before .before .before .before in
@@ -72,9 +75,19 @@ draw-line-spec =
     let e = c .before .before .before .before .before .before .before .before .draw-edge in
     let f = c .before .before .draw-edge2 in
     let D = ruling-done (viewOf (now (a .columns)) (a .count)) (a .style) (e .last .0) (e .result) (l .page) (l .at) (l .i) (l .inv)
-          (c .before .before .before .before .loop-test .left) in
-    omega (arith, D .place, D .size, s .pre .1, e .ensures .0, e .kept .0, f .ensures .0, f .kept .0, rule-length
-        (viewOf (now (a .columns)) (a .count)) (a .style)))
+    (c .before .before .before .before .loop-test .left) in
+    omega (
+      arith,
+      D .place,
+      D .size,
+      s .pre .1,
+      e .ensures .0,
+      e .kept .0,
+      f .ensures .0,
+      f .kept .0,
+      rule-length
+          (viewOf (now (a .columns)) (a .count)) (a .style),
+    ))
     (λ c.
     let s = c .before .before .before .before .before .before .before .before .before .before .before in
     let a = s .args in
@@ -82,16 +95,26 @@ draw-line-spec =
     let e = c .before .before .before .before .before .before .before .before .draw-edge in
     let f = c .before .before .draw-edge2 in
     let D = ruling-done (viewOf (now (a .columns)) (a .count)) (a .style) (e .last .0) (e .result) (l .page) (l .at) (l .i) (l .inv)
-          (c .before .before .before .before .loop-test .left) in
-    omega (arith, s .good, D .place, D .size, s .pre .1, e .ensures .0, e .kept .0, f .ensures .0, rule-length (viewOf (now (a .columns)) (a .count))
-        (a .style)))
+    (c .before .before .before .before .loop-test .left) in
+    omega (
+      arith,
+      s .good,
+      D .place,
+      D .size,
+      s .pre .1,
+      e .ensures .0,
+      e .kept .0,
+      f .ensures .0,
+      rule-length (viewOf (now (a .columns)) (a .count))
+          (a .style),
+    ))
     (λ c.
     let a = c .before .before .before .before .before .before .before .before .before .before .before .args in
     let l = c .before .before .before .before .before .loop in
     let e = c .before .before .before .before .before .before .before .before .draw-edge in
     let f = c .before .before .draw-edge2 in
     let D = ruling-done (viewOf (now (a .columns)) (a .count)) (a .style) (e .last .0) (e .result) (l .page) (l .at) (l .i) (l .inv)
-          (c .before .before .before .before .loop-test .left) in
+    (c .before .before .before .before .loop-test .left) in
     simp length-set (omega (arith, D .size, e .kept .0, f .kept .0)))
     (λ c.
     let s = c .before .before .before .before .before .before .before .before .before .before .before in
@@ -102,7 +125,7 @@ draw-line-spec =
     let f = c .before .before .draw-edge2 in
     let z = rule-length (viewOf (now (a .columns)) (a .count)) (a .style) in
     let D = ruling-done (viewOf (now (a .columns)) (a .count)) (a .style) (e .last .0) (e .result) (l .page) (l .at) (l .i) (l .inv)
-          (c .before .before .before .before .loop-test .left) in (
+    (c .before .before .before .before .loop-test .left) in (
       omega (arith, D .place, e .ensures .0, f .ensures .0, z),
       rule-whole (viewOf (now (a .columns)) (a .count)) (a .style) (now (a .page)) (e .last .0) (l .page) (f .last .0) (e .result) (l .at) (f .result)
           (e .ensures .1) (D .text) (f .ensures .1) (omega (arith, e .ensures .0)) (sym (D .place)) (sym (f .ensures .0))

@@ -29,11 +29,11 @@ align-line-spec =
     let k₁ = c .before .before .before .before .before .before .before .before .before .before .before .copy in
     let f₁ = c .before .before .before .before .before .before .before .before .before .before .before .before .before .before .before .fill in
     let b = c .before .before .before .before .before .before .before .before .before .before .before .before .before .before .before .before .before
-          .before .spaces-before in
+    .before .spaces-before in
     let p = c .before .before .before .before .before .before .before .before .before .before .before .before .before .before .before .before .before
-          .before .before .spare-columns in
+    .before .before .spare-columns in
     let s = c .before .before .before .before .before .before .before .before .before .before .before .before .before .before .before .before .before
-          .before .before .before .before .before .before in
+    .before .before .before .before .before .before in
     let a = s .args in
     let t = now (a .text) in
     let m = now (a .marks) in (
@@ -42,6 +42,6 @@ align-line-spec =
           (f₁ .last .0) (k₁ .last .0) (k₂ .last .0) (f₂ .last .0) (f₁ .result) (k₁ .result) (k₂ .result)
           (f₁ .ensures .1) (k₁ .ensures .1) (k₂ .ensures .1) (f₂ .ensures .1)
           (omega (arith, f₁ .ensures .0, length-replicate {A = ℕ} (a .v .left + b .result) 32)) (sym (k₁ .ensures .0)) (sym (k₂ .ensures .0))
-              (omega (arith, s .pre))
+          (omega (arith, s .pre))
           ∙ ap (putAt (now (a .page)) (a .at)) (area-is (a .v) (a .alignment) t m (p .result) (b .result) (p .ensures .0) (b .ensures .0)),
     )))

@@ -29,15 +29,18 @@ draw-cell-spec =
     let m = c .before .before .before .before .before .before .before .before .marks-shown in
     let p = c .before .before .before .before .before .before .before .before .before .before .before .pre .0 in
     rw (c .before .before .before .before .line-at .ensures) (shown-within _ _ _ (p .0)
-        (c .before .before .before .before .before .before .before .before .before .before .before .args .indicator .characters) _ (p .1) (m .result)
-        _ (m .ensures .1 .0) (ap (λ (i : ℕ).
-        c .before .before .before .before .before .before .before .before .before .before .before .args .t .line .start + i) (l .ensures)) .1))
+    (c .before .before .before .before .before .before .before .before .before .before .before .args .indicator .characters) _ (p .1) (m .result)
+    _ (m .ensures .1 .0) (ap (λ (i : ℕ).
+    c .before .before .before .before .before .before .before .before .before .before .before .args .t .line .start + i) (l .ensures)) .1))
     (λ c. search needs)
     (λ c. let m = c .before .before .before .before .before .before .before .before .before .before .marks-shown in
-        sym (length-take-le (m .result)
-        (c .before .before .before .before .before .before .before .before .before .before .before .before .before .args .indicator .characters)
-        (omega (arith, m .ensures .1 .0,
-        c .before .before .before .before .before .before .before .before .before .before .before .before .before .pre .0 .1))))
+    sym (length-take-le (m .result)
+    (c .before .before .before .before .before .before .before .before .before .before .before .before .before .args .indicator .characters)
+    (omega (
+      arith,
+      m .ensures .1 .0,
+      c .before .before .before .before .before .before .before .before .before .before .before .before .before .pre .0 .1,
+    ))))
     (λ c κs.
     let l = c .before .before .before .before .lesser in
     let m = c .before .before .before .before .before .before .before .before .before .before .marks-shown in
@@ -45,7 +48,7 @@ draw-cell-spec =
     let a = s .args in (
       rw (c .before .before .before .before .before .before .line-at .ensures)
           (shown-fits _ _ _ (s .pre .0 .0) _ _ (s .pre .0 .1) (m .result) _ (m .ensures .1 .0) (ap (λ (i : ℕ). a .t .line .start + i) (l .ensures))
-              (m .ensures .1 .1)),
+          (m .ensures .1 .1)),
       s .pre .1,
     ))
     (λ c. search needs)
@@ -59,5 +62,5 @@ draw-cell-spec =
       n .ensures .1 ∙ ap (λ l. putAt (now (a .page)) (a .at) (areaIn (a .v) (a .t .alignment) l))
           (rw (c .before .before .before .before .before .before .before .before .before .line-at .ensures)
           (shown-is _ _ _ (s .pre .0 .0) _ _ (s .pre .0 .1) (m .result) _ (m .ensures .1 .0) (ap (λ (i : ℕ). a .t .line .start + i) (l .ensures))
-              (a .cut) (m .ensures .0))),
+          (a .cut) (m .ensures .0))),
     )))

@@ -30,6 +30,6 @@ draw-column-spec =
       two (now (a .page)) (a .at) (edge (a .joins) (a .junction)) (columnPiece (now (a .sheet)) (a .v) (a .t) ind (a .last))
           (e .last .0) (d .last .0) (e .result) (e .ensures .1)
           (d .ensures .1 ∙ ap (putAt (e .last .0) (e .result)) (piece-is (now (a .sheet)) (a .v) (a .t) (n .result) ind (a .last) (b .result)
-              (b .ensures) (n .ensures)))
+          (b .ensures) (n .ensures)))
           (sym (e .ensures .0)) (omega (arith, s .pre .1)),
     )))

@@ -31,14 +31,14 @@ draw-row-spec =
     μ-loop
     (λ c κs. (c .before .before .before .pre .0 .0, refl))
     (λ c. λ r e Z S. let s = c .before .before .before .before in let a = s .args in
-        running-begins (now (a .sheet)) (viewOf (now (a .columns)) (a .count)) (a .style) r (a .first) (s .pre .0 .0 .views) (now (a .page)) _ _ S)
+    running-begins (now (a .sheet)) (viewOf (now (a .columns)) (a .count)) (a .style) r (a .first) (s .pre .0 .0 .views) (now (a .page)) _ _ S)
     (λ c.
     let s = c .before .before .before .before .before in
     let a = s .args in
     let l = c .loop in
     let G = l .inv (firstRow (now (a .sheet)) (a .here)) (c .before .enter-row .ensures .limit) (s .pre .1) (c .before .enter-row .ensures .stands) in
     running-room (now (a .sheet)) (viewOf (now (a .columns)) (a .count)) (a .style) (firstRow (now (a .sheet)) (a .here)) (a .first)
-        (s .pre .0 .0 .views) (now (a .page)) (l .page) (pendingsOf (l .state)) (l .more) (l .at) (l .line) G)
+    (s .pre .0 .0 .views) (now (a .page)) (l .page) (pendingsOf (l .state)) (l .more) (l .at) (l .line) G)
     (λ c κs. search needs)
     (λ c κs. search needs)
     (λ c.
@@ -46,89 +46,117 @@ draw-row-spec =
     let a = s .args in
     let l = c .before .before .before .loop in
     let G = l .inv (firstRow (now (a .sheet)) (a .here)) (c .before .before .before .before .enter-row .ensures .limit) (s .pre .1)
-          (c .before .before .before .before .enter-row .ensures .stands) in
+    (c .before .before .before .before .enter-row .ensures .stands) in
     running-room (now (a .sheet)) (viewOf (now (a .columns)) (a .count)) (a .style) (firstRow (now (a .sheet)) (a .here)) (a .first)
-        (s .pre .0 .0 .views) (now (a .page)) (l .page) (pendingsOf (l .state)) (l .more) (l .at) (l .line) G)
+    (s .pre .0 .0 .views) (now (a .page)) (l .page) (pendingsOf (l .state)) (l .more) (l .at) (l .line) G)
     (λ c.
     let s = c .before .before .before .before .before .before .before .before in
     let a = s .args in
     let l = c .before .before .before .loop in
     let G = l .inv (firstRow (now (a .sheet)) (a .here)) (c .before .before .before .before .enter-row .ensures .limit) (s .pre .1)
-          (c .before .before .before .before .enter-row .ensures .stands) in
+    (c .before .before .before .before .enter-row .ensures .stands) in
     running-room (now (a .sheet)) (viewOf (now (a .columns)) (a .count)) (a .style) (firstRow (now (a .sheet)) (a .here)) (a .first)
-        (s .pre .0 .0 .views) (now (a .page)) (l .page) (pendingsOf (l .state)) (l .more) (l .at) (l .line) G)
+    (s .pre .0 .0 .views) (now (a .page)) (l .page) (pendingsOf (l .state)) (l .more) (l .at) (l .line) G)
     (λ c. search needs)
     (λ c κs.
     let s = c .before .before .before .before .before .before .before .before .before .before in
     let a = s .args in
     let l = c .before .before .before .before .before .loop in
     let G = l .inv (firstRow (now (a .sheet)) (a .here)) (c .before .before .before .before .before .before .enter-row .ensures .limit) (s .pre .1)
-          (c .before .before .before .before .before .before .enter-row .ensures .stands) in
+    (c .before .before .before .before .before .before .enter-row .ensures .stands) in
     let g = goes (l .more) (c .before .before .before .before .goes-on .result) (a .size) _ (c .before .before .before .before .goes-on .ensures)
-          (c .before .before .before .if1 .taken) in
+    (c .before .before .before .if1 .taken) in
     let last = c .before .before .is-last in
     let room = lent (l .page) (l .at) in (
-      (stands-drawn (now (a .sheet)) (viewOf (now (a .columns)) (a .count)) (firstRow (now (a .sheet)) (a .here)) (s .pre .0 .0 .views) (l .line)
-          (l .more) (pendingsOf (l .state)) (G .stands) (g .0), s .pre .0 .1 .within),
-      omega (arith, line-size (now (a .sheet)) (viewOf (now (a .columns)) (a .count)) (a .style) (firstRow (now (a .sheet)) (a .here)) (a .first)
-          (s .pre .0 .0 .views) (now (a .page)) (l .page) (pendingsOf (l .state)) (l .more) (l .at) (l .line) G (g .0) (a .indicator) (s .pre .0 .1) _
-          (c .before .before .before .before .before .before .enter-row .ensures .limit) (last .result) (last .ensures) (a .size) (s .pre .1), g .1,
-          ap length room, length-drop (l .at) (l .page)),
+      (
+        stands-drawn (now (a .sheet)) (viewOf (now (a .columns)) (a .count)) (firstRow (now (a .sheet)) (a .here)) (s .pre .0 .0 .views) (l .line)
+            (l .more) (pendingsOf (l .state)) (G .stands) (g .0),
+        s .pre .0 .1 .within,
+      ),
+      omega (
+        arith,
+        line-size (now (a .sheet)) (viewOf (now (a .columns)) (a .count)) (a .style) (firstRow (now (a .sheet)) (a .here)) (a .first)
+            (s .pre .0 .0 .views) (now (a .page)) (l .page) (pendingsOf (l .state)) (l .more) (l .at) (l .line) G (g .0) (a .indicator) (s .pre .0 .1) _
+            (c .before .before .before .before .before .before .enter-row .ensures .limit) (last .result) (last .ensures) (a .size) (s .pre .1),
+        g .1,
+        ap length room,
+        length-drop (l .at) (l .page),
+      ),
     ))
     (λ c.
     let s = c .before .before .before .before .before .before .before .before .before .before .before .before .before .before in
     let a = s .args in
     let l = c .before .before .before .before .before .before .before .before .before .loop in
     let G = l .inv (firstRow (now (a .sheet)) (a .here))
-          (c .before .before .before .before .before .before .before .before .before .before .enter-row .ensures .limit) (s .pre .1)
-          (c .before .before .before .before .before .before .before .before .before .before .enter-row .ensures .stands) in
+    (c .before .before .before .before .before .before .before .before .before .before .enter-row .ensures .limit) (s .pre .1)
+    (c .before .before .before .before .before .before .before .before .before .before .enter-row .ensures .stands) in
     let g = goes (l .more) (c .before .before .before .before .before .before .before .before .goes-on .result) (a .size) _
-          (c .before .before .before .before .before .before .before .before .goes-on .ensures)
-          (c .before .before .before .before .before .before .before .if1 .taken) in
-    omega (arith, c .before .before .before .write-line .ensures .0, line-size (now (a .sheet)) (viewOf (now (a .columns)) (a .count)) (a .style)
-        (firstRow (now (a .sheet)) (a .here)) (a .first) (s .pre .0 .0 .views) (now (a .page)) (l .page) (pendingsOf (l .state)) (l .more) (l .at)
-        (l .line) G (g .0) (a .indicator) (s .pre .0 .1) _
-        (c .before .before .before .before .before .before .before .before .before .before .enter-row .ensures .limit)
-        (c .before .before .before .before .before .before .is-last .result) (c .before .before .before .before .before .before .is-last .ensures)
-        (a .size) (s .pre .1), g .1, running-room (now (a .sheet)) (viewOf (now (a .columns)) (a .count)) (a .style)
-        (firstRow (now (a .sheet)) (a .here)) (a .first) (s .pre .0 .0 .views) (now (a .page)) (l .page) (pendingsOf (l .state)) (l .more) (l .at)
-        (l .line) G, running-size (now (a .sheet)) (viewOf (now (a .columns)) (a .count)) (a .style) (firstRow (now (a .sheet)) (a .here)) (a .first)
-        (s .pre .0 .0 .views) (now (a .page)) (l .page) (pendingsOf (l .state)) (l .more) (l .at) (l .line) G, s .good))
+    (c .before .before .before .before .before .before .before .before .goes-on .ensures)
+    (c .before .before .before .before .before .before .before .if1 .taken) in
+    omega (
+      arith,
+      c .before .before .before .write-line .ensures .0,
+      line-size (now (a .sheet)) (viewOf (now (a .columns)) (a .count)) (a .style)
+          (firstRow (now (a .sheet)) (a .here)) (a .first) (s .pre .0 .0 .views) (now (a .page)) (l .page) (pendingsOf (l .state)) (l .more) (l .at)
+          (l .line) G (g .0) (a .indicator) (s .pre .0 .1) _
+          (c .before .before .before .before .before .before .before .before .before .before .enter-row .ensures .limit)
+          (c .before .before .before .before .before .before .is-last .result) (c .before .before .before .before .before .before .is-last .ensures)
+          (a .size) (s .pre .1),
+      g .1,
+      running-room (now (a .sheet)) (viewOf (now (a .columns)) (a .count)) (a .style)
+          (firstRow (now (a .sheet)) (a .here)) (a .first) (s .pre .0 .0 .views) (now (a .page)) (l .page) (pendingsOf (l .state)) (l .more) (l .at)
+          (l .line) G,
+      running-size (now (a .sheet)) (viewOf (now (a .columns)) (a .count)) (a .style) (firstRow (now (a .sheet)) (a .here)) (a .first)
+          (s .pre .0 .0 .views) (now (a .page)) (l .page) (pendingsOf (l .state)) (l .more) (l .at) (l .line) G,
+      s .good,
+    ))
     (λ c κs. search needs)
     (λ c.
     let s = c .before .before .before .before .before .before .before .before .before .before .before .before .before .before .before in
     let a = s .args in
     let l = c .before .before .before .before .before .before .before .before .before .before .loop in
     let G = l .inv (firstRow (now (a .sheet)) (a .here))
-          (c .before .before .before .before .before .before .before .before .before .before .before .enter-row .ensures .limit) (s .pre .1)
-          (c .before .before .before .before .before .before .before .before .before .before .before .enter-row .ensures .stands) in
+    (c .before .before .before .before .before .before .before .before .before .before .before .enter-row .ensures .limit) (s .pre .1)
+    (c .before .before .before .before .before .before .before .before .before .before .before .enter-row .ensures .stands) in
     let g = goes (l .more) (c .before .before .before .before .before .before .before .before .before .goes-on .result) (a .size) _
-          (c .before .before .before .before .before .before .before .before .before .goes-on .ensures)
-          (c .before .before .before .before .before .before .before .before .if1 .taken) in
-    omega (arith, stands-less (now (a .sheet)) (viewOf (now (a .columns)) (a .count)) (firstRow (now (a .sheet)) (a .here)) (s .pre .0 .0 .views)
-        (l .line) (l .more) (pendingsOf (l .state)) (G .stands) (g .0), s .pre .1 .few))
+    (c .before .before .before .before .before .before .before .before .before .goes-on .ensures)
+    (c .before .before .before .before .before .before .before .before .if1 .taken) in
+    omega (
+      arith,
+      stands-less (now (a .sheet)) (viewOf (now (a .columns)) (a .count)) (firstRow (now (a .sheet)) (a .here)) (s .pre .0 .0 .views)
+          (l .line) (l .more) (pendingsOf (l .state)) (G .stands) (g .0),
+      s .pre .1 .few,
+    ))
     (λ c.
     let s = c .before .before .before .before .before .before .before .before .before .before .before .before .before .before .before in
     let a = s .args in
     let l = c .before .before .before .before .before .before .before .before .before .before .loop in
     let G = l .inv (firstRow (now (a .sheet)) (a .here))
-          (c .before .before .before .before .before .before .before .before .before .before .before .enter-row .ensures .limit) (s .pre .1)
-          (c .before .before .before .before .before .before .before .before .before .before .before .enter-row .ensures .stands) in
+    (c .before .before .before .before .before .before .before .before .before .before .before .enter-row .ensures .limit) (s .pre .1)
+    (c .before .before .before .before .before .before .before .before .before .before .before .enter-row .ensures .stands) in
     let g = goes (l .more) (c .before .before .before .before .before .before .before .before .before .goes-on .result) (a .size) _
-          (c .before .before .before .before .before .before .before .before .before .goes-on .ensures)
-          (c .before .before .before .before .before .before .before .before .if1 .taken) in
+    (c .before .before .before .before .before .before .before .before .before .goes-on .ensures)
+    (c .before .before .before .before .before .before .before .before .if1 .taken) in
     let z = s .pre .1 .each (l .line) (stands-less (now (a .sheet)) (viewOf (now (a .columns)) (a .count)) (firstRow (now (a .sheet)) (a .here))
-          (s .pre .0 .0 .views) (l .line) (l .more) (pendingsOf (l .state)) (G .stands) (g .0)) in
-    omega (arith, c .before .before .before .before .write-line .ensures .0, line-size (now (a .sheet)) (viewOf (now (a .columns)) (a .count))
-        (a .style) (firstRow (now (a .sheet)) (a .here)) (a .first) (s .pre .0 .0 .views) (now (a .page)) (l .page) (pendingsOf (l .state)) (l .more)
-        (l .at) (l .line) G (g .0) (a .indicator) (s .pre .0 .1) _
-        (c .before .before .before .before .before .before .before .before .before .before .before .enter-row .ensures .limit)
-        (c .before .before .before .before .before .before .before .is-last .result)
-        (c .before .before .before .before .before .before .before .is-last .ensures) (a .size) (s .pre .1), g .1, running-room (now (a .sheet))
-        (viewOf (now (a .columns)) (a .count)) (a .style) (firstRow (now (a .sheet)) (a .here)) (a .first) (s .pre .0 .0 .views) (now (a .page))
-        (l .page) (pendingsOf (l .state)) (l .more) (l .at) (l .line) G, running-size (now (a .sheet)) (viewOf (now (a .columns)) (a .count))
-        (a .style) (firstRow (now (a .sheet)) (a .here)) (a .first) (s .pre .0 .0 .views) (now (a .page)) (l .page) (pendingsOf (l .state)) (l .more)
-        (l .at) (l .line) G, z))
+    (s .pre .0 .0 .views) (l .line) (l .more) (pendingsOf (l .state)) (G .stands) (g .0)) in
+    omega (
+      arith,
+      c .before .before .before .before .write-line .ensures .0,
+      line-size (now (a .sheet)) (viewOf (now (a .columns)) (a .count))
+          (a .style) (firstRow (now (a .sheet)) (a .here)) (a .first) (s .pre .0 .0 .views) (now (a .page)) (l .page) (pendingsOf (l .state)) (l .more)
+          (l .at) (l .line) G (g .0) (a .indicator) (s .pre .0 .1) _
+          (c .before .before .before .before .before .before .before .before .before .before .before .enter-row .ensures .limit)
+          (c .before .before .before .before .before .before .before .is-last .result)
+          (c .before .before .before .before .before .before .before .is-last .ensures) (a .size) (s .pre .1),
+      g .1,
+      running-room (now (a .sheet))
+          (viewOf (now (a .columns)) (a .count)) (a .style) (firstRow (now (a .sheet)) (a .here)) (a .first) (s .pre .0 .0 .views) (now (a .page))
+          (l .page) (pendingsOf (l .state)) (l .more) (l .at) (l .line) G,
+      running-size (now (a .sheet)) (viewOf (now (a .columns)) (a .count))
+          (a .style) (firstRow (now (a .sheet)) (a .here)) (a .first) (s .pre .0 .0 .views) (now (a .page)) (l .page) (pendingsOf (l .state)) (l .more)
+          (l .at) (l .line) G,
+      z,
+    ))
     (λ c.
     λ r e Z S.
     let s = c .before .before .before .before .before .before .before .before .before .before .before .before .before .before .before in
@@ -136,35 +164,35 @@ draw-row-spec =
     let l = c .before .before .before .before .before .before .before .before .before .before .loop in
     let w = c .before .before .before .before .write-line in
     let g = goes (l .more) (c .before .before .before .before .before .before .before .before .before .goes-on .result) (a .size) _
-          (c .before .before .before .before .before .before .before .before .before .goes-on .ensures)
-          (c .before .before .before .before .before .before .before .before .if1 .taken) in
+    (c .before .before .before .before .before .before .before .before .before .goes-on .ensures)
+    (c .before .before .before .before .before .before .before .before .if1 .taken) in
     running-on (now (a .sheet)) (viewOf (now (a .columns)) (a .count)) (a .style) r (a .first) (s .pre .0 .0 .views) (now (a .page)) (l .page)
-        (pendingsOf (l .state)) (l .more) (l .at) (l .line) (l .inv r e Z S)
+    (pendingsOf (l .state)) (l .more) (l .at) (l .line) (l .inv r e Z S)
     (g .0) (a .indicator) (s .pre .0 .1) _ e (c .before .before .before .before .before .before .before .is-last .result)
-        (c .before .before .before .before .before .before .before .is-last .ensures) (a .size) Z (g .1) _ (w .last .0) _ (w .result .more)
-        (c .stays .result) (w .result .written)
+    (c .before .before .before .before .before .before .before .is-last .ensures) (a .size) Z (g .1) _ (w .last .0) _ (w .result .more)
+    (c .stays .result) (w .result .written)
     (w .ensures .1 .1) refl (w .ensures .0) (w .ensures .1 .0 .0) (w .ensures .1 .0 .1) (c .stays .ensures))
     (λ c.
     let s = c .before .before .before .before .before .before .before in
     let a = s .args in
     let l = c .before .before .loop in
     let G = l .inv (firstRow (now (a .sheet)) (a .here)) (c .before .before .before .enter-row .ensures .limit) (s .pre .1)
-          (c .before .before .before .enter-row .ensures .stands) in
+    (c .before .before .before .enter-row .ensures .stands) in
     G .onward)
     (λ c.
     let s = c .before .before .before .before .before .before .before in
     let a = s .args in
     let l = c .before .before .loop in
     let G = l .inv (firstRow (now (a .sheet)) (a .here)) (c .before .before .before .enter-row .ensures .limit) (s .pre .1)
-          (c .before .before .before .enter-row .ensures .stands) in
+    (c .before .before .before .enter-row .ensures .stands) in
     running-size (now (a .sheet)) (viewOf (now (a .columns)) (a .count)) (a .style) (firstRow (now (a .sheet)) (a .here)) (a .first)
-        (s .pre .0 .0 .views) (now (a .page)) (l .page) (pendingsOf (l .state)) (l .more) (l .at) (l .line) G)
+    (s .pre .0 .0 .views) (now (a .page)) (l .page) (pendingsOf (l .state)) (l .more) (l .at) (l .line) G)
     (λ c.
     let s = c .before .before .before .before .before .before .before in
     let a = s .args in
     let l = c .before .before .loop in
     let G = l .inv (firstRow (now (a .sheet)) (a .here)) (c .before .before .before .enter-row .ensures .limit) (s .pre .1)
-          (c .before .before .before .enter-row .ensures .stands) in
+    (c .before .before .before .enter-row .ensures .stands) in
     running-done (now (a .sheet)) (viewOf (now (a .columns)) (a .count)) (a .style) (firstRow (now (a .sheet)) (a .here)) (a .first)
-        (s .pre .0 .0 .views) (now (a .page)) (l .page) (pendingsOf (l .state)) (l .more) (l .at) (l .line) G (a .size) (s .pre .1)
-        (c .before .goes-on .result) (c .before .goes-on .ensures) (c .if1 .left)))
+    (s .pre .0 .0 .views) (now (a .page)) (l .page) (pendingsOf (l .state)) (l .more) (l .at) (l .line) G (a .size) (s .pre .1)
+    (c .before .goes-on .result) (c .before .goes-on .ensures) (c .if1 .left)))

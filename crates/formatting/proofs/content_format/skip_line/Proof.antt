@@ -21,7 +21,7 @@ skip-line-spec =
     Inv-loop
     μ-loop
     (λ c. let s = c .before in passing-begins (now (s .args .sheet)) (viewOf (now (s .args .columns)) (s .args .count))
-        (pendingsOf (now (s .args .state))) (s .pre .size))
+    (pendingsOf (now (s .args .state))) (s .pre .size))
     (λ c. omega (arith, c .before .before .before .pre .most))
     (λ c. omega (arith, c .before .before .before .pre .most))
     (λ c κs. search needs)
@@ -32,7 +32,7 @@ skip-line-spec =
     let s = c .before .before .before .before .before .before .before in
     let l = c .before .before .before .before .before .loop in
     let r = skip-ready (now (s .args .sheet)) (now (s .args .columns)) (s .args .count) (now (s .args .state)) (s .pre) (l .state) (l .more) (l .i)
-          (l .inv) (c .before .before .before .before .loop-test .taken)
+    (l .inv) (c .before .before .before .before .loop-test .taken)
     _ _ (c .before .before .column-from .ensures) (c .pending-from .ensures) in
     (r .inside, r .wide))
     (λ c κs. search needs)
@@ -45,11 +45,11 @@ skip-line-spec =
     let s = c .before .before .before .before .before .before .before .before .before .before .before in
     let l = c .before .before .before .before .before .before .before .before .before .loop in
     skip-on (now (s .args .sheet)) (now (s .args .columns)) (s .args .count) (now (s .args .state)) (s .pre) (l .state) (l .more) (l .i) (l .inv)
-        (c .before .before .before .before .before .before .before .before .loop-test .taken)
+    (c .before .before .before .before .before .before .before .before .loop-test .taken)
     _ _ (c .before .before .before .before .before .before .column-from .ensures) (c .before .before .before .before .pending-from .ensures) _ _ _
-        (c .before .before .before .advance .ensures) (c .before .either .ensures) (c .pack-pending .ensures))
+    (c .before .before .before .advance .ensures) (c .before .either .ensures) (c .pack-pending .ensures))
     (λ c.
     let s = c .before .before .before in
     let l = c .before .loop in
     passing-done (now (s .args .sheet)) (viewOf (now (s .args .columns)) (s .args .count)) (pendingsOf (now (s .args .state))) (pendingsOf (l .state))
-        (l .more) (l .i) (c .loop-test .left) (l .inv)))
+    (l .more) (l .i) (c .loop-test .left) (l .inv)))

@@ -10,6 +10,6 @@ stays-spec =
     (λ c. search needs)
     (λ c. search needs)
     (λ c. stays-out (c .before .before .args .limit) (c .before .before .args .line) (c .before .before .args .more) (c .before .if1 .left)
-        (c .if2 .taken))
+    (c .if2 .taken))
     (λ c. stays-in (c .before .before .args .limit) (c .before .before .args .line) (c .before .before .args .more) (c .before .if1 .left)
-        (c .if2 .left)))
+    (c .if2 .left)))

@@ -10,4 +10,4 @@ pack-column-spec =
     (λ c κs. search needs)
     (λ c κs. search needs)
     (λ c. column-packed (c .before .before .args .v) (c .before .number .result) (c .number2 .result) (c .before .number .ensures)
-        (c .number2 .ensures)))
+    (c .number2 .ensures)))

@@ -11,4 +11,4 @@ pack-pending-spec =
     (λ c κs. search needs)
     (λ c κs. search needs)
     (λ c. let n = c .before in let b = n .before in pending-packed _ (b .bit .result) (n .number .result) (c .number2 .result) (b .bit .ensures)
-        (n .number .ensures) (c .number2 .ensures)))
+    (n .number .ensures) (c .number2 .ensures)))

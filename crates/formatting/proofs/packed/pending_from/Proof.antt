@@ -19,4 +19,4 @@ pending-from-spec =
     (λ c. search needs)
     (λ c κs. search needs)
     (λ c. pending-is (c .before .before .args .t1) _ (c .before .code .result) (c .code2 .result) refl (c .before .code .ensures)
-        (c .code2 .ensures)))
+    (c .code2 .ensures)))

@@ -34,7 +34,7 @@ format-row-spec =
     let s = c .before .before .before .before .before in
     let l = c .before .before .before .loop in
     open-order (now (s .args .sheet)) (now (s .args .columns)) (s .args .count) (s .pre .0 .0) (s .pre .0 .1 .0) _ (l .left) (l .passed) (l .i)
-        (c .before .before .loop-test .taken) _ (c .column-from .ensures) (l .state) (l .more) (l .inv))
+    (c .before .before .loop-test .taken) _ (c .column-from .ensures) (l .state) (l .more) (l .inv))
     (λ c κs. c .before .before .before .loop .inv .passing .ends)
     (λ c κs.
     let s = c .before .before .before .before .before .before in
@@ -55,12 +55,12 @@ format-row-spec =
     let l = c .before .before .before .before .before .before .before .before .loop in
     let k = c .before .before .before .before .skip-cells in
     open-on (now (s .args .sheet)) (now (s .args .columns)) (s .args .count) (s .pre .0 .0) (s .pre .0 .1 .0) _ (l .left) (l .passed) (l .i)
-        (c .before .before .before .before .before .before .before .loop-test .taken) _
-        (c .before .before .before .before .before .column-from .ensures) (l .state) (l .more) (l .inv)
+    (c .before .before .before .before .before .before .before .loop-test .taken) _
+    (c .before .before .before .before .before .column-from .ensures) (l .state) (l .more) (l .inv)
     (k .result) _ _ _ (k .ensures .cells) (k .ensures .ends) (c .before .before .before .open-cell .ensures) (c .before .either .ensures)
-        (c .pack-pending .ensures))
+    (c .pack-pending .ensures))
     (λ c.
     let s = c .before .before .before in
     let l = c .before .loop in
     opening-done (now (s .args .sheet)) (viewOf (now (s .args .columns)) (s .args .count)) (cellsIn (now (s .args .sheet)) (s .args .cells))
-        (pendingsOf (l .state)) (l .left) (l .passed) (l .more) (l .i) (l .inv) (c .loop-test .left)))
+    (pendingsOf (l .state)) (l .left) (l .passed) (l .more) (l .i) (l .inv) (c .loop-test .left)))

@@ -14,7 +14,7 @@ open-cell-spec =
     (tie.spec
     (λ c κs. search needs)
     (λ c. let s = c .before .before .before .before in
-        rw (c .missing-cell .ensures) (opened-missing (now (s .args .sheet)) (s .args .cells) (s .args .v) (s .pre .0) (c .before .if1 .taken)))
+    rw (c .missing-cell .ensures) (opened-missing (now (s .args .sheet)) (s .args .cells) (s .args .v) (s .pre .0) (c .before .if1 .taken)))
     (λ c κs. search needs)
     (λ c κs. search needs)
     (λ c κs. search needs)
@@ -27,4 +27,4 @@ open-cell-spec =
     let s = c .before .before .before .before .before .before .before .before in
     let x = c .before .before .before .before .cell in
     opened-cell (now (s .args .sheet)) (s .args .cells) (x .result) (x .ensures) (s .args .v) (s .pre .0) _ (c .before .before .or-else .ensures)
-        (c .before .or-else2 .ensures) (c .first-line .ensures)))
+    (c .before .or-else2 .ensures) (c .first-line .ensures)))

@@ -23,4 +23,4 @@ open-height-spec =
     let s = c .before .before .before .before .before .before .before in
     let x = c .before .before .before .cell in
     height-here (now (s .args .sheet)) (s .args .from) (x .result) (x .ensures) (s .args .v) _ _ (c .before .or-else .ensures)
-        (c .cell-height .ensures)))
+    (c .cell-height .ensures)))

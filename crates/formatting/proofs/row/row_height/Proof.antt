@@ -23,7 +23,7 @@ row-height-spec =
     Inv-loop
     μ-loop
     (λ c. let s = c .before in measuring-begins (now (s .args .sheet)) (viewOf (now (s .args .columns)) (s .args .count)) (s .args .from)
-        (s .pre .1 .1))
+    (s .pre .1 .1))
     (λ c. omega (arith, c .before .before .before .pre .0 .most))
     (λ c. omega (arith, c .before .before .before .pre .0 .most))
     (λ c κs. search needs)
@@ -31,7 +31,7 @@ row-height-spec =
     let s = c .before .before .before .before .before in
     let l = c .before .before .before .loop in
     tall-order (now (s .args .sheet)) (now (s .args .columns)) (s .args .count) (s .pre .0) (s .pre .1 .0) _ (l .left) (l .passed) (l .i)
-        (c .before .before .loop-test .taken) _ (c .column-from .ensures) (l .most) (l .inv))
+    (c .before .before .loop-test .taken) _ (c .column-from .ensures) (l .most) (l .inv))
     (λ c κs. c .before .before .before .loop .inv .passing .ends)
     (λ c κs.
     let s = c .before .before .before .before .before .before in
@@ -49,10 +49,10 @@ row-height-spec =
     let l = c .before .before .before .before .before .before .loop in
     let k = c .before .before .skip-cells in
     tall-on (now (s .args .sheet)) (now (s .args .columns)) (s .args .count) (s .pre .0) (s .pre .1 .0) _ (l .left) (l .passed) (l .i)
-        (c .before .before .before .before .before .loop-test .taken) _ (c .before .before .before .column-from .ensures) (l .most) (l .inv)
+    (c .before .before .before .before .before .loop-test .taken) _ (c .before .before .before .column-from .ensures) (l .most) (l .inv)
     (k .result) (c .before .open-height .result) _ (k .ensures .cells) (k .ensures .ends) (c .before .open-height .ensures) (c .greater .ensures))
     (λ c.
     let s = c .before .before .before in
     let l = c .before .loop in
     measuring-done (now (s .args .sheet)) (viewOf (now (s .args .columns)) (s .args .count)) (cellsIn (now (s .args .sheet)) (s .args .from))
-        (l .left) (l .passed) (l .most) (l .i) (l .inv) (c .loop-test .left)))
+    (l .left) (l .passed) (l .most) (l .i) (l .inv) (c .loop-test .left)))

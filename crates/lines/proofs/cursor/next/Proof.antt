@@ -17,6 +17,6 @@ next-spec =
     (λ c. let s = c .before .before .before .before in next-top _ (s .args .p) (s .args .c) (s .pre) (c .enum-told .given .1))
     (λ c. let s = c .before .before .before .before in next-header _ (s .args .p) (s .args .c) (s .pre) (c .enum-told2 .given .1))
     (λ c. let s = c .before .before .before .before .before in
-        next-body _ (s .args .p) (s .args .c) (s .pre) _ (c .before .enum-told3 .given .1) (c .after-row .ensures))
+    next-body _ (s .args .p) (s .args .c) (s .pre) _ (c .before .enum-told3 .given .1) (c .after-row .ensures))
     (λ c. let s = c .before .before .before .before in next-bottom _ (s .args .p) (s .args .c) (s .pre) (c .enum-told4 .given .1))
     (λ c. let s = c .before .before .before .before in next-end _ (s .args .p) (s .args .c) (s .pre) (c .enum-told5 .given .1)))

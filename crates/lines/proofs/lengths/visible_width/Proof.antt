@@ -26,27 +26,48 @@ visible-width-spec =
     (λ c. omega (arith, c .before .before .pre .most))
     (λ c κs. search needs)
     (λ c. let l = c .before .before .before .before .loop in
-        omega (arith, column-narrow (now (c .before .before .before .before .before .args .columns))
-        (c .before .before .before .before .before .args .count) (c .before .before .before .before .before .pre) (l .i)
-        (c .before .before .before .loop-test .taken) _ (c .before .column-from .ensures)))
+    omega (
+      arith,
+      column-narrow (now (c .before .before .before .before .before .args .columns))
+          (c .before .before .before .before .before .args .count) (c .before .before .before .before .before .pre) (l .i)
+          (c .before .before .before .loop-test .taken) _ (c .before .column-from .ensures),
+    ))
     (λ c. let l = c .before .before .before .before .before .loop in
-        omega (arith, column-narrow (now (c .before .before .before .before .before .before .args .columns))
-        (c .before .before .before .before .before .before .args .count) (c .before .before .before .before .before .before .pre) (l .i)
-        (c .before .before .before .before .loop-test .taken) _ (c .before .before .column-from .ensures)))
+    omega (
+      arith,
+      column-narrow (now (c .before .before .before .before .before .before .args .columns))
+          (c .before .before .before .before .before .before .args .count) (c .before .before .before .before .before .before .pre) (l .i)
+          (c .before .before .before .before .loop-test .taken) _ (c .before .before .column-from .ensures),
+    ))
     (λ c. let l = c .before .before .before .before .before .loop in
-        omega (arith, column-narrow (now (c .before .before .before .before .before .before .args .columns))
-        (c .before .before .before .before .before .before .args .count) (c .before .before .before .before .before .before .pre) (l .i)
-        (c .before .before .before .before .loop-test .taken) _ (c .before .before .column-from .ensures), l .inv .1 .1,
-        c .before .before .before .before .before .before .pre .most))
+    omega (
+      arith,
+      column-narrow (now (c .before .before .before .before .before .before .args .columns))
+          (c .before .before .before .before .before .before .args .count) (c .before .before .before .before .before .before .pre) (l .i)
+          (c .before .before .before .before .loop-test .taken) _ (c .before .before .column-from .ensures),
+      l .inv .1 .1,
+      c .before .before .before .before .before .before .pre .most,
+    ))
     (λ c. omega (arith, c .before .before .before .before .before .before .pre .most))
     (λ c. omega arith)
     (λ c.
     let l = c .before .before .before .before .before .loop in
-    let h = c .before .before .before .before .loop-test .taken in
-    (omega (arith, h), (width-on (now (c .before .before .before .before .before .before .args .columns))
-        (c .before .before .before .before .before .before .args .count) (l .i) (l .sum) _ (c .before .before .column-from .ensures) (l .inv .1 .0),
-        omega (arith, column-narrow (now (c .before .before .before .before .before .before .args .columns))
-        (c .before .before .before .before .before .before .args .count) (c .before .before .before .before .before .before .pre) (l .i) h _
-        (c .before .before .column-from .ensures), l .inv .1 .1))))
-    (λ c. let l = c .before .loop in (width-done (viewOf (now (c .before .before .args .columns)) (c .before .before .args .count)) (l .i)
-        (c .before .before .args .count) (l .sum) (l .inv .0) (c .loop-test .left) (l .inv .1 .0), omega (arith, l .inv .0, l .inv .1 .1))))
+    let h = c .before .before .before .before .loop-test .taken in (
+      omega (arith, h),
+      (
+        width-on (now (c .before .before .before .before .before .before .args .columns))
+            (c .before .before .before .before .before .before .args .count) (l .i) (l .sum) _ (c .before .before .column-from .ensures) (l .inv .1 .0),
+        omega (
+          arith,
+          column-narrow (now (c .before .before .before .before .before .before .args .columns))
+              (c .before .before .before .before .before .before .args .count) (c .before .before .before .before .before .before .pre) (l .i) h _
+              (c .before .before .column-from .ensures),
+          l .inv .1 .1,
+        ),
+      ),
+    ))
+    (λ c. let l = c .before .loop in (
+      width-done (viewOf (now (c .before .before .args .columns)) (c .before .before .args .count)) (l .i)
+          (c .before .before .args .count) (l .sum) (l .inv .0) (c .loop-test .left) (l .inv .1 .0),
+      omega (arith, l .inv .0, l .inv .1 .1),
+    )))

@@ -21,4 +21,4 @@ rule-style-spec =
     (λ c κs. search needs)
     (λ c. let a = c .before .before .before .before in
     rule-style-is _ _ _ _ _ _ _ _ _ (c .before .before .before .glyph .ensures) (c .before .before .glyph2 .ensures) (c .before .glyph3 .ensures)
-        (c .glyph4 .ensures) (a .pre .1 .0) (a .pre .1 .1)))
+    (c .glyph4 .ensures) (a .pre .1 .0) (a .pre .1 .1)))

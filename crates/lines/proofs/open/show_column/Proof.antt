@@ -20,6 +20,6 @@ show-column-spec =
     (λ c. omega (arith, c .before .before .before .before .before .before .before .pre))
     (λ c. omega (arith, c .before .before .before .before .before .before .before .pre))
     (λ c. let a = c .before .before .before .before .before .before .before .args in
-        show-visible (now (a .columns)) (a .count) (a .j) (a .c) (a .width) (a .delimiter) _ _ _ (c .pack-column .result)
-        (c .before .before .before .before .before .before .is-hidden .ensures) (c .before .before .before .before .before .if1 .left)
-        (c .before .before .or-else .ensures) (c .before .or-else2 .ensures) (c .pack-column .ensures)))
+    show-visible (now (a .columns)) (a .count) (a .j) (a .c) (a .width) (a .delimiter) _ _ _ (c .pack-column .result)
+    (c .before .before .before .before .before .before .is-hidden .ensures) (c .before .before .before .before .before .if1 .left)
+    (c .before .before .or-else .ensures) (c .before .or-else2 .ensures) (c .pack-column .ensures)))

@@ -34,7 +34,7 @@ show-columns-spec =
     (λ c. let i = c .before .before .before .loop .inv in omega (arith, i .0, i .1 .0))
     (λ c. let i = c .before .before .before .loop .inv in omega (arith, i .0, i .1 .0))
     (λ c κs. let i = c .before .before .before .before .loop .inv in
-        omega (arith, i .0, i .1 .0, i .1 .1 .few, c .before .before .before .loop-test .taken))
+    omega (arith, i .0, i .1 .0, i .1 .1 .few, c .before .before .before .loop-test .taken))
     (λ c. let i = c .before .before .before .before .before .loop .inv in omega (arith, i .0, i .1 .0))
     (λ c. omega arith)
     (λ c.
@@ -49,9 +49,9 @@ show-columns-spec =
         l .inv .1 .0,
         showing-on t (l .j) _ (l .inv .1 .1) _ _ _ _ (omega (arith, h, l .inv .1 .0)) (column-at t T _ e (l .j) (omega (arith, h)))
             (width-is t _ (l .j) (s .pre .1 .0) (omega (arith, h, columns-count t _ e)))
-                (delimiter-is t (c .before .before .before .before .before .before .before .before .settings .result) _
-                (c .before .before .before .before .before .before .before .before .settings .ensures)
-                (c .before .before .before .before .before .before .before .or-else .ensures)) (c .show-column .ensures),
+            (delimiter-is t (c .before .before .before .before .before .before .before .before .settings .result) _
+            (c .before .before .before .before .before .before .before .before .settings .ensures)
+            (c .before .before .before .before .before .before .before .or-else .ensures)) (c .show-column .ensures),
       ),
     ))
     (λ c.
@@ -59,5 +59,5 @@ show-columns-spec =
     let s = c .before .before .before .before .before .before in
     let T = limits-of _ (s .pre .0) in
     let W = showing-done _ _ _ T (omega (arith, columns-count _ _ (c .before .before .columns .ensures), l .inv .0, c .loop-test .left))
-          (l .inv .1 .1) in
+    (l .inv .1 .1) in
     (W, (view-rising _ _ T W, (view-wide _ _ T W, view-narrow _ _ T W)))))

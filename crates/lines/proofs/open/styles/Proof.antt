@@ -12,7 +12,9 @@ styles-spec =
     (λ c κs. search needs)
     (λ c κs. search needs)
     (λ c κs. search needs)
-    (λ c κs. let f = c .before .before .before in
-    (f .style-from .ensures, edges-are (f .before .args .b) (f .style-from .result) _ _ _ (f .style-from .ensures)
-        (c .before .before .has-left-border .ensures) (c .before .has-vertical-lines .ensures) (c .has-right-border .ensures)))
+    (λ c κs. let f = c .before .before .before in (
+      f .style-from .ensures,
+      edges-are (f .before .args .b) (f .style-from .result) _ _ _ (f .style-from .ensures)
+          (c .before .before .has-left-border .ensures) (c .before .has-vertical-lines .ensures) (c .has-right-border .ensures),
+    ))
     (λ c. search needs))

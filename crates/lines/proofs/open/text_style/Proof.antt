@@ -18,4 +18,4 @@ text-style-spec =
     (λ c κs. search needs)
     (λ c. let a = c .before .before .before in
     text-style-is _ _ _ _ _ _ _ _ (c .before .before .glyph .ensures) (c .before .glyph2 .ensures) (c .glyph3 .ensures) (a .pre .1 .0)
-        (a .pre .1 .1 .0) (a .pre .1 .1 .1)))
+    (a .pre .1 .1 .0) (a .pre .1 .1 .1)))

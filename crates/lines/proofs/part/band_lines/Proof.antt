@@ -19,6 +19,10 @@ band-lines-spec =
     (λ c κs. search needs)
     (λ c.
     let s = c .before .before .before .before .before in
-    omega (arith, row-height-few _ _ (s .pre .1) (omega (arith, c .before .before .if1 .left)), c .before .row-lines .ensures,
-        c .where-drawn .ensures .1))
+    omega (
+      arith,
+      row-height-few _ _ (s .pre .1) (omega (arith, c .before .before .if1 .left)),
+      c .before .row-lines .ensures,
+      c .where-drawn .ensures .1,
+    ))
     (λ c. band-some _ _ _ _ _ (c .before .before .if1 .left) (c .before .row-lines .ensures) (c .where-drawn .ensures .0)))

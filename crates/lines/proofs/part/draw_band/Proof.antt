@@ -20,33 +20,37 @@ draw-band-spec =
     (tie.spec
     (λ c κs. search needs)
     (λ c. let s = c .before .before .before .before .before in
-        rw (c .nothing .ensures) (band-empty (now (s .args .sheet)) (viewOf (now (s .args .columns)) (s .args .p .count)) (s .args .style)
-        (s .args .here) (s .args .first) (now (s .args .page)) (c .before .if1 .taken)))
+    rw (c .nothing .ensures) (band-empty (now (s .args .sheet)) (viewOf (now (s .args .columns)) (s .args .p .count)) (s .args .style)
+    (s .args .here) (s .args .first) (now (s .args .page)) (c .before .if1 .taken)))
     (λ c κs.
     let s = c .before .before .before .before .before .before .before in
     let O = s .pre .0 .0 in
     let B = s .pre .0 .1 in
-    let some : 0 < s .args .here .left = omega (arith, c .before .before .before .if1 .left) in
-    ((record { some = some; ends = B .0 .ends; views = O .views; rising = O .rising; wide = O .wide }, O .marks), band-sized (now (s .args .sheet))
-        (viewOf (now (s .args .columns)) (s .args .p .count)) (s .args .style) (s .args .here) _ (B .1) some))
+    let some : 0 < s .args .here .left = omega (arith, c .before .before .before .if1 .left) in (
+      (record { some = some; ends = B .0 .ends; views = O .views; rising = O .rising; wide = O .wide }, O .marks),
+      band-sized (now (s .args .sheet))
+          (viewOf (now (s .args .columns)) (s .args .p .count)) (s .args .style) (s .args .here) _ (B .1) some,
+    ))
     (λ c. search needs)
     (λ c.
     let s = c .before .before .before .before .before .before .before .before .before .before .before .before in
     band-cut (now (s .args .sheet)) (viewOf (now (s .args .columns)) (s .args .p .count)) (s .args .style) (s .args .here) (s .args .first)
-        (omega (arith, c .before .before .before .before .before .before .before .before .if1 .left)) (s .pre .1)
+    (omega (arith, c .before .before .before .before .before .before .before .before .if1 .left)) (s .pre .1)
     _ _ _ (c .before .before .before .before .draw-row .ensures) (c .if2 .taken))
     (λ c. part-room _ _ _ _ (c .before .before .before .before .before .draw-row .ensures))
     (λ c. part-room _ _ _ _ (c .before .before .before .before .before .draw-row .ensures))
     (λ c. search needs)
     (λ c κs. let start = c .before .before .before .before .before .before .before .before .before .before .before .before .before .before in
-        (start .pre .0 .0 .narrow, start .pre .0 .1 .1 .rule))
+    (start .pre .0 .0 .narrow, start .pre .0 .1 .1 .rule))
     (λ c.
     let s = c .before .before .before .before .before .before .before .before .before .before .before .before .before .before .before .before .before
-          .before .before in
-    let some : 0 < s .args .here .left = omega (arith,
-          c .before .before .before .before .before .before .before .before .before .before .before .before .before .before .before .if1 .left) in
+    .before .before in
+    let some : 0 < s .args .here .left = omega (
+      arith,
+      c .before .before .before .before .before .before .before .before .before .before .before .before .before .before .before .if1 .left,
+    ) in
     let Z = band-sized (now (s .args .sheet)) (viewOf (now (s .args .columns)) (s .args .p .count)) (s .args .style) (s .args .here) _
-          (s .pre .0 .1 .1) some in
+    (s .pre .0 .1 .1) some in
     omega (
       arith,
       part-few _ _ _ _ (c .before .before .before .before .before .before .before .before .before .before .before .draw-row .ensures),
@@ -58,7 +62,7 @@ draw-band-spec =
     ))
     (λ c.
     let s = c .before .before .before .before .before .before .before .before .before .before .before .before .before .before .before .before .before
-          .before .before .before in
+    .before .before .before in
     let D = c .before .before .before .before .before .before .before .before .before .before .before .before .draw-row in
     omega (
       arith,
@@ -73,13 +77,15 @@ draw-band-spec =
     (λ c. search needs)
     (λ c.
     let s = c .before .before .before .before .before .before .before .before .before .before .before .before .before .before .before .before .before
-          .before .before .before in
+    .before .before .before in
     let D = c .before .before .before .before .before .before .before .before .before .before .before .before .draw-row in
-    let some : 0 < s .args .here .left = omega (arith,
-          c .before .before .before .before .before .before .before .before .before .before .before .before .before .before .before .before .if1
-          .left) in
+    let some : 0 < s .args .here .left = omega (
+      arith,
+      c .before .before .before .before .before .before .before .before .before .before .before .before .before .before .before .before .if1
+          .left,
+    ) in
     band-whole (now (s .args .sheet)) (viewOf (now (s .args .columns)) (s .args .p .count)) (s .args .style) (s .args .here) (s .args .first) some
-        (s .pre .1)
+    (s .pre .1)
     _ _ _ _ (D .result) (c .before .before .before .before .before .draw-rule .result) (D .ensures)
-        (c .before .before .before .before .before .before .before .before .if2 .left) (c .before .before .before .before .before .draw-rule .ensures)
-        refl))
+    (c .before .before .before .before .before .before .before .before .if2 .left) (c .before .before .before .before .before .draw-rule .ensures)
+    refl))

@@ -18,4 +18,4 @@ row-lines-spec =
     (D .rising, (D .wide, cells-inside (now (s .args .sheet)) (s .args .here) (r .result) (D .some) (D .ends) (r .ensures))))
     (λ c κs. search needs)
     (λ c. row-lines-are _ _ _ _ _ _ (c .before .before .before .before .before .pre) (c .before .before .before .row .ensures)
-        (c .before .row-height .ensures) (c .within-limit .ensures)))
+    (c .before .row-height .ensures) (c .within-limit .ensures)))

@@ -220,4 +220,4 @@ pause-spec 𝓤 H 𝓜 𝓖 𝓡 =
     (tables 𝓤 H 𝓜 𝓡 code.env .C) (tables 𝓤 H 𝓜 𝓡 code.env .Λ) #pause code.function (code.unfolded 𝓤 H 𝓜 𝓡)
     (pause-meets 𝓤 H (𝓖 .A) (givenOf 𝓤 H 𝓜 𝓖) (𝓜 .mem) (𝓡 .run) (tablesOf 𝓤 H 𝓜 (tables 𝓤 H 𝓜 𝓡 code.env))
     (cited 𝓤 H (Sleep 𝓤 H (𝓖 .A) (𝓜 .mem) (𝓡 .run)) 𝓜 𝓡 code.env #libc·nanosleep sleep-def.routine code.calls-libc·nanosleep
-        (sleep-thm.met 𝓤 H 𝓜 𝓖 𝓡)))
+    (sleep-thm.met 𝓤 H 𝓜 𝓖 𝓡)))

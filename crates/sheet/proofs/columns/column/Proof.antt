@@ -14,5 +14,10 @@ column-spec =
     (λ c κs. search needs)
     (λ c κs. search needs)
     (λ c κs. search needs)
-    (λ c. rw (c .constraint .ensures, c .before .within3 .ensures, c .before .before .printable-or-zero .ensures,
-        c .before .before .before .within2 .ensures, c .before .before .before .before .within .ensures) (sym (column-after _ _))))
+    (λ c. rw (
+      c .constraint .ensures,
+      c .before .within3 .ensures,
+      c .before .before .printable-or-zero .ensures,
+      c .before .before .before .within2 .ensures,
+      c .before .before .before .before .within .ensures,
+    ) (sym (column-after _ _))))

@@ -15,4 +15,4 @@ constraint-spec =
     (λ c κs. search needs)
     (λ c κs. search needs)
     (λ c. let byte-between = c .before .before .byte-between in
-        rw (c .width2 .ensures, c .before .width .ensures, byte-between .ensures .0, byte-between .ensures .1)))
+    rw (c .width2 .ensures, c .before .width .ensures, byte-between .ensures .0, byte-between .ensures .1)))

@@ -24,11 +24,11 @@ word-spec =
     (λ c. search needs)
     (λ c. search needs)
     (λ c. let start = c .before .before .before .before .before .before .before .before .before .before .before in
-        let from = c .before .before .before .before .before .before .before .before .from in let wide = c .before .before .before .wide in
-        word-high (start .args .most) (now (start .args .sheet)) (start .args .from) (from .given .0 .0) (from .given .1) (wide .result)
-        (c .before .wide2 .result) (wide .ensures .0) (c .before .wide2 .ensures .0) (omega arith) (omega arith) (omega arith))
+    let from = c .before .before .before .before .before .before .before .before .from in let wide = c .before .before .before .wide in
+    word-high (start .args .most) (now (start .args .sheet)) (start .args .from) (from .given .0 .0) (from .given .1) (wide .result)
+    (c .before .wide2 .result) (wide .ensures .0) (c .before .wide2 .ensures .0) (omega arith) (omega arith) (omega arith))
     (λ c. search needs)
     (λ c. let start = c .before .before .before .before .before .before .before .before .before .before .before in
-        let from = c .before .before .before .before .before .before .before .before .from in let wide = c .before .before .before .wide in
-        word-good (start .args .most) (now (start .args .sheet)) (start .args .from) (from .given .0 .0) (from .given .1) (wide .result)
-        (c .before .wide2 .result) (wide .ensures .0) (c .before .wide2 .ensures .0) (omega arith) (omega arith) (omega arith)))
+    let from = c .before .before .before .before .before .before .before .before .from in let wide = c .before .before .before .wide in
+    word-good (start .args .most) (now (start .args .sheet)) (start .args .from) (from .given .0 .0) (from .given .1) (wide .result)
+    (c .before .wide2 .result) (wide .ensures .0) (c .before .wide2 .ensures .0) (omega arith) (omega arith) (omega arith)))

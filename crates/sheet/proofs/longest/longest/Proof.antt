@@ -13,4 +13,4 @@ longest-spec =
     (λ c κs. (c .before .before .before .pre, header-behind _ _ _ _ (c .of-rows .ensures) (c .before .header .ensures .1)))
     (λ c κs. rows-narrow _ _ (c .before .before .before .before .before .pre) (c .before .rows .ensures .0) (c .before .rows .ensures .1))
     (λ c. walked-twice _ _ _ _ _ _ (search needs) (c .before .before .before .before .of-rows .ensures) (c .before .of-rows2 .ensures)
-        (c .before .before .before .before .before .header .ensures .0) (c .before .before .before .rows .ensures .0)))
+    (c .before .before .before .before .before .header .ensures .0) (c .before .before .before .rows .ensures .0)))

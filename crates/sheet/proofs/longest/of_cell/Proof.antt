@@ -25,5 +25,5 @@ of-cell-spec =
     (λ c κs. (c .before .before .before .if1 .taken, c .before .before .before .before .before .loop .inv .inside))
     (λ c. omega (arith, c .next-line .ensures .left))
     (λ c. lines-again _ _ _ _ _ _ _ (c .before .before .before .before .if1 .taken) (c .before .before .wide .ensures .0)
-        (c .before .greater-u16 .ensures) (c .next-line .ensures) (c .before .before .before .before .before .before .loop .inv))
+    (c .before .greater-u16 .ensures) (c .next-line .ensures) (c .before .before .before .before .before .before .loop .inv))
     (λ c. lines-done _ _ _ _ (c .if1 .left) (c .before .before .loop .inv)))

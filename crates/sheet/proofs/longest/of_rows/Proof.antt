@@ -22,5 +22,5 @@ of-rows-spec =
     (λ c. search needs)
     (λ c. search needs)
     (λ c. rows-again _ _ _ _ _ _ _ (c .before .before .before .before .before .if1 .taken) (c .before .before .before .before .row .ensures)
-        (c .before .before .of-row .ensures) (c .before .before .before .before .before .before .before .loop .inv))
+    (c .before .before .of-row .ensures) (c .before .before .before .before .before .before .before .loop .inv))
     (λ c. rows-done _ _ _ _ _ (c .if1 .left) (c .before .before .loop .inv)))

@@ -29,4 +29,4 @@ cells-spec =
     (λ c. search needs)
     (λ c. items-again _ _ _ _ _ _ (c .before .loop-test .taken) (c .before .before .loop .inv) (c .cell .ensures))
     (λ c. let cell-count = c .before .before .cell-count in
-        items-done _ _ _ _ _ (c .loop-test .left) (c .before .loop .inv) ∙ rw (cell-count .ensures .0, cell-count .ensures .1)))
+    items-done _ _ _ _ _ (c .loop-test .left) (c .before .loop .inv) ∙ rw (cell-count .ensures .0, cell-count .ensures .1)))

@@ -23,4 +23,4 @@ column-at-spec =
     (λ c. search needs)
     (λ c. search needs)
     (λ c. rw (c .before .before .before .before .before .width-at2 .ensures, c .before .before .before .before .before .before .width-at .ensures)
-        (sym (column-here _ _))))
+    (sym (column-here _ _))))

@@ -37,10 +37,20 @@ columns-spec =
     (λ c. let r = room _ (c .before .before .loop .inv .0) in omega arith)
     (λ c. search needs)
     (λ c. search needs)
-    (λ c. let r = room _ (c .before .before .loop .inv .0) in let n = columns-inside _ (c .before .before .loop .inv .0) in
-        (c .before .before .loop .inv .0, (omega arith, (c .before .before .loop .inv .1 .1 .0,
-        (omega arith, copied-again noColumn _ _ _ _ _ (omega arith) (omega arith)
-        (column-copied _ _ _ _ (c .before .before .loop .inv .0) (omega arith) (c .before .before .loop .inv .1 .1 .1 .0) (c .column-at .ensures))
-        (c .before .before .loop .inv .1 .1 .1 .1))))))
+    (λ c. let r = room _ (c .before .before .loop .inv .0) in let n = columns-inside _ (c .before .before .loop .inv .0) in (
+      c .before .before .loop .inv .0,
+      (
+        omega arith,
+        (
+          c .before .before .loop .inv .1 .1 .0,
+          (
+            omega arith,
+            copied-again noColumn _ _ _ _ _ (omega arith) (omega arith)
+                (column-copied _ _ _ _ (c .before .before .loop .inv .0) (omega arith) (c .before .before .loop .inv .1 .1 .1 .0) (c .column-at .ensures))
+                (c .before .before .loop .inv .1 .1 .1 .1),
+          ),
+        ),
+      ),
+    ))
     (λ c. columns-whole _ _ _ _ (c .before .loop .inv .0) (c .before .loop .inv .1 .1 .0) (omega arith) (omega arith)
-        (c .before .loop .inv .1 .1 .1 .1)))
+    (c .before .loop .inv .1 .1 .1 .1)))

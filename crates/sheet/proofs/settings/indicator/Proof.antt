@@ -33,8 +33,16 @@ indicator-spec =
     (λ c. let r = room _ (c .before .before .loop .inv .0) in omega arith)
     (λ c. search needs)
     (λ c. search needs)
-    (λ c. let r = room _ (c .before .before .loop .inv .0) in let n = text-inside _ (c .before .before .loop .inv .0) in
-        (c .before .before .loop .inv .0, (omega arith, (c .before .before .loop .inv .1 .1 .0, copied-again 0 _ _ _ _ _ (omega arith) (omega arith)
-        (sym (character-at _ 5 _ (omega arith))) (c .before .before .loop .inv .1 .1 .1)))))
+    (λ c. let r = room _ (c .before .before .loop .inv .0) in let n = text-inside _ (c .before .before .loop .inv .0) in (
+      c .before .before .loop .inv .0,
+      (
+        omega arith,
+        (
+          c .before .before .loop .inv .1 .1 .0,
+          copied-again 0 _ _ _ _ _ (omega arith) (omega arith)
+              (sym (character-at _ 5 _ (omega arith))) (c .before .before .loop .inv .1 .1 .1),
+        ),
+      ),
+    ))
     (λ c. indicator-whole _ _ _ _ (c .before .loop .inv .0) (c .before .loop .inv .1 .1 .0) (omega arith) (omega arith)
-        (c .before .loop .inv .1 .1 .1)))
+    (c .before .loop .inv .1 .1 .1)))

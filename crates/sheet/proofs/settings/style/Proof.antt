@@ -32,8 +32,16 @@ style-spec =
     (λ c. search needs)
     (λ c. search needs)
     (λ c. search needs)
-    (λ c. let r = room _ (c .before .before .loop .inv .0) in let n = style-inside _ (c .before .before .loop .inv .0) in
-        (c .before .before .loop .inv .0, (omega arith, (c .before .before .loop .inv .1 .1 .0, copied-again 0 _ _ _ _ _ (omega arith) (omega arith)
-        (style-character _ _ _ (c .before .before .loop .inv .0) (c .before .before .loop .inv .1 .1 .0) (omega arith))
-        (c .before .before .loop .inv .1 .1 .1)))))
+    (λ c. let r = room _ (c .before .before .loop .inv .0) in let n = style-inside _ (c .before .before .loop .inv .0) in (
+      c .before .before .loop .inv .0,
+      (
+        omega arith,
+        (
+          c .before .before .loop .inv .1 .1 .0,
+          copied-again 0 _ _ _ _ _ (omega arith) (omega arith)
+              (style-character _ _ _ (c .before .before .loop .inv .0) (c .before .before .loop .inv .1 .1 .0) (omega arith))
+              (c .before .before .loop .inv .1 .1 .1),
+        ),
+      ),
+    ))
     (λ c. style-whole _ _ _ (c .before .loop .inv .0) (omega arith) (c .before .loop .inv .1 .1 .1)))

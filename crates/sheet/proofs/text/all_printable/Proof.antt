@@ -27,9 +27,14 @@ all-printable-spec =
     (λ c. omega (arith, c .before .before .loop-test .taken, c .before .before .before .before .before .good))
     (λ c. omega (arith, c .before .before .loop-test .taken))
     (λ c. let l = c .before .before .before .loop in
-    let a = c .before .before .before .before .before .args in
-    (omega (arith, l .inv .0), (omega (arith, c .before .before .loop-test .taken), printables-on (now (a .sheet)) (a .start) (l .i) (l .all) _
-        (l .inv .0) (l .inv .1 .1) (c .still-printable .ensures))))
+    let a = c .before .before .before .before .before .args in (
+      omega (arith, l .inv .0),
+      (
+        omega (arith, c .before .before .loop-test .taken),
+        printables-on (now (a .sheet)) (a .start) (l .i) (l .all) _
+            (l .inv .0) (l .inv .1 .1) (c .still-printable .ensures),
+      ),
+    ))
     (λ c. let l = c .before .loop in
     let a = c .before .before .before .args in
     let z : l .i - a .start ≡ a .end - a .start = omega (arith, l .inv .1 .0, c .loop-test .left) in

@@ -27,15 +27,21 @@ characters-spec =
     let a = s .args in
     let r = c .before .reach in
     characters-past (now (a .sheet)) (a .start) (a .n) (r .result) (c .past-printable .result) (omega (arith, s .pre, r .ensures))
-        (omega (arith, r .ensures)) (omega (arith, r .ensures)) (c .past-printable .ensures))
+    (omega (arith, r .ensures)) (omega (arith, r .ensures)) (c .past-printable .ensures))
     (λ c. omega arith)
     (λ c. character-low _ _ _ _ (c .before .before .before .loop .inv .1 .1) (omega arith) (omega arith) (omega arith))
     (λ c. character-high _ _ _ _ (c .before .before .before .before .loop .inv .1 .1) (omega arith) (omega arith) (omega arith) (omega arith))
     (λ c. omega arith)
     (λ c. omega arith)
-    (λ c. (omega arith, (omega arith, character-next _ _ _ _ (c .before .before .before .before .loop .inv .1 .1) (omega arith) (omega arith)
-        (omega arith) (omega arith))))
+    (λ c. (
+      omega arith,
+      (
+        omega arith,
+        character-next _ _ _ _ (c .before .before .before .before .loop .inv .1 .1) (omega arith) (omega arith)
+            (omega arith) (omega arith),
+      ),
+    ))
     (λ c. omega arith)
     (λ c. character-cut _ _ _ _ (c .before .before .loop .inv .1 .1) (omega arith) (omega arith))
     (λ c. let z : c .before .before .before .before .reach .result ≡ c .before .before .loop .i = omega arith in
-        rw z (characters-done _ _ _ _ (c .before .before .loop .inv .1 .1) (omega arith))))
+    rw z (characters-done _ _ _ _ (c .before .before .loop .inv .1 .1) (omega arith))))

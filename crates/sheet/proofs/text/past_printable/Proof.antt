@@ -9,6 +9,6 @@ past-printable-spec =
     (tie.spec
     (λ c κs. search needs)
     (λ c. let a = c .before .before .before .args in past-all (c .before .all-printable .result) _ (a .end) (a .start)
-        (c .before .all-printable .ensures) (c .if1 .taken))
+    (c .before .all-printable .ensures) (c .if1 .taken))
     (λ c. let a = c .before .before .before .args in past-none (c .before .all-printable .result) _ (a .end) (a .start)
-        (c .before .all-printable .ensures) (c .if1 .left)))
+    (c .before .all-printable .ensures) (c .if1 .left)))

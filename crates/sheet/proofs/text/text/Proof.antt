@@ -14,4 +14,4 @@ text-spec =
     (λ c. text-stopped _ _ _ _ (c .before .before .byte-between .ensures .0) _ _ (c .enum-told .given .1))
     (λ c κs. text-start _ _ _ _ (c .before .before .before .byte-between .ensures .0) _ (c .before .first .given .1))
     (λ c. let byte-between = c .before .before .before .before .byte-between in
-        text-whole _ _ _ _ (byte-between .ensures .0) _ _ _ (c .before .before .first .given .1) (byte-between .ensures .1) (c .characters .ensures)))
+    text-whole _ _ _ _ (byte-between .ensures .0) _ _ _ (c .before .before .first .given .1) (byte-between .ensures .1) (c .characters .ensures)))

@@ -16,7 +16,7 @@ cell-spec =
     (λ c. let h = cell-room _ _ (c .before .before .before .before .pre .0) (c .before .before .before .before .pre .1) in omega arith)
     (λ c. let h = cell-room _ _ (c .before .before .before .before .pre .0) (c .before .before .before .before .pre .1) in omega arith)
     (λ c. let h = cell-room _ _ (c .before .before .before .before .before .pre .0) (c .before .before .before .before .before .pre .1) in
-        omega arith)
+    omega arith)
     (λ c. let h = cell-room _ _ (c .before .before .before .before .before .pre .0) (c .before .before .before .before .before .pre .1) in
-        omega arith)
+    omega arith)
     (λ c. cell-is _ _ (c .before .before .before .before .before .pre .0) _ _ _ refl refl (c .before .before .size .ensures .0)))

@@ -32,4 +32,4 @@ rows-spec =
     (λ c κs. search needs)
     (λ c. let h = rows-room (now (c .before .before .before .before .before .before .args .sheet)) (c .before .before .before .before .loop .c) (c .before .before .before .before .loop .inv .0) (c .before .before .before .before .loop .inv .1) (c .before .before .if1 .left) in omega arith)
     (λ c. let loop = c .before .before .before .before .loop in
-        rows-are _ _ _ (loop .inv .0) (sym (rows-none _ _ (c .before .before .if1 .left)) ∙ loop .inv .1) (c .size .ensures .0)))
+    rows-are _ _ _ (loop .inv .0) (sym (rows-none _ _ (c .before .before .if1 .left)) ∙ loop .inv .1) (c .size .ensures .0)))
