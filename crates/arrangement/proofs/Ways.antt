@@ -17,7 +17,7 @@ use Rattle.constraint.specs.declared.Bound.the-variants.{Unset, At}
 use Rattle.constraint.specs.declared.Offer.{Offer}
 use Rattle.constraint.specs.Widths.{column, longest, bound, offered, lower, upper, average, bit, decided, pass}
 use Rattle.constraint.proofs.Cases.{if-true, if-false, if-eq, if-ne}
-use Rattle.arrangement.specs.Arrange.{trimmed, untargeted, charged, raised, lowerRule, fitting, fitRule, splitRule, fitPass}
+use Rattle.arrangement.specs.Arrange.{trimmed, untargeted, charged, raised, lowerRule, capped, fitRule, splitRule, fitPass}
 use Rattle.rules.specs.Sheet.{padding, isHidden}
 use Rattle.rules.specs.Widths.{withinAverage, shorterBy3}
 use Rattle.style.specs.Column.{content}
@@ -33,9 +33,9 @@ unfolding lowerRule
 lower-rule t i s a b o e p q = q ∙ ap₂ (λ (x : ℕ) (y : Option ℕ). raised x (column t i) y) e p
 
 pub fit-rule : (t : Layout) (i : ℕ) (s : State) (a : ℕ) (b : Bound) (o : Offer) → a ≡ average s → bound b ≡ upper t (s .visible) (column t i)
-    → offered o ≡ fitting a (column t i) (longest t i) (bound b) → offered o ≡ fitRule t i s
+    → offered o ≡ capped a (column t i) (longest t i) (bound b) → offered o ≡ fitRule t i s
 unfolding fitRule
-fit-rule t i s a b o e p q = q ∙ ap₂ (λ (x : ℕ) (y : Option ℕ). fitting x (column t i) (longest t i) y) e p
+fit-rule t i s a b o e p q = q ∙ ap₂ (λ (x : ℕ) (y : Option ℕ). capped x (column t i) (longest t i) y) e p
 
 pub split-rule : (parts : ℕ → ℕ → ℕ) (t : Layout) (i : ℕ) (s : State) (a n : ℕ) (o : Offer) → a ≡ average s
     → shorterBy3 n a ≡ shorterBy3 (parts i a) a → offered o ≡ shorterBy3 n a → offered o ≡ splitRule parts t i s
@@ -73,24 +73,24 @@ module _ (c : Column) (b : Bound) (w : ConstraintWidth) (e : b ≡ At w) where
   raised-not a h = rw (e, le-ltb a (w .0) h, raised)
 
   module _ (a : ℕ) (n : ContentWidth) (p : ℕ) (z : p ≡ padding c) where
-    pub fitting-at : (k : ContentWidth) → w .0 ≤ a + p → w .0 ≤ n .0 + p → k ≡ content c w → some (k .0) ≡ fitting a c (n .0) (bound b)
-    fitting-at k h j q =
+    pub capped-at : (k : ContentWidth) → w .0 ≤ a + p → w .0 ≤ n .0 + p → k ≡ content c w → some (k .0) ≡ capped a c (n .0) (bound b)
+    capped-at k h j q =
         let x = le-leb (w .0) (a + padding c) (omega arith) in
         let y = le-leb (w .0) (n .0 + padding c) (omega arith) in
-        rw (e, x, y, fitting) (ap (λ (x : ContentWidth). some (x .0)) q)
+        rw (e, x, y, capped) (ap (λ (x : ContentWidth). some (x .0)) q)
 
-    pub fitting-wide : (o : Offer) → a + p < w .0 → offered o ≡ withinAverage (n .0) a → offered o ≡ fitting a c (n .0) (bound b)
-    fitting-wide o h q = let x = lt-leb (w .0) (a + padding c) (omega arith) in rw (e, x, fitting) q
+    pub capped-wide : (o : Offer) → a + p < w .0 → offered o ≡ withinAverage (n .0) a → offered o ≡ capped a c (n .0) (bound b)
+    capped-wide o h q = let x = lt-leb (w .0) (a + padding c) (omega arith) in rw (e, x, capped) q
 
-    pub fitting-loose : (o : Offer) → w .0 ≤ a + p → n .0 + p < w .0 → offered o ≡ withinAverage (n .0) a → offered o ≡ fitting a c (n .0) (bound b)
-    fitting-loose o h j q =
+    pub capped-loose : (o : Offer) → w .0 ≤ a + p → n .0 + p < w .0 → offered o ≡ withinAverage (n .0) a → offered o ≡ capped a c (n .0) (bound b)
+    capped-loose o h j q =
         let x = le-leb (w .0) (a + padding c) (omega arith) in
         let y = lt-leb (w .0) (n .0 + padding c) (omega arith) in
-        rw (e, x, y, fitting) q
+        rw (e, x, y, capped) q
 
-pub fitting-unset : (a : ℕ) (c : Column) (n : ContentWidth) (b : Bound) (o : Offer) → b ≡ Unset → offered o ≡ withinAverage (n .0) a
-    → offered o ≡ fitting a c (n .0) (bound b)
-fitting-unset a c n b o e q = rw e q
+pub capped-unset : (a : ℕ) (c : Column) (n : ContentWidth) (b : Bound) (o : Offer) → b ≡ Unset → offered o ≡ withinAverage (n .0) a
+    → offered o ≡ capped a c (n .0) (bound b)
+capped-unset a c n b o e q = rw e q
 
 module _ (t : Layout) (s : State) (i r : ℕ) (h : Bool) (p : h ≡ isHidden (column t i)) where
   pub charged-hidden : h ≡ true → r ≡ charged t s i r

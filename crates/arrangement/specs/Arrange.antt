@@ -54,15 +54,15 @@ abbrev pub step1 : Layout → State → State
 step1 t s = repeated (pass lowerRule t) s
 
 -- 2. An upper bound that is at most average plus padding and at most longest (n) plus padding; else the longest if at most the average
-abbrev pub fitting : ℕ → Column → ℕ → Option ℕ → Option ℕ
-fitting a c n b =
+abbrev pub capped : ℕ → Column → ℕ → Option ℕ → Option ℕ
+capped a c n b =
     elim b [
       | some w ↦ elim (leb w (a + padding c) && leb w (n + padding c)) [ true ↦ some (contentOf c w) | false ↦ withinAverage n a ]
       | none ↦ withinAverage n a
     ]
 
 unfoldable pub fitRule : Rule
-fitRule t i s = fitting (average s) (column t i) (longest t i) (upper t (s .visible) (column t i))
+fitRule t i s = capped (average s) (column t i) (longest t i) (upper t (s .visible) (column t i))
 
 -- a pass begins only if the average isn't 0
 abbrev pub fitPass : Layout → State → State

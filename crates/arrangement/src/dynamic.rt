@@ -4,7 +4,7 @@ ghost use Prim.Native.Nat.{_+_, _≤_, _<_};
 ghost use lib.ListN.{getD};
 ghost use Rattle.constraint.specs.Widths.{bound, offered, pass, step, average};
 ghost use Rattle.arrangement.specs.Limits.{Small};
-ghost use Rattle.arrangement.specs.Arrange.{charged, remaining, targeted, raised, lowerRule, step1, fitting, fitRule, fitPass, step2, splitRule, step3};
+ghost use Rattle.arrangement.specs.Arrange.{charged, remaining, targeted, raised, lowerRule, step1, capped, fitRule, fitPass, step2, splitRule, step3};
 ghost use Rattle.arrangement.specs.Arrange.{share, sharing, undecided, distributed, widened, widening, filled, finished, dynamic, started};
 ghost use Rattle.arrangement.specs.Describes.{Describes};
 ghost use Rattle.rules.specs.Sheet.{mostColumns};
@@ -129,7 +129,7 @@ fn short_offer(a: u16, n: ContentWidth) -> Offer
 
 // An upper bound that the content reaches and the average allows comes before the longest.
 fn fitting_offer(a: u16, c: Column, n: ContentWidth, b: Bound) -> Offer
-    ensures { λ r. ⌜ offered r ≡ fitting a c (n .0) (bound b) ⌝ }
+    ensures { λ r. ⌜ offered r ≡ capped a c (n .0) (bound b) ⌝ }
 {
     match b {
         Bound::Unset => short_offer(a, n),

@@ -1,4 +1,4 @@
-use Rattle.arrangement.proofs.Ways.{fitting-at, fitting-wide, fitting-loose, fitting-unset}
+use Rattle.arrangement.proofs.Ways.{capped-at, capped-wide, capped-loose, capped-unset}
 use borrow.Author.Needs.{needs}
 use Rattle.arrangement.proofs.dynamic.fitting_offer.Statement.{statement}
 use Rattle.arrangement.proofs.dynamic.fitting_offer.Tie as tie
@@ -15,12 +15,12 @@ fitting-offer-spec =
     (λ c. search needs)
     (λ c. search needs)
     (λ c κs. search needs)
-    (λ c. search (needs, fitting-wide))
+    (λ c. search (needs, capped-wide))
     (λ c. search needs)
     (λ c. search needs)
     (λ c. search needs)
     (λ c κs. search needs)
-    (λ c. search (needs, fitting-loose))
+    (λ c. search (needs, capped-loose))
     (λ c κs. search needs)
-    (λ c. search (needs, fitting-unset))
-    (λ c. search (needs, fitting-at)))
+    (λ c. search (needs, capped-unset))
+    (λ c. search (needs, capped-at)))
