@@ -29,4 +29,4 @@ longest-part-of-row-spec =
     let skipped = e .before .before .skip-cells .ensures in
     let cell = o .before .before .cell .ensures in
     let found = y .before .longest-part-of-lines .ensures in
-    row-there _ _ _ _ _ _ skipped _ _ _ (e .if1 .left) cell (o .or-else .ensures) found _ (y .saves-too-little .ensures) _ (c .skip2 .ensures)))
+    row-there _ _ _ _ _ _ skipped _ _ _ (e .if1 .left) cell (o .or-else .ensures) found _ (y .saves-too-little .ensures) _ (c .skip-cells2 .ensures)))
