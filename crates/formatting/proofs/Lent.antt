@@ -60,6 +60,18 @@ pub pending-packed : (t : Pending) (f d a : ℕ) → t .line .found ≡ eqb f 1 
 unfolding pendingFrom
 pending-packed t f d a g e h = rw (← g, ← e .1, ← h .1, e .0, h .0)
 
+pub pending-repacked : (x : List ℕ) (t : Pending) (f : ℕ) → t .line .found ≡ eqb f 1
+    → (t .delimiter ≡ pendingFrom x .delimiter) × (t .alignment ≡ pendingFrom x .alignment)
+    → t ≡ pendingFrom (f ∷ t .line .start ∷ t .line .end ∷ t .line .cursor .lines .at ∷ t .line .cursor .lines .left ∷ t .line .cursor .from ∷
+    getD x 6 0 ∷ getD x 7 0 ∷ [])
+unfolding pendingFrom
+pending-repacked x t f g e = rw (← g, ← e .0, ← e .1)
+
+-- the next line of a cell, at its entry
+pub same-cell : (x : List ℕ) {s : List ℕ} {w : ℕ} {t u : Pending} → t ≡ pendingFrom x → After s w t u
+    → (u .delimiter ≡ pendingFrom x .delimiter) × (u .alignment ≡ pendingFrom x .alignment)
+same-cell x e a = (a .delimiter ∙ ap (λ p. p .delimiter) e, a .alignment ∙ ap (λ p. p .alignment) e)
+
 -- ---- lists of them
 
 getD-each : {A B : Type 0} (f : A → B) (l : List A) (i : ℕ) (d : A) → getD (map f l) i (f d) ≡ f (getD l i d)

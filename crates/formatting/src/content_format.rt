@@ -246,7 +246,7 @@ fn write_line(
         let u = d.pending;
         let line = u.line;
         more = numbers::either(more, line.found);
-        let z = packed::pack_pending(u);
+        let z = packed::repack_pending(x, u);
         state[i] = z;
         i += 1;
     }
@@ -278,7 +278,7 @@ fn skip_line(
         let u = advance(sheet, v.width, t);
         let line = u.line;
         more = numbers::either(more, line.found);
-        let z = packed::pack_pending(u);
+        let z = packed::repack_pending(x, u);
         state[i] = z;
         i += 1;
     }

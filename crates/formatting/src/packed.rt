@@ -83,3 +83,24 @@ pub fn pack_pending(t: Pending) -> [usize; 8]
     let a = number(t.alignment);
     [f, line.start, line.end, lines.at, lines.left, c.from, d, a]
 }
+
+// The entry x with another line of its cell. Delimiter and alignment stay, so that they needn't be stored again.
+pub fn repack_pending(x: [usize; 8], t: Pending) -> [usize; 8]
+    requires { ⌜ (t .delimiter ≡ pendingFrom x .delimiter) × (t .alignment ≡ pendingFrom x .alignment) ⌝ }
+    ensures { λ r. ⌜ t ≡ pendingFrom r ⌝ }
+{
+    let line = t.line;
+    let c = line.cursor;
+    let lines = c.lines;
+    let f = bit(line.found);
+    [
+        f,
+        line.start,
+        line.end,
+        lines.at,
+        lines.left,
+        c.from,
+        x[6],
+        x[7],
+    ]
+}

@@ -4,7 +4,7 @@ use Prim.Native.Nat.{_-_}
 use denote.Ref.{now}
 use Rattle.formatting.specs.Packed.{viewOf, pendingsOf}
 use Rattle.formatting.proofs.Line.{Passing, passing-begins, passing-done}
-use Rattle.formatting.proofs.Lent.{skip-ready, skip-on}
+use Rattle.formatting.proofs.Lent.{same-cell, skip-ready, skip-on}
 use Rattle.formatting.proofs.content_format.skip_line.Statement.{statement}
 use Rattle.formatting.proofs.content_format.skip_line.Tie as tie
 
@@ -36,7 +36,7 @@ skip-line-spec =
     _ _ (c .before .before .column-from .ensures) (c .pending-from .ensures) in
     (r .inside, r .wide))
     (λ c κs. search needs)
-    (λ c κs. search needs)
+    (λ c κs. same-cell _ (c .before .before .before .pending-from .ensures) (c .before .before .advance .ensures))
     (λ c. omega (arith, c .before .before .before .before .before .before .before .before .before .before .before .pre .most))
     (λ c. omega (arith, c .before .before .before .before .before .before .before .before .before .before .before .pre .most))
     (λ c. omega (arith, c .before .before .before .before .before .before .before .before .before .before .before .pre .most))
@@ -47,7 +47,7 @@ skip-line-spec =
     skip-on (now (s .args .sheet)) (now (s .args .columns)) (s .args .count) (now (s .args .state)) (s .pre) (l .state) (l .more) (l .i) (l .inv)
     (c .before .before .before .before .before .before .before .before .loop-test .taken)
     _ _ (c .before .before .before .before .before .before .column-from .ensures) (c .before .before .before .before .pending-from .ensures) _ _ _
-    (c .before .before .before .advance .ensures) (c .before .either .ensures) (c .pack-pending .ensures))
+    (c .before .before .before .advance .ensures) (c .before .either .ensures) (c .repack-pending .ensures))
     (λ c.
     let s = c .before .before .before in
     let l = c .before .loop in

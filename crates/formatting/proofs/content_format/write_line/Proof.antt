@@ -6,7 +6,7 @@ use denote.Ref.{now}
 use lib.ListN.{take, length-set}
 use Rattle.formatting.specs.Packed.{viewOf, pendingsOf}
 use Rattle.formatting.proofs.Line.{line-length, line-whole, Drawing, drawing-begins, drawing-done, passing-done}
-use Rattle.formatting.proofs.Lent.{column-fits, column-room, column-drawn}
+use Rattle.formatting.proofs.Lent.{same-cell, column-fits, column-room, column-drawn}
 use Rattle.formatting.proofs.content_format.write_line.Statement.{statement}
 use Rattle.formatting.proofs.content_format.write_line.Tie as tie
 
@@ -75,7 +75,8 @@ write-line-spec =
           (c .before .joins-before .ensures),
     ))
     (λ c κs. search needs)
-    (λ c κs. search needs)
+    (λ c κs. same-cell _ (c .before .before .before .before .before .before .before .before .pending-from .ensures)
+    (c .before .before .before .before .before .draw-column .ensures .0 .1))
     (λ c. omega (
       arith,
       c .before .before .before .before .before .before .before .before .before .before .before .before .before .before .before
@@ -116,7 +117,7 @@ write-line-spec =
     (c .before .before .before .before .before .before .before .before .before .pending-from .ensures)
     (c .before .before .before .before .before .before .before .before .joins-before .ensures)
     (d .last .0) (d .result .pending) (d .result .at) _ _ (d .ensures .0 .0) (d .ensures .0 .1) (d .ensures .1) (d .kept .0)
-    (c .before .either .ensures) (c .pack-pending .ensures))
+    (c .before .either .ensures) (c .repack-pending .ensures))
     (λ c κs.
     let s = c .before .before .before .before .before .before .before .before .before in
     let a = s .args in
