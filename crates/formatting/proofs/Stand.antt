@@ -178,13 +178,9 @@ pub stays-in : (limit line : ℕ) (more : Bool) → (limit ≡ 0 → ⊥) → li
 stays-in zero line more h k = absurd (h refl)
 stays-in (suc l) line more h k = let e : ltb (line + 1) (suc l) ≡ true = lt-ltb (line + 1) (suc l) (omega arith) in rw e
 
-pub last-line : (limit line : ℕ) → (limit ≡ 0 → ⊥) → eqb line (limit - 1) ≡ lastOf limit line
-last-line zero line h = absurd (h refl)
-last-line (suc l) line h = go (eqb line (suc l - 1)) refl
-  where
-    go : (b : Bool) → eqb line (suc l - 1) ≡ b → eqb line (suc l - 1) ≡ eqb (line + 1) (suc l)
-    go true e = let q = eqb-true line (suc l - 1) e in e ∙ sym (eq-eqb (line + 1) (suc l) (omega arith))
-    go false e = let q = eqb-false line (suc l - 1) e in e ∙ sym (ne-eqb (line + 1) (suc l) (λ x. q (omega arith)))
+pub last-line : (limit line : ℕ) → eqb (line + 1) limit ≡ lastOf limit line
+last-line zero line = ne-eqb (line + 1) 0 (λ e. omega arith)
+last-line (suc l) line = refl
 
 -- ---- one column of a row
 

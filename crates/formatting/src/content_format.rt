@@ -5,6 +5,7 @@ ghost use mathlib.Core.Bool.{Bool, _&&_};
 ghost use Prim.Native.Nat.{ℕ, _+_, _-_, _≤_, _<_};
 ghost use lib.ListN.{length, take, drop};
 ghost use lib.Dec.{ltb, leb};
+ghost use Rattle.rules.specs.Limits.{mostLines};
 ghost use Rattle.rules.specs.Text.{textWidth};
 ghost use Rattle.rules.specs.Sheet.{mostColumns};
 ghost use Rattle.rules.specs.Page.{before};
@@ -300,12 +301,10 @@ fn stays(limit: usize, line: usize, more: bool) -> bool
 
 // The last line that the limit leaves.
 fn is_last(limit: usize, line: usize) -> bool
+    requires { ⌜ line ≤ mostLines ⌝ }
     ensures { λ r. ⌜ r ≡ lastOf limit line ⌝ }
 {
-    if limit == 0 {
-        return false;
-    }
-    line == limit - 1
+    line + 1 == limit
 }
 
 // A row's limit, and whether the row has the line that is asked for.

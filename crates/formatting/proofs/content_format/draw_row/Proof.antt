@@ -40,7 +40,19 @@ draw-row-spec =
     running-room (now (a .sheet)) (viewOf (now (a .columns)) (a .count)) (a .style) (firstRow (now (a .sheet)) (a .here)) (a .first)
     (s .pre .0 .0 .views) (now (a .page)) (l .page) (pendingsOf (l .state)) (l .more) (l .at) (l .line) G)
     (λ c κs. search needs)
-    (λ c κs. search needs)
+    (λ c κs.
+    let s = c .before .before .before .before .before .before .before in
+    let a = s .args in
+    let l = c .before .before .loop in
+    let e = c .before .before .before .enter-row .ensures in
+    let G = l .inv (firstRow (now (a .sheet)) (a .here)) (e .limit) (s .pre .1) (e .stands) in
+    let g = goes (l .more) (c .before .goes-on .result) (a .size) _ (c .before .goes-on .ensures) (c .if1 .taken) in
+    omega (
+      arith,
+      stands-less (now (a .sheet)) (viewOf (now (a .columns)) (a .count)) (firstRow (now (a .sheet)) (a .here)) (s .pre .0 .0 .views)
+          (l .line) (l .more) (pendingsOf (l .state)) (G .stands) (g .0),
+      s .pre .1 .few,
+    ))
     (λ c.
     let s = c .before .before .before .before .before .before .before .before in
     let a = s .args in
