@@ -211,7 +211,8 @@ pub record Needed : Type 0 where
   pub rule-fills : Pair (rulesAlike (a ∷ []) (b ∷ [])) (rulesAlike [] (a ∷ b ∷ [])) (replicate 7 true ++ (false ∷ replicate 4 true)) (1 ∷ 1 ∷ [])
       (1 ∷ 1 ∷ [])
   pub rule-fills-break : ¬ Agree (rulesAlike (a ∷ []) (b ∷ [])) (rulesAlike [] (a ∷ b ∷ []))
-  pub content-left : Pair (contentAlike (a ∷ b ∷ [])) (contentAlike (one 0 0 (ascii "a" ∷ ascii "---" ∷ ascii "b" ∷ []) ∷ [])) (replicate 11 true ++ (false ∷ [])) (1 ∷ 1 ∷ []) (3 ∷ [])
+  pub content-left : Pair (contentAlike (a ∷ b ∷ [])) (contentAlike (one 0 0 (ascii "a" ∷ ascii "---" ∷ ascii "b" ∷ []) ∷ []))
+      (replicate 11 true ++ (false ∷ [])) (1 ∷ 1 ∷ []) (3 ∷ [])
   pub content-left-breaks : ¬ Agree (contentAlike (a ∷ b ∷ [])) (contentAlike (one 0 0 (ascii "a" ∷ ascii "---" ∷ ascii "b" ∷ []) ∷ []))
   pub header-left : Pair (headerAlike (one 0 0 (ascii "a" ∷ ascii "===" ∷ ascii "b" ∷ []) ∷ []) []) (headerAlike (a ∷ []) (one 0 0 (ascii "b" ∷ ascii "===" ∷ []) ∷ []))
       (replicate 8 true ++ (false ∷ true ∷ false ∷ true ∷ [])) (3 ∷ []) (1 ∷ 2 ∷ [])
@@ -219,7 +220,8 @@ pub record Needed : Type 0 where
   pub no-line : Pair (noLine []) (noLine (one 0 0 (ascii "     " ∷ []) ∷ [])) (replicate 12 true) [] (0 ∷ [])
   pub no-line-breaks : ¬ Agree (noLine []) (noLine (one 0 0 (ascii "     " ∷ []) ∷ []))
   pub cut-cells : Pair (cutTo 1 (ascii "ab cd")) (cutTo 1 (ascii "ab ce")) (replicate 12 true) (1 ∷ []) (1 ∷ [])
-  pub cut-cells-break : letters (cutTo 1 (ascii "ab cd")) (cutTo 1 (ascii "ab ce")) 0 0 (ascii "ab cd") ≢ letters (cutTo 1 (ascii "ab cd")) (cutTo 1 (ascii "ab ce")) 0 0 (ascii "ab ce")
+  pub cut-cells-break : letters (cutTo 1 (ascii "ab cd")) (cutTo 1 (ascii "ab ce")) 0 0 (ascii "ab cd")
+      ≢ letters (cutTo 1 (ascii "ab cd")) (cutTo 1 (ascii "ab ce")) 0 0 (ascii "ab ce")
 
 pub needed : Needed
 unfolding rules

@@ -38,19 +38,6 @@ pub data Format : Type 0 → Type 1 where
   -- a part of a value, by which the fields behind it may go
   next : {U A : Type 0} → (U → A) → Format A → (A → Format U) → Format U
 
--- a part of a U, and its fields: `l ← Column.left ↤ within 0 20` in Format
-pub record Part (U A : Type 0) : Type 1 where
-  pub of : U → A
-  pub fields : Format A
-
-infix 40 _↤_
-abbrev pub _↤_ : {U A : Type 0} → (U → A) → Format A → Part U A
-_↤_ of x = record { of = of; fields = x }
-
--- one part after another, left to right
-abbrev pub followed : {U A : Type 0} → Part U A → (A → Format U) → Format U
-followed x g = next (x .of) (x .fields) g
-
 abbrev pub code : ℕ → Format ℕ
 code most = only (between 0 most) unknownCode byte
 

@@ -7,7 +7,7 @@ use mathlib.Core.Option.{Option, none, some}
 use lib.ListN.{length, replicate}
 use Rattle.rules.specs.Opened.{rules}
 use Rattle.rules.specs.Quote.{ascii}
-use Rattle.rules.specs.Sheet.{Column, Table, noWidth, noColumn}
+use Rattle.rules.specs.Sheet.{Column, Row, Table, noWidth, noColumn}
 use Rattle.rules.specs.Field.{got}
 use Rattle.rules.specs.Format.{sheet}
 use Rattle.rules.specs.Wrap.{place, wrapLine, cutLine}
@@ -23,19 +23,37 @@ grid = ascii "+-++|||+=++|||+-+++-++"
 abbrev pub bare : List ℕ
 bare = replicate 22 0
 
-abbrev pub padded : List ℕ
-padded = 1 ∷ 1 ∷ replicate 9 0
+-- a column with paddings of 1 and nothing else set
+abbrev pub plainBytes : List ℕ
+plainBytes = 1 ∷ 1 ∷ replicate 9 0
+
+abbrev houseHead : List ℕ
+houseHead = (1 ∷ 1 ∷ 20 ∷ 0 ∷ 0 ∷ 0 ∷ 22 ∷ []) ++ (grid ++ (2 ∷ plainBytes ++ plainBytes))
 
 abbrev pub house : List ℕ
-house = (1 ∷ 1 ∷ 20 ∷ 0 ∷ 0 ∷ 0 ∷ 22 ∷ []) ++ (grid ++ (2 ∷ padded ++ (padded ++ ((0 ∷ 1 ∷ 0 ∷ 2 ∷ 0 ∷ 0 ∷ 1 ∷ 2 ∷ []) ++ (ascii "ab" ++ ((0 ∷ 0 ∷ 1 ∷ 15 ∷ []) ++ ascii "the quick brown"))))))
+house = houseHead ++ ((0 ∷ 1 ∷ 0 ∷ 2 ∷ 0 ∷ 0 ∷ 1 ∷ 2 ∷ []) ++ (ascii "ab" ++ ((0 ∷ 0 ∷ 1 ∷ 15 ∷ []) ++ ascii "the quick brown")))
 
 -- no style, no header, no rows
 abbrev pub empty : List ℕ
 empty = (1 ∷ 0 ∷ 0 ∷ 0 ∷ 0 ∷ 0 ∷ 22 ∷ []) ++ (bare ++ (0 ∷ 0 ∷ 0 ∷ []))
 
+-- a row of one cell of one line, without limit
+abbrev pub rowOf : List ℕ → Row
+rowOf l = record { limit = 0; cells = record { delimiter = 0; alignment = 0; lines = l ∷ [] } ∷ [] }
+
 -- one column, and a row of one cell
 abbrev pub single : ℕ → ℕ → Column → List ℕ → Table
-single arrangement target c l = record { edition = 1; arrangement = arrangement; target = target; delimiter = 0; indicator = []; style = bare; columns = c ∷ []; header = []; rows = record { limit = 0; cells = record { delimiter = 0; alignment = 0; lines = l ∷ [] } ∷ [] } ∷ [] }
+single arrangement target c l = record {
+  edition = 1;
+  arrangement = arrangement;
+  target = target;
+  delimiter = 0;
+  indicator = [];
+  style = bare;
+  columns = c ∷ [];
+  header = [];
+  rows = rowOf l ∷ [];
+}
 
 -- equal paddings, a constraint and its fixed width
 abbrev pub held : ℕ → ℕ → ℕ → Column
@@ -47,7 +65,17 @@ wide = record { edition = 1; arrangement = 1; target = 21; delimiter = 0; indica
 
 -- two columns without padding, the second without a cell, at a target of 10
 abbrev pub lone : Table
-lone = record { edition = 1; arrangement = 1; target = 10; delimiter = 0; indicator = []; style = bare; columns = noColumn ∷ noColumn ∷ []; header = []; rows = record { limit = 0; cells = record { delimiter = 0; alignment = 0; lines = ascii "abcdefghijklmnop" ∷ [] } ∷ [] } ∷ [] }
+lone = record {
+  edition = 1;
+  arrangement = 1;
+  target = 10;
+  delimiter = 0;
+  indicator = [];
+  style = bare;
+  columns = noColumn ∷ noColumn ∷ [];
+  header = [];
+  rows = rowOf (ascii "abcdefghijklmnop") ∷ [];
+}
 
 pub record Examples : Type 0 where
   pub quick : wrapLine 6 32 (ascii "the quick brown") ≡ ascii "the" ∷ ascii "quick" ∷ ascii "brown" ∷ []
@@ -89,7 +117,10 @@ houseTable = record {
   style = grid;
   columns = plain ∷ plain ∷ [];
   header = [];
-  rows = record { limit = 0; cells = record { delimiter = 0; alignment = 0; lines = ascii "ab" ∷ [] } ∷ record { delimiter = 0; alignment = 0; lines = ascii "the quick brown" ∷ [] } ∷ [] } ∷ [];
+  rows = record {
+    limit = 0;
+    cells = record { delimiter = 0; alignment = 0; lines = ascii "ab" ∷ [] } ∷ record { delimiter = 0; alignment = 0; lines = ascii "the quick brown" ∷ [] } ∷ [];
+  } ∷ [];
 }
 
 pub record House : Type 0 where
@@ -104,7 +135,7 @@ pub record House : Type 0 where
 -- the document's plausible slips, each with an example that shows it
 pub record Slips : Type 0 where
   pub charge-of-0 : contents lone ≡ 10 ∷ 1 ∷ []
-  pub padding-not-counted : contents (single 0 0 (held 1 5 5) (ascii "abcde")) ≡ 5 ∷ []
+  pub padding-not-counted : contents (single 0 0 (held 2 5 7) (ascii "abcdef")) ≡ 6 ∷ []
   pub exact-width : wrapLine 3 32 (ascii "   ") ≡ ascii "   " ∷ []
   pub top-junction : ruled (0 ∷ 45 ∷ replicate 20 0) true 0 (2 ∷ 3 ∷ []) ≡ ascii "-- ---"
 

@@ -5,8 +5,12 @@ use Rattle.rules.specs.Description.{reads}
 use Rattle.rules.specs.Format.{width, column, line, cell, row, table, sheet}
 use Rattle.rules.specs.Style.{bordersOf}
 use Rattle.rules.specs.Wrap.{onto, pieces, glue, room, tight, full, act, last, place, weight, split, wrapLine, wrapLines, exceeds, fitting, cutLine, cut}
-use Rattle.rules.specs.Widths.{cellsOf, cellLongest, longest, numbers, visible, borders, percentOf, widthOf, valueOf, lowerWidth, upperWidth, absoluteWidth, lower, upper, absolute, covering, evaluate, noted, first, untargeted, zeros, taken, start, fix, fixAt, visit, pass, passes, aboveAverage, withinAverage, fittingAverage, trialParts, cellParts, longestPart, shorterBy3, splitAtAverage, step1, step2, step3, share, shared, widened, step4, contents}
-use Rattle.rules.specs.Page.{area, visibleWidths, wrapped, cellLines, height, areaAt, areas, joinedMore, joined, lineOf, ruled, textLine, shown, headed, ruledMore, ruledRows, rowText, framed, pageLines, closed, page, lineAt, lineCount, byteCount}
+use Rattle.rules.specs.Widths.{cellsOf, cellLongest, longest, numbers, visible, borders, percentOf, widthOf, valueOf, lowerWidth, upperWidth}
+use Rattle.rules.specs.Widths.{absoluteWidth, lower, upper, absolute, covering, evaluate, noted, first, untargeted, zeros, taken, start, fix}
+use Rattle.rules.specs.Widths.{fixAt, visit, pass, passes, aboveAverage, withinAverage, fittingAverage, trialParts, cellParts, longestPart}
+use Rattle.rules.specs.Widths.{shorterBy3, splitAtAverage, step1, step2, step3, share, shared, widened, step4, contents}
+use Rattle.rules.specs.Page.{area, visibleWidths, wrapped, cellLines, height, areaAt, areas, joinedMore, joined, lineOf, ruled, textLine}
+use Rattle.rules.specs.Page.{shown, headed, ruledMore, ruledRows, rowText, framed, pageLines, closed, page, lineAt, lineCount, byteCount}
 use Rattle.rules.specs.Calls.{countOf, count, put, printOf, printPage, printLineOf, printLine}
 
 unfoldable texts : Unit {0}
@@ -21,18 +25,30 @@ unfoldable wrapping : Unit {0}
 unfolding onto pieces glue room tight full act last place weight split wrapLine wrapLines exceeds fitting cutLine cut bordersOf
 wrapping = tt
 
-unfoldable widths : Unit {0}
-unfolding cellsOf cellLongest longest numbers visible borders percentOf widthOf valueOf lowerWidth upperWidth absoluteWidth lower upper absolute covering evaluate noted first untargeted zeros taken start fix fixAt visit pass passes aboveAverage withinAverage fittingAverage trialParts cellParts longestPart shorterBy3 splitAtAverage step1 step2 step3 share shared widened step4 contents
-widths = tt
+unfoldable constraining : Unit {0}
+unfolding cellsOf cellLongest longest numbers visible borders percentOf widthOf valueOf lowerWidth upperWidth absoluteWidth lower upper absolute covering
+constraining = tt
+
+unfoldable passing : Unit {0}
+unfolding evaluate noted first untargeted zeros taken start fix fixAt visit pass passes aboveAverage withinAverage fittingAverage
+passing = tt
+
+unfoldable stepping : Unit {0}
+unfolding trialParts cellParts longestPart shorterBy3 splitAtAverage step1 step2 step3 share shared widened step4 contents
+stepping = tt
 
 unfoldable drawing : Unit {0}
-unfolding area visibleWidths wrapped cellLines height areaAt areas joinedMore joined lineOf ruled textLine shown headed ruledMore ruledRows rowText framed pageLines closed page lineAt lineCount byteCount
+unfolding area visibleWidths wrapped cellLines height areaAt areas joinedMore joined lineOf ruled textLine shown headed ruledMore ruledRows rowText
 drawing = tt
+
+unfoldable framing : Unit {0}
+unfolding framed pageLines closed page lineAt lineCount byteCount
+framing = tt
 
 unfoldable calls : Unit {0}
 unfolding countOf count put printOf printPage printLineOf printLine
 calls = tt
 
 unfoldable pub rules : Unit {0}
-unfolding texts reading wrapping widths drawing calls
+unfolding texts reading wrapping constraining passing stepping drawing framing calls
 rules = tt
