@@ -2,10 +2,10 @@
 use Prim.Native.Nat.{ℕ, zero, suc, _+_, _-_, _≤_, _<_}
 use mathlib.Core.Path.{_≡_, refl, sym, ap, subst, _∙_}
 use mathlib.Core.List.{List, [], _∷_, _++_}
-use mathlib.Core.Bool.{Bool, true, false}
+use mathlib.Core.Bool.{Bool, true, false, false≢true}
 use native.Mathlib.Omega.{arith}
 use lib.ListN.{length, take, drop, getD}
-use lib.Seq.{slice, length-slice, take-all, drop-nil}
+use lib.Seq.{slice, length-slice, take-all, drop-nil, drop-drop}
 use lib.Dec.{ltb}
 use borrow.Author.Tests.{lt-ltb}
 use Rattle.rules.specs.Text.{textWidth, flat}
@@ -20,7 +20,7 @@ use Rattle.content_split.specs.Parts.{LineIs, PartIs}
 use Rattle.content_split.specs.declared.Part.{Part}
 use Rattle.content_split.specs.declared.Part.the-variants.{Line, Nothing}
 use Rattle.content_split.proofs.Steps.{none-at-end}
-use Rattle.cells.specs.Cell.{rest, Inside, textOf, Head, HeadIs, noLine, taken, FirstOf}
+use Rattle.cells.specs.Cell.{rest, Inside, textOf, Head, HeadIs, noLine, taken, FirstOf, Further}
 use Rattle.cells.specs.declared.CellCursor.{CellCursor}
 use Rattle.cells.specs.declared.Next.{Next}
 
@@ -184,3 +184,42 @@ module _ (s : List ℕ) (w d : ℕ) (pos : 0 < w) (c : CellCursor) (I : Inside s
 
     pub next-further : r .found ≡ false → (k : Lines) → LinesNext s (c .lines) k → rest s w d c ≡ wrapLines w d (linesIn s k)
     next-further f k n = rest-is ∙ rw (taken-none s w d (c .lines) (firstLine s (c .lines)) _ p r head-at q f, ← n .lines)
+
+-- ---- lines further on
+
+none-found : (ls : List (List ℕ)) → ltb 0 (length ls) ≡ false → ls ≡ []
+none-found [] e = refl
+none-found (l ∷ ls) e = absurd (false≢true (sym e ∙ some-line (length ls)))
+
+split-drop : (j n : ℕ) → j ≤ n → (ls : List (List ℕ)) → drop n ls ≡ drop (n - j) (drop j ls)
+split-drop j n h ls = let e : j + (n - j) ≡ n = omega arith in sym (drop-drop (n - j) j ls ∙ ap (λ k. drop k ls) e)
+
+-- j of n lines after t are passed over, and r comes next
+pub record Moving (s : List ℕ) (w d n : ℕ) (t : Next) (j : ℕ) (r : Next) : Type 0 where
+  pub within : j ≤ n
+  pub inside : Inside s (r .cursor)
+  pub lines : Further s w d j t r
+
+module _ (s : List ℕ) (w d n : ℕ) (t : Next) where
+  pub moving-begins : Inside s (t .cursor) → Moving s w d n t 0 t
+  moving-begins I = record { within = omega arith; inside = I; lines = λ ls F. F }
+
+  module _ (j : ℕ) (r : Next) (M : Moving s w d n t j r) where
+    pub moving-on : j < n → (q : Next) → FirstOf s w d (rest s w d (r .cursor)) q → Moving s w d n t (j + 1) q
+    moving-on h q N = record {
+      within = omega arith;
+      inside = N .inside;
+      lines = λ ls F. subst (λ (xs : List (List ℕ)). FirstOf s w d xs q) (sym (M .lines ls F .others) ∙ drop-drop 1 j ls) N;
+    }
+
+    -- past a cell's last line nothing comes, however many lines further on
+    pub moving-ended : r .found ≡ false → Further s w d n t r
+    moving-ended e ls F =
+        let G = M .lines ls F in
+        let k = M .within in
+        let z : drop j ls ≡ [] = none-found (drop j ls) (sym (G .found) ∙ e) in
+        let y : drop n ls ≡ drop j ls = split-drop j n k ls ∙ ap (drop (n - j)) z ∙ drop-nil (n - j) ∙ sym z in
+        rw y G
+
+    pub moving-done : n ≤ j → Further s w d n t r
+    moving-done h = let k = M .within in let e : n ≡ j = omega arith in rw e (M .lines)

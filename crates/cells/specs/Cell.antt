@@ -58,3 +58,7 @@ pub record FirstOf (s : List ℕ) (w d : ℕ) (ls : List (List ℕ)) (r : Next) 
   pub order : r .start ≤ r .end
   pub within : r .end ≤ length (firstLine s (r .cursor .lines))
   pub fits : textWidth (textOf s (r .cursor) (r .start) (r .end)) ≤ w
+
+-- wherever t is the first of some lines, r is the first of those n lines further on
+abbrev pub Further : List ℕ → ℕ → ℕ → ℕ → Next → Next → Type 0
+Further s w d n t r = (ls : List (List ℕ)) → FirstOf s w d ls t → FirstOf s w d (drop n ls) r

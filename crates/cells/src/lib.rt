@@ -7,7 +7,7 @@ ghost use Prim.Native.Nat.{_+_, _≤_, _<_};
 ghost use lib.ListN.{length};
 ghost use Rattle.rules.specs.Wrap.{wrapLine, wrapLines};
 ghost use Rattle.sheet.specs.Walk.{linesIn, linesEnd, firstLine};
-ghost use Rattle.cells.specs.Cell.{rest, Inside, HeadIs, taken, noLine, FirstOf};
+ghost use Rattle.cells.specs.Cell.{rest, Inside, HeadIs, taken, noLine, FirstOf, Further};
 
 // Where the next wrapped line of a cell is looked for: in the first of its cell lines from byte `from` on, and then in those that follow.
 pub struct CellCursor {
@@ -110,6 +110,23 @@ pub fn next_line(sheet: &[u8], c: CellCursor, width: usize, delimiter: u8) -> Ne
     }
     let others = walk::next_line(sheet, lines);
     first_line(sheet, others, width, delimiter)
+}
+
+// The line that comes n lines after t, if there is one.
+pub fn further(sheet: &[u8], t: Next, width: usize, delimiter: u8, n: usize) -> Next
+    requires { ⌜ Inside (now sheet) (t .cursor) × (0 < width) ⌝ }
+    ensures { λ r. ⌜ Further (now (sheet .entry)) width delimiter n t r ⌝ }
+{
+    let mut r = t;
+    let mut j: usize = 0;
+    while j < n {
+        if !r.found {
+            return r;
+        }
+        r = next_line(sheet, r.cursor, width, delimiter);
+        j += 1;
+    }
+    r
 }
 
 // How many lines a cell line wraps into: no more than it has bytes, its length byte included.
