@@ -10,8 +10,7 @@ use Rattle.rules.specs.Text.{sum, upFrom, oneIf}
 use Rattle.rules.specs.Sheet.{Table}
 use Rattle.rules.specs.Style.{anyLeft, anyRight, anyJunction, bordersOf}
 use Rattle.rules.specs.Widths.{visible, borders}
-use Rattle.rules.specs.Page.{visibleWidth, visibleWidths}
-use Rattle.rules.proofs.Lines.{lineLength, borderLength}
+use Rattle.rules.specs.Page.{visibleWidth, visibleWidths, lineLength, borderLength}
 use Rattle.rules.proofs.Counts.{line-length-bound, border-length-bound}
 use Rattle.rules.proofs.Lists.{upFrom-last, map-append}
 use Rattle.sheet.specs.Held.{tableOf}

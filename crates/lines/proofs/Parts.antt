@@ -12,10 +12,10 @@ use Rattle.rules.specs.Sheet.{Row, noRow}
 use Rattle.rules.specs.Limits.{RowLimits}
 use Rattle.rules.specs.Style.{topBorder, headerLines, headerRule, contentLines, rowRule, bottomBorder, anyJunction, isVisible}
 use Rattle.rules.specs.Widths.{visible}
-use Rattle.rules.specs.Page.{height, areas, areaAt, textLine, rowText, visibleWidths, ruled, shown, headed, ruledRows, ruledMore, framed, closed}
+use Rattle.rules.specs.Page.{height, areas, areaAt, textLine, rowText, visibleWidths, lineLength, ruled, shown, headed, ruledRows, ruledMore, framed, closed}
 use Rattle.rules.proofs.Areas.{length-areas, line-at}
 use Rattle.rules.proofs.Counts.{height-bound}
-use Rattle.rules.proofs.Lines.{lineLength, borderLength, text-length, rule-length, border-length}
+use Rattle.rules.proofs.Lines.{text-length, rule-length, border-length}
 use Rattle.rules.proofs.Lists.{all-drop, all-append, all-map, all-map-imp, getD-map}
 use Rattle.rules.proofs.Rows.{all-headed}
 use Rattle.sheet.specs.Held.{tableOf}

@@ -5,7 +5,7 @@ use mathlib.Core.List.{List}
 use lib.ListN.{length}
 use Rattle.rules.specs.Text.{All}
 use Rattle.rules.specs.Limits.{longestLine}
-use Rattle.rules.proofs.Lines.{lineLength, borderLength}
+use Rattle.rules.specs.Page.{lineLength, borderLength}
 use Rattle.sheet.specs.Held.{tableOf}
 use Rattle.formatting.specs.Line.{View, visibleAt}
 use Rattle.lines.specs.Opened.{widthsIn}

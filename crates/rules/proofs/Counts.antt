@@ -14,12 +14,12 @@ use Rattle.rules.specs.Limits.{longestLine, ColumnLimits, LineLimits, Ce
 use Rattle.rules.specs.Style.{topBorder, headerLines, headerRule, contentLines, rowRule, bottomBorder, anyLeft, anyRight, anyJunction, isVisible, bordersOf}
 use Rattle.rules.specs.Wrap.{Act, join, retry, fill, begin, onto, pieces, glue, room, full, act, last, place, weight, split, wrapLine, wrapLines, exceeds, cutLine, cut, delimiterOf}
 use Rattle.rules.specs.Widths.{numbers, visible, borders, contents}
-use Rattle.rules.specs.Page.{visibleWidth, visibleWidths, wrapped, cellLines, height, areaAt, areas, ruled, textLine, shown, headed, ruledMore, ruledRows, rowText, framed, pageLines, closed, lineAt, lineCount, byteCount}
+use Rattle.rules.specs.Page.{visibleWidth, visibleWidths, wrapped, cellLines, height, areaAt, areas, ruled, textLine, lineLength, borderLength, shown, headed, ruledMore, ruledRows, rowText, framed, pageLines, closed, lineAt, lineCount, byteCount}
 use Rattle.rules.proofs.Lists.{all-map, all-map-imp, all-imp, all-append, all-default, all-getD, all-keep, length-upFrom, keep-yes, keep-no}
 use Rattle.rules.proofs.Bounds.{Most, greatest-le, contents-801}
 use Rattle.rules.proofs.Areas.{visible-below, length-widths, length-areas}
 use Rattle.rules.proofs.Rows.{all-headed, all-ruledRows}
-use Rattle.rules.proofs.Lines.{lineLength, borderLength, text-length, rule-length, border-length}
+use Rattle.rules.proofs.Lines.{text-length, rule-length, border-length}
 use Rattle.rules.proofs.Sizes.{length-closed, byte-count-closed}
 
 -- ---- lines of a cell

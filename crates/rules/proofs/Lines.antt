@@ -9,7 +9,7 @@ use Rattle.rules.specs.Text.{sum, oneIf}
 use Rattle.rules.specs.Sheet.{Row, Table}
 use Rattle.rules.specs.Style.{glyphAt, glyph, anyLeft, anyRight, anyJunction, bordersOf}
 use Rattle.rules.specs.Widths.{visible, borders}
-use Rattle.rules.specs.Page.{edge, joinedMore, joined, lineOf, ruled, textLine, areaAt, visibleWidths}
+use Rattle.rules.specs.Page.{edge, joinedMore, joined, lineOf, ruled, textLine, areaAt, visibleWidths, lineLength, borderLength}
 use Rattle.rules.proofs.Fits.{area-lengths}
 
 length-edge : (b : Bool) (c : ℕ) → length (edge b c) ≡ oneIf b
@@ -55,14 +55,6 @@ length-ruled S always k vs =
 pub length-textLine : (S : List ℕ) (k : ℕ) (ps : List (List ℕ)) → length (textLine S k ps) ≡ bordersOf S (length ps) + sum (map length ps)
 unfolding textLine bordersOf
 length-textLine S k ps = length-lineOf (anyLeft S) (anyJunction S) (anyRight S) (glyphAt S k) (glyphAt S (k + 1)) (glyphAt S (k + 2)) ps
-
--- the length of text lines and rules: borders drawn and visible widths
-unfoldable pub lineLength : Table → List ℕ → ℕ
-lineLength t ws = borders t + sum (visibleWidths t ws)
-
--- the length of borders, whose junctions are always drawn
-unfoldable pub borderLength : Table → List ℕ → ℕ
-borderLength t ws = oneIf (anyLeft (t .style)) + oneIf (anyRight (t .style)) + (length (visible t) - 1) + sum (visibleWidths t ws)
 
 -- a text line of a row
 pub text-length : (t : Table) (ws : List ℕ) (r : Row) (i k : ℕ) → length (textLine (t .style) i (map (areaAt t ws r k) (visible t))) ≡ lineLength t ws

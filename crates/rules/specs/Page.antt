@@ -4,11 +4,11 @@ use mathlib.Core.List.{List, [], _∷_, _++_, map}
 use mathlib.Core.Bool.{Bool, true, false, _||_, cond}
 use lib.ListN.{length, getD, replicate}
 use lib.Dec.{eqb, leb}
-use Rattle.rules.specs.Text.{textWidth, blank, orElse, greatest, upFrom, flat}
+use Rattle.rules.specs.Text.{textWidth, blank, orElse, oneIf, greatest, sum, upFrom, flat}
 use Rattle.rules.specs.Sheet.{Column, Cell, Row, Table, columnAt, cellAt, padding}
 use Rattle.rules.specs.Style.{topBorder, headerLines, headerRule, contentLines, rowRule, bottomBorder, glyphAt, glyph, anyLeft, anyRight, anyJunction, isVisible}
 use Rattle.rules.specs.Wrap.{delimiterOf, wrapLines, cut}
-use Rattle.rules.specs.Widths.{visible, contents}
+use Rattle.rules.specs.Widths.{visible, borders, contents}
 
 -- alignment: the cell's, else column's, else left
 abbrev pub alignmentOf : Column → Cell → ℕ
@@ -78,6 +78,14 @@ ruled S always k vs =
 -- a text line, whose characters begin at k; junctions only if some junction is set
 unfoldable pub textLine : List ℕ → ℕ → List (List ℕ) → List ℕ
 textLine S k ps = lineOf (edge (anyLeft S) (glyphAt S k)) (edge (anyJunction S) (glyphAt S (k + 1))) (edge (anyRight S) (glyphAt S (k + 2))) ps
+
+-- the length of a text line, and of a rule: the borders that are drawn (`borders`) and the visible widths
+unfoldable pub lineLength : Table → List ℕ → ℕ
+lineLength t ws = borders t + sum (visibleWidths t ws)
+
+-- the length of a border: its junctions are drawn even where none is set (`ruled`, always)
+unfoldable pub borderLength : Table → List ℕ → ℕ
+borderLength t ws = oneIf (anyLeft (t .style)) + oneIf (anyRight (t .style)) + (length (visible t) - 1) + sum (visibleWidths t ws)
 
 -- a border or a rule where it is visible
 unfoldable pub shown : List ℕ → Bool → ℕ → List ℕ → List (List ℕ)
