@@ -84,9 +84,6 @@ lines-some s c h = first-others [] (linesIn s c) (omega (arith, lines-number s c
 some-line : (n : ℕ) → ltb 0 (suc n) ≡ true
 some-line n = lt-ltb 0 (suc n) (omega arith)
 
-never : _≡_ {A = Bool} false true → ⊥
-never e = let z : _≡_ {A = ℕ} 0 1 = cc in omega arith
-
 module _ (s : List ℕ) (w d : ℕ) where
   -- the cell lines' first line is found in the first of them, where that comes to the lines ls
   found-first : (c : Lines) → linesEnd s c ≤ length s → (ls : List (List ℕ)) (a e n : ℕ) → Head w d (firstLine s c) ls a e n
@@ -126,11 +123,11 @@ module _ (s : List ℕ) (w d : ℕ) where
       p → r .found ≡ true
       → FirstOf s w d (ls ++ wrapLines w d (drop 1 (linesIn s c))) r
   taken-found c h ls (Line a e n) r l q f = rw q (found-first c h ls a e n l)
-  taken-found c h ls Nothing r l q f = absurd (never (sym (ap (λ (x : Next). x .found) q) ∙ f))
+  taken-found c h ls Nothing r l q f = absurd (false≢true (sym (ap (λ (x : Next). x .found) q) ∙ f))
 
   pub taken-none : (c : Lines) (t : List ℕ) (ls : List (List ℕ)) (p : Part) (r : Next) → HeadIs w d t ls p → r ≡ taken c p → r .found ≡ false → ls ≡
       []
-  taken-none c t ls (Line a e n) r l q f = absurd (never (sym f ∙ ap (λ (x : Next). x .found) q))
+  taken-none c t ls (Line a e n) r l q f = absurd (false≢true (sym f ∙ ap (λ (x : Next). x .found) q))
   taken-none c t ls Nothing r l q f = l
 
 -- ---- the first line of some cell lines

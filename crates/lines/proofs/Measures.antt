@@ -11,6 +11,7 @@ use Rattle.rules.specs.Sheet.{Table}
 use Rattle.rules.specs.Style.{anyLeft, anyRight, anyJunction, bordersOf}
 use Rattle.rules.specs.Widths.{visible, borders}
 use Rattle.rules.specs.Page.{visibleWidth, visibleWidths, lineLength, borderLength}
+use Rattle.rules.proofs.Cases.{oneIf-cond}
 use Rattle.rules.proofs.Counts.{line-length-bound, border-length-bound}
 use Rattle.rules.proofs.Lists.{upFrom-last, map-append}
 use Rattle.sheet.specs.Held.{tableOf}
@@ -79,10 +80,6 @@ module _ (t : Table) (ws : List ℕ) (view : View) (W : Views t ws view) where
   width-sum = up-to (view .count) (omega arith) ∙ sym (ap sum (map-numbered (visibleWidth t ws) 0 (visible t) ∙ ap (λ n. map here (upFrom 0 n))
       (sym (W .count))))
 
-one-if : (b : Bool) → cond b 1 0 ≡ oneIf b
-one-if true = refl
-one-if false = refl
-
 -- the lengths from their parts
 pub lengths-are : (s : List ℕ) (cols : List (List ℕ)) (p : Page) → Opened s cols p → (a b i j n : ℕ) → a ≡ cond (p .styles .body .rule .opens) 1 0 → b
     ≡ cond (p .styles .body .rule .closes) 1 0
@@ -93,8 +90,8 @@ lengths-are s cols p O a b i j n ea eb ei ej en =
     let S = tableOf s .style in
     let L = limits-of s (O .passes) in
     let w : n ≡ sum (visibleWidths (tableOf s) (widthsIn s)) = en ∙ width-sum (tableOf s) (widthsIn s) (viewOf cols (p .count)) (O .views) in
-    let x : a ≡ oneIf (anyLeft S) = ea ∙ ap (λ (l : LineStyles). cond (l .body .rule .opens) 1 0) (O .styles) ∙ one-if (anyLeft S) in
-    let y : b ≡ oneIf (anyRight S) = eb ∙ ap (λ (l : LineStyles). cond (l .body .rule .closes) 1 0) (O .styles) ∙ one-if (anyRight S) in
+    let x : a ≡ oneIf (anyLeft S) = ea ∙ ap (λ (l : LineStyles). cond (l .body .rule .opens) 1 0) (O .styles) ∙ oneIf-cond (anyLeft S) in
+    let y : b ≡ oneIf (anyRight S) = eb ∙ ap (λ (l : LineStyles). cond (l .body .rule .closes) 1 0) (O .styles) ∙ oneIf-cond (anyRight S) in
     let v : i ≡ length (visible (tableOf s)) - 1 = ei ∙ ap (λ k. k - 1) (O .views .count) in
     let u : j ≡ cond (anyJunction S) (length (visible (tableOf s)) - 1) 0 = ej ∙ ap (λ (l : LineStyles). cond (l .body .rule .joined) i 0) (O .styles)
     ∙ ap (λ k. cond (anyJunction S) k 0) v in

@@ -2,13 +2,13 @@
 use Prim.Native.Nat.{ℕ, zero, suc, _+_, _-_, _*_, _≤_, _<_, min}
 use mathlib.Core.Path.{_≡_, refl, sym, ap, subst, _∙_}
 use mathlib.Core.List.{List, [], _∷_, _++_, append-assoc}
-use mathlib.Core.Bool.{Bool, true, false, cond, not, _&&_}
+use mathlib.Core.Bool.{Bool, true, false, cond, not, _&&_, true≢false}
 use native.Mathlib.Omega.{arith}
 use native.Mathlib.Nat.{suc-mul, suc-add}
 use lib.ListN.{length, take, drop, getD, length-append, length-drop, take-append-drop, drop-of-length-le, List·getD-append}
 use lib.Seq.{getD-drop, drop-drop, drop-nil, take-all, take-at, take-nil}
 use lib.Dec.{ltb}
-use borrow.Author.Tests.{leb-false}
+use borrow.Author.Tests.{leb-false, not-true, not-false}
 use borrow.Rule.Slice.PartMut.{putMid}
 use Rattle.rules.specs.Text.{All}
 use Rattle.rules.specs.Sheet.{Row, noRow}
@@ -62,17 +62,6 @@ take-more : {A : Type 0} (n m : ℕ) (xs : List A) → take (n + m) xs ≡ take 
 take-more zero m xs = let z : 0 + m ≡ m = omega arith in rw z
 take-more (suc n) m [] = rw (suc-add n m) (sym (take-nil m))
 take-more (suc n) m (x ∷ xs) = rw (suc-add n m) (ap (λ ls. x ∷ ls) (take-more n m xs))
-
-pub not-true : (x : Bool) → not x ≡ true → x ≡ false
-not-true true f = sym f
-not-true false f = refl
-
-pub not-false : (x : Bool) → not x ≡ false → x ≡ true
-not-false true f = refl
-not-false false f = sym f
-
-never : _≡_ {A = Bool} true false → ⊥
-never e = let z : _≡_ {A = ℕ} 0 1 = cc in omega arith
 
 -- ---- a row's lines
 
@@ -418,8 +407,8 @@ module _ (s : List ℕ) (p : Page) (k : ℕ) (c : Cursor) (left : ℕ) (R : Reac
     at = R .at;
     within = omega arith;
     passed = R .passed;
-    reached = λ f. absurd (never (sym e ∙ f));
-    some = λ f. absurd (never (sym e ∙ f));
+    reached = λ f. absurd (true≢false (sym e ∙ f));
+    some = λ f. absurd (true≢false (sym e ∙ f));
   }
 
 module _ (s : List ℕ) (p : Page) (k : ℕ) (r : Sought) (S : SoughtIs s p k r) where
@@ -607,5 +596,5 @@ module _ (s : List ℕ) (p : Page) (from : Cursor) (b page : List ℕ) (c : Curs
         page = G .part .page ∙ rw whole;
         next = G .rest;
         at = G .stands;
-        left = λ f. absurd (never (sym e ∙ f));
+        left = λ f. absurd (true≢false (sym e ∙ f));
       }

@@ -14,6 +14,7 @@ use Rattle.rules.specs.Text.{textWidth, greatest, orElse, oneIf, keep, A
 use Rattle.rules.specs.Sheet.{Width, Column, Cell, Row, Table, columnAt, cellAt, noCell, noColumn, allRows, padding, isHidden}
 use Rattle.rules.specs.Limits.{WidthLimits, ColumnLimits, LineLimits, CellLimits, RowLimits, TableLimits}
 use Rattle.rules.specs.Widths.{State, Rule, cellsOf, cellLongest, longest, numbers, visible, borders, percentOf, widthOf, valueOf, lowerWidth, upperWidth, absoluteWidth, lower, upper, absolute, covering, evaluate, noted, first, untargeted, zeros, undecided, average, averageIsSome, isUndecided, start, fix, fixAt, visit, pass, passes, aboveAverage, withinAverage, fittingAverage, longestPart, shorterBy3, splitAtAverage, step1, step2, step3, share, shared, widened, step4, contents, lifted, contentOf}
+use Rattle.rules.proofs.Cases.{oneIf-le}
 use Rattle.rules.proofs.Text.{width-length}
 use Rattle.rules.proofs.Settled.{zeros-le}
 use Rattle.rules.proofs.Contents.{length-steps}
@@ -264,10 +265,6 @@ within-400 l a h = go (leb l a)
     go : (b : Bool) → Offered (Most 400) (elim b as (λ x. Option ℕ) [ true ↦ some l | false ↦ none ])
     go true = h
     go false = tt
-
-oneIf-le : (b : Bool) → oneIf b ≤ 1
-oneIf-le true = omega arith
-oneIf-le false = omega arith
 
 -- shares: at most the amount and one
 share-le : (amount n k : ℕ) → share amount n k ≤ amount + 1

@@ -1,13 +1,13 @@
 -- How many lines and bytes the page of an accepted sheet has at most, and which columns its lines show. Assumes nothing.
 use Prim.Native.Nat.{ℕ, zero, suc, _+_, _-_, _*_, _≤_, _<_}
-use mathlib.Core.Path.{_≡_, refl, sym}
+use mathlib.Core.Path.{_≡_, refl}
 use mathlib.Core.Logic.{_⊎_, inl, inr}
 use mathlib.Core.List.{List, [], _∷_, _++_, map}
 use mathlib.Core.Bool.{Bool, true, false, not, cond}
 use native.Mathlib.Omega.{arith}
 use lib.ListN.{length, getD, take, length-append, length-take, length-map}
 use lib.Dec.{ltb, eqb}
-use borrow.Author.Tests.{ltb-true, ltb-false}
+use borrow.Author.Tests.{ltb-true, ltb-false, not-true}
 use Rattle.rules.specs.Text.{textWidth, restOf, sum, oneIf, upFrom, keep, flat, All}
 use Rattle.rules.specs.Sheet.{Cell, Row, Table, noCell, noColumn, columnAt, cellAt, padding, isHidden}
 use Rattle.rules.specs.Limits.{longestLine, ColumnLimits, LineLimits, CellLimits, RowLimits, TableLimits, mostLines}
@@ -15,6 +15,7 @@ use Rattle.rules.specs.Style.{topBorder, headerLines, headerRule, conten
 use Rattle.rules.specs.Wrap.{Act, join, retry, fill, begin, onto, pieces, glue, room, full, act, last, place, weight, split, wrapLine, wrapLines, exceeds, cutLine, cut, delimiterOf}
 use Rattle.rules.specs.Widths.{numbers, visible, borders, contents}
 use Rattle.rules.specs.Page.{visibleWidth, visibleWidths, wrapped, cellLines, height, areaAt, areas, ruled, textLine, lineLength, borderLength, shown, headed, ruledMore, ruledRows, rowText, framed, pageLines, closed, lineAt, lineCount, byteCount}
+use Rattle.rules.proofs.Cases.{oneIf-le}
 use Rattle.rules.proofs.Lists.{all-map, all-map-imp, all-imp, all-append, all-default, all-getD, all-keep, length-upFrom, keep-yes, keep-no}
 use Rattle.rules.proofs.Bounds.{Most, greatest-le, contents-801}
 use Rattle.rules.proofs.Areas.{visible-below, length-widths, length-areas}
@@ -283,12 +284,8 @@ module _ (t : Table) where
   -- that isn't hidden
   pub visible-shown : (i : ℕ) → i < length (visible t) → isHidden (columnAt t (getD (visible t) i 0)) ≡ false
   unfolding visible
-  visible-shown i h = go (isHidden (columnAt t (getD (visible t) i 0)))
+  visible-shown i h = not-true (isHidden (columnAt t (getD (visible t) i 0)))
       (all-getD (λ j. not (isHidden (columnAt t j)) ≡ true) (visible t) i 0 h (kept-pass (λ j. not (isHidden (columnAt t j))) (numbers t)))
-    where
-      go : (b : Bool) → not b ≡ true → b ≡ false
-      go true e = sym e
-      go false e = refl
 
 -- ---- how long lines are
 
@@ -296,10 +293,6 @@ sum-841 : (ns : List ℕ) → All (Most 841) ns → sum ns ≤ 841 * length ns
 unfolding sum
 sum-841 [] h = omega arith
 sum-841 (n ∷ ns) h = omega (arith, sum-841 ns (h .1), h .0)
-
-one-le : (b : Bool) → oneIf b ≤ 1
-one-le true = omega arith
-one-le false = omega arith
 
 cond-le : (b : Bool) (n : ℕ) → cond b n 0 ≤ n
 cond-le true n = omega arith
@@ -327,8 +320,8 @@ module _ (t : Table) (T : TableLimits t) where
   line-length-bound =
       omega (
         arith,
-        one-le (anyLeft (t .style)),
-        one-le (anyRight (t .style)),
+        oneIf-le (anyLeft (t .style)),
+        oneIf-le (anyRight (t .style)),
         cond-le (anyJunction (t .style)) (length (visible t) - 1),
         widths-bound,
         visible-count t,
@@ -338,7 +331,7 @@ module _ (t : Table) (T : TableLimits t) where
   -- borders
   pub border-length-bound : borderLength t (contents t) ≤ longestLine
   unfolding borderLength
-  border-length-bound = omega (arith, one-le (anyLeft (t .style)), one-le (anyRight (t .style)), widths-bound, visible-count t, T .columns)
+  border-length-bound = omega (arith, oneIf-le (anyLeft (t .style)), oneIf-le (anyRight (t .style)), widths-bound, visible-count t, T .columns)
 
 -- every line has one of the two lengths
 abbrev Drawn : Table → List ℕ → List ℕ → Type 0

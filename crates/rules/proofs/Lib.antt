@@ -1,3 +1,4 @@
+pub mod Cases
 pub mod Text
 pub mod Lists
 pub mod Fuel
