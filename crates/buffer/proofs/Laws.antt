@@ -1,17 +1,16 @@
--- Laws of `over` and `putAt`.
+-- Laws of `over`, `putAt`, `build` and of edges.
 use mathlib.Core.Path.{_≡_, refl, sym, ap, _∙_}
 use mathlib.Core.List.{List, [], _∷_, _++_, append-assoc, append-nil}
 use Prim.Native.Nat.{ℕ, zero, suc, _+_, _-_, _≤_, _<_}
 use native.Mathlib.Numerals.{add-one}
 use native.Mathlib.Omega.{arith}
-use lib.ListN.{length, take, drop, getD, set, length-append, length-drop, take-append-drop}
+use lib.ListN.{length, take, drop, getD, set, length-append, length-drop, take-append-drop, drop-of-length-le}
 use lib.Seq.{drop-drop, drop-cons, set-at, length-take-le, take-at, drop-at, take-all}
-use lib.ListN.{drop-of-length-le}
 use borrow.Rule.Slice.PartMut.{putMid}
 use mathlib.Core.Logic.{⊎-elim}
 use native.Mathlib.Nat.{eq-or-lt-of-le, not-suc-le-zero, le-of-suc-le-suc}
 use mathlib.Core.Bool.{Bool, true, false}
-use Rattle.buffer.specs.Put.{over, putAt, build, edge}
+use Rattle.buffer.specs.Put.{over, putAt, build, edge, lead}
 
 pub length-over : (l d : List ℕ) → length l ≤ length d → length (over l d) ≡ length d
 unfolding over
@@ -126,3 +125,13 @@ edge-none b drawn e = rw e
 
 pub edge-skip : (d : List ℕ) (at b : ℕ) (drawn : Bool) → drawn ≡ false → d ≡ putAt d at (edge drawn b)
 edge-skip d at b drawn e = rw e (sym (put-nil d at))
+
+-- two pieces, one after the other
+pub two : (d : List ℕ) (at : ℕ) (a b d₁ d₂ : List ℕ) (p : ℕ) → d₁ ≡ putAt d at a → d₂ ≡ putAt d₁ p b → at + length a ≡ p → at ≤ length d → d₂ ≡ putAt
+    d at (a ++ b)
+two d at a b d₁ d₂ p e₁ e₂ x h = e₂ ∙ ap (λ (t : List ℕ). putAt t p b) e₁ ∙ put-put d at a b p x h
+
+-- a junction before a part that isn't the first
+pub lead-some : (i : ℕ) (joined : Bool) → (i ≡ 0 → ⊥) → joined ≡ lead i joined
+lead-some zero joined h = absurd (h refl)
+lead-some (suc i) joined h = refl

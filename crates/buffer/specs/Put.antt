@@ -22,3 +22,8 @@ build g (suc n) = build g n ++ g n
 abbrev pub edge : Bool → ℕ → List ℕ
 edge true b = b ∷ []
 edge false b = []
+
+-- a junction stands before every visible column but the first
+abbrev pub lead : ℕ → Bool → Bool
+lead zero joined = false
+lead (suc i) joined = joined

@@ -2,7 +2,7 @@
 ghost use mathlib.Core.Path.{_≡_};
 ghost use Prim.Native.Nat.{ℕ, _+_, _≤_};
 ghost use lib.ListN.{length, replicate};
-ghost use Rattle.buffer.specs.Put.{putAt, edge};
+ghost use Rattle.buffer.specs.Put.{putAt, edge, lead};
 
 // Writes a byte n times; gives the place after. One byte, as most paddings are, is stored by itself: the loop is compiled to a call.
 pub fn fill(dst: &mut [u8], at: usize, n: usize, b: u8) -> usize
@@ -47,4 +47,14 @@ pub fn draw_edge(dst: &mut [u8], at: usize, drawn: bool, b: u8) -> usize
         return at + 1;
     }
     at
+}
+
+// A junction stands before every visible column but the first.
+pub fn joins_before(i: usize, joined: bool) -> bool
+    ensures { λ r. ⌜ r ≡ lead i joined ⌝ }
+{
+    if i == 0 {
+        return false;
+    }
+    joined
 }

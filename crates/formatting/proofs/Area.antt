@@ -14,17 +14,13 @@ use Rattle.rules.specs.Wrap.{fitting, cutLine}
 use Rattle.rules.specs.Page.{before}
 use Rattle.rules.proofs.Text.{width-length, width-append}
 use Rattle.rules.proofs.Sizes.{before-le}
-use Rattle.buffer.specs.Put.{putAt}
-use Rattle.buffer.proofs.Laws.{put-put}
 use Rattle.sheet.specs.Walk.{firstLine}
-use Rattle.formatting.specs.Area.{areaIn, marksShown, pendingText, shownText, InSheet, After, columnPiece}
-use Rattle.formatting.specs.declared.content_format.VisibleColumn.{VisibleColumn}
-use Rattle.formatting.specs.declared.content_format.Pending.{Pending}
-
--- two pieces, one after the other
-pub two : (d : List ℕ) (at : ℕ) (a b d₁ d₂ : List ℕ) (p : ℕ) → d₁ ≡ putAt d at a → d₂ ≡ putAt d₁ p b → at + length a ≡ p → at ≤ length d → d₂ ≡ putAt
-    d at (a ++ b)
-two d at a b d₁ d₂ p e₁ e₂ x h = e₂ ∙ ap (λ (t : List ℕ). putAt t p b) e₁ ∙ put-put d at a b p x h
+use Rattle.buffer.specs.Put.{putAt}
+use Rattle.buffer.proofs.Laws.{two}
+use Rattle.row.specs.Pending.{pendingText, InSheet}
+use Rattle.row.specs.declared.VisibleColumn.{VisibleColumn}
+use Rattle.row.specs.declared.Pending.{Pending}
+use Rattle.formatting.specs.Area.{areaIn, marksShown, shownText, After, columnPiece}
 
 -- four pieces
 pub four : (d : List ℕ) (at : ℕ) (a b c e d₁ d₂ d₃ d₄ : List ℕ) (p q r : ℕ) → d₁ ≡ putAt d at a → d₂ ≡ putAt d₁ p b → d₃ ≡ putAt d₂ q c → d₄ ≡ putAt

@@ -1,9 +1,7 @@
 pub mod Area
 pub mod Line
-pub mod Rule
 pub mod Stand
 pub mod Whole
-pub mod Open
 pub mod Heights
 pub mod Lent
 pub mod Parts

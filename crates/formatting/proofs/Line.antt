@@ -1,5 +1,5 @@
 -- The loops over a line's visible columns. Assumes nothing.
-use Prim.Native.Nat.{ℕ, zero, suc, _+_, _-_, _≤_, _<_}
+use Prim.Native.Nat.{ℕ, _+_, _≤_, _<_}
 use mathlib.Core.Path.{_≡_, refl, sym, ap, _∙_}
 use mathlib.Core.List.{List, [], _∷_, _++_, append-assoc}
 use mathlib.Core.Logic.{⊎-elim}
@@ -12,23 +12,20 @@ use lib.Seq.{getD-set-same, getD-set-other}
 use lib.Dec.{ltb}
 use Rattle.rules.specs.Text.{textWidth}
 use Rattle.rules.specs.Sheet.{mostColumns}
-use Rattle.rules.proofs.Text.{width-length}
 use Rattle.rules.proofs.Fits.{short-cutLine}
-use Rattle.buffer.specs.Put.{over, putAt, build, edge}
-use Rattle.buffer.proofs.Laws.{put-nil, put-one, over-put-zero, build-room, build-more}
-use Rattle.formatting.specs.Area.{InSheet, After, pendingText, following, shownText, columnPiece}
-use Rattle.formatting.specs.Line.{View, noPending, visibleAt, pendingAt, lead, linePiece, lineBytes, Ready, ReadyAll, AfterAll, anyFound}
-use Rattle.formatting.specs.declared.content_format.VisibleColumn.{VisibleColumn}
-use Rattle.formatting.specs.declared.content_format.Pending.{Pending}
+use Rattle.buffer.specs.Put.{over, putAt, build, edge, lead}
+use Rattle.buffer.proofs.Laws.{put-nil, put-one, over-put-zero, build-room, build-more, two}
+use Rattle.row.specs.Pending.{InSheet, pendingText, following, noPending, pendingAt, Ready, anyFound}
+use Rattle.row.specs.View.{View, visibleAt}
+use Rattle.row.specs.declared.VisibleColumn.{VisibleColumn}
+use Rattle.row.specs.declared.Pending.{Pending}
+use Rattle.row.proofs.Stand.{same-below}
+use Rattle.formatting.specs.Area.{After, shownText, columnPiece}
+use Rattle.formatting.specs.Line.{linePiece, lineBytes, ReadyAll, AfterAll}
 use Rattle.formatting.specs.declared.content_format.TextStyle.{TextStyle}
-use Rattle.formatting.proofs.Area.{two, area-length}
+use Rattle.formatting.proofs.Area.{area-length}
 
 -- ---- every visible column's cell at its next line
-
-pub same-below : (ts : List Pending) (i n : ℕ) (u : Pending) → n ≤ i → anyFound (set ts i u) n ≡ anyFound ts n
-unfolding anyFound
-same-below ts i zero u h = refl
-same-below ts i (suc n) u h = rw (same-below ts i n u (omega arith), getD-set-other ts i n u noPending (λ e. omega arith))
 
 -- columns before i are at their next line, the others as they were
 pub record Passing (s : List ℕ) (view : View) (ts₀ ts : List Pending) (more : Bool) (i : ℕ) : Type 0 where
@@ -188,10 +185,6 @@ module _ (s : List ℕ) (view : View) (ind : List ℕ) (style : TextStyle) (ts�
       let w = D .passing .within in
       let e : i ≡ view .count = omega arith in
       rw e at D
-
-pub lead-some : (i : ℕ) (joined : Bool) → (i ≡ 0 → ⊥) → joined ≡ lead i joined
-lead-some zero joined h = absurd (h refl)
-lead-some (suc i) joined h = refl
 
 -- a column that isn't passed yet is ready
 pub passing-ready : (s : List ℕ) (view : View) (ts₀ ts : List Pending) (more : Bool) (i : ℕ) → ReadyAll s view ts₀ → Passing s view ts₀ ts more i → i

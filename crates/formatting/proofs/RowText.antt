@@ -18,13 +18,15 @@ use Rattle.sheet.specs.Held.{tableOf}
 use Rattle.sheet.specs.declared.records.Indicator.{Indicator}
 use Rattle.buffer.specs.Put.{over}
 use Rattle.buffer.proofs.Laws.{lent, lent-same}
-use Rattle.formatting.specs.Line.{View, lineBytes, AfterAll, anyFound, ReadyAll}
+use Rattle.row.specs.View.{View, Views}
+use Rattle.formatting.specs.Line.{lineBytes, AfterAll, ReadyAll}
+use Rattle.row.specs.Pending.{anyFound}
 use Rattle.formatting.specs.Part.{PartIs}
 use Rattle.formatting.specs.RowText.{styled, rowLines, rowHeight, Marks, Sized, StandsAt}
-use Rattle.formatting.specs.Stand.{Views, StandsRow, inLimit, lastOf}
-use Rattle.formatting.specs.Open.{OpenedRow}
+use Rattle.formatting.specs.Stand.{StandsRow, inLimit, lastOf}
+use Rattle.row.specs.Open.{OpenedRow}
 use Rattle.formatting.specs.declared.content_format.Part.{Part}
-use Rattle.formatting.specs.declared.content_format.Pending.{Pending}
+use Rattle.row.specs.declared.Pending.{Pending}
 use Rattle.formatting.specs.declared.content_format.TextStyle.{TextStyle}
 use Rattle.formatting.proofs.Parts.{part-none, part-line, part-full, part-length, part-room, part-join}
 use Rattle.formatting.proofs.Stand.{in-limit-0}

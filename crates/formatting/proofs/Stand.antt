@@ -7,50 +7,19 @@ use native.Mathlib.Omega.{arith}
 use lib.ListN.{length, take, drop, getD, length-append, length-drop, List·getD-append}
 use lib.Seq.{drop-drop, getD-drop, getD-at, getD-take, length-take-le}
 use lib.Dec.{ltb, eqb}
-use borrow.Author.Tests.{ltb-true, ltb-false, lt-ltb, le-ltb, eq-eqb, ne-eqb, eqb-true, eqb-false}
+use borrow.Author.Tests.{ltb-true, ltb-false, lt-ltb, le-ltb, ne-eqb, eqb-true, eqb-false}
 use Rattle.rules.specs.Sheet.{Row, Table, columnAt, cellAt}
 use Rattle.rules.specs.Wrap.{exceeds, cutLine, cut}
-use Rattle.rules.specs.Page.{area, areaAt, alignmentOf, wrapped, cellLines, height}
-use Rattle.cells.specs.Cell.{FirstOf}
-use Rattle.formatting.specs.Area.{areaIn, pendingText, shownText, After, following, columnPiece}
-use Rattle.formatting.specs.Line.{View, Ready, visibleAt}
-use Rattle.formatting.specs.Stand.{shownOf, numberOf, Views, remaining, Stands, StandsCell, inLimit, lastOf}
-use Rattle.formatting.specs.declared.content_format.VisibleColumn.{VisibleColumn}
-use Rattle.formatting.specs.declared.content_format.Pending.{Pending}
+use Rattle.rules.specs.Page.{area, areaAt, alignmentOf, wrapped, cellLines}
+use Rattle.row.specs.Pending.{pendingText, following, remaining, Stands}
+use Rattle.row.specs.View.{View, visibleAt, shownOf, numberOf, Views}
+use Rattle.row.specs.declared.VisibleColumn.{VisibleColumn}
+use Rattle.row.specs.declared.Pending.{Pending}
+use Rattle.row.proofs.Stand.{stands-next}
+use Rattle.formatting.specs.Area.{areaIn, shownText, After, columnPiece}
+use Rattle.formatting.specs.Stand.{StandsCell, inLimit, lastOf}
 
 -- ---- one cell
-
--- the first of some lines is pending, those being a cell's from j on
-pub stands-next : (s : List ℕ) (v : VisibleColumn) (ls : List (List ℕ)) (j d : ℕ) (next : List (List ℕ)) (r : Pending)
-    → 0 < v .width → next ≡ drop j ls → FirstOf s (v .width) d next (r .line) → r .delimiter ≡ d → Stands s v ls j r
-unfolding remaining
-stands-next s v ls j d next r wide e a f = go next refl
-  where
-    ready : Ready s v r
-    ready = record {
-      wide = wide;
-      line = record { ends = a .inside .ends; order = a .order; within = a .within; fits = a .fits };
-      inside = a .inside;
-    }
-
-    others : following s (v .width) r ≡ drop 1 next
-    others = rw f (sym (a .others))
-
-    go : (l : List (List ℕ)) → next ≡ l → Stands s v ls j r
-    go [] q =
-        let n : r .line .found ≡ false = a .found ∙ rw q in
-        let p : pendingText s r ≡ [] = sym (a .first) ∙ rw q in
-        let o : following s (v .width) r ≡ [] = others ∙ rw q in
-        record { lines = rw (n, remaining) (sym (sym e ∙ q)); none = λ x. (o, p); ready = ready }
-    go (x ∷ l) q =
-        let n : r .line .found ≡ true = a .found ∙ rw (q, lt-ltb 0 (suc (length l)) (omega arith)) in
-        let p : x ≡ pendingText s r = sym (rw q) ∙ a .first in
-        let o : following s (v .width) r ≡ l = others ∙ rw q in
-        record {
-          lines = rw (n, remaining) (sym (sym e ∙ q ∙ rw (p, o)));
-          none = λ y. let z : _≡_ {A = ℕ} 0 1 = cc in absurd (omega arith);
-          ready = ready;
-        }
 
 module _ (s : List ℕ) (v : VisibleColumn) (ls : List (List ℕ)) (j : ℕ) (t : Pending) (S : Stands s v ls j t) where
   remains-found : t .line .found ≡ true → drop j ls ≡ pendingText s t ∷ following s (v .width) t

@@ -1,5 +1,5 @@
 -- One column's part of a text line, by the line that is pending for it. Assumes nothing.
-use Prim.Native.Nat.{ℕ, _+_, _-_, _≤_}
+use Prim.Native.Nat.{ℕ, _+_, _-_}
 use mathlib.Core.Path.{_≡_}
 use mathlib.Core.List.{List, _++_}
 use mathlib.Core.Bool.{Bool, true, false, cond, _&&_}
@@ -8,10 +8,10 @@ use lib.Dec.{leb, ltb}
 use Rattle.rules.specs.Text.{textWidth, blank}
 use Rattle.rules.specs.Wrap.{cutLine}
 use Rattle.rules.specs.Page.{before}
-use Rattle.sheet.specs.Walk.{linesEnd, firstLine}
-use Rattle.cells.specs.Cell.{rest, textOf, FirstOf}
-use Rattle.formatting.specs.declared.content_format.VisibleColumn.{VisibleColumn}
-use Rattle.formatting.specs.declared.content_format.Pending.{Pending}
+use Rattle.cells.specs.Cell.{FirstOf}
+use Rattle.row.specs.declared.VisibleColumn.{VisibleColumn}
+use Rattle.row.specs.declared.Pending.{Pending}
+use Rattle.row.specs.Pending.{pendingText, following}
 
 -- a text in a column, aligned, paddings included
 unfoldable pub areaIn : VisibleColumn → ℕ → List ℕ → List ℕ
@@ -22,25 +22,10 @@ areaIn v a l =
 abbrev pub marksShown : Bool → ℕ → ℕ → ℕ
 marksShown cut n w = cond (cut && leb n w) n 0
 
--- the text of a pending line
-abbrev pub pendingText : List ℕ → Pending → List ℕ
-pendingText s t = textOf s (t .line .cursor) (t .line .start) (t .line .end)
-
 -- a cell's line, cut or whole
 unfoldable pub shownText : List ℕ → ℕ → List ℕ → Bool → Pending → List ℕ
 shownText s w ind true t = cutLine w ind (pendingText s t)
 shownText s w ind false t = pendingText s t
-
--- the line is a part of a cell line in the sheet, and fits the column
-pub record InSheet (s : List ℕ) (w : ℕ) (t : Pending) : Type 0 where
-  pub ends : linesEnd s (t .line .cursor .lines) ≤ length s
-  pub order : t .line .start ≤ t .line .end
-  pub within : t .line .end ≤ length (firstLine s (t .line .cursor .lines))
-  pub fits : textWidth (pendingText s t) ≤ w
-
--- the lines that follow the pending one
-abbrev pub following : List ℕ → ℕ → Pending → List (List ℕ)
-following s w t = rest s w (t .delimiter) (t .line .cursor)
 
 -- the next line of the same cell
 pub record After (s : List ℕ) (w : ℕ) (t r : Pending) : Type 0 where

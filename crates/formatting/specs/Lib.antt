@@ -1,9 +1,5 @@
 pub mod Area
 pub mod Line
-pub mod Packed
 pub mod Part
-pub mod Rule
 pub mod Stand
-pub mod Open
 pub mod RowText
-pub mod Height

@@ -1,11 +1,11 @@
 -- A row's text lines, by what they are drawn with. Assumes nothing.
 use Prim.Native.Nat.{ℕ, _+_, _≤_, _<_}
 use mathlib.Core.Path.{_≡_}
-use Rattle.rules.specs.Limits.{mostLines}
 use mathlib.Core.List.{List, [], map}
 use mathlib.Core.Bool.{Bool, true}
 use lib.ListN.{length, take, getD}
 use lib.Dec.{ltb}
+use Rattle.rules.specs.Limits.{mostLines}
 use Rattle.rules.specs.Sheet.{Row, mostColumns}
 use Rattle.rules.specs.Widths.{contents}
 use Rattle.rules.specs.Page.{lineOf, areas, height}
@@ -14,10 +14,10 @@ use Rattle.sheet.specs.Walk.{rowsEnd}
 use Rattle.sheet.specs.declared.records.Rows.{Rows}
 use Rattle.sheet.specs.declared.records.Indicator.{Indicator}
 use Rattle.buffer.specs.Put.{edge}
-use Rattle.formatting.specs.Line.{View}
-use Rattle.formatting.specs.Open.{Rising, WideAll}
-use Rattle.formatting.specs.Stand.{Views, StandsRow}
-use Rattle.formatting.specs.declared.content_format.Pending.{Pending}
+use Rattle.row.specs.View.{View, Views}
+use Rattle.row.specs.Open.{Rising, WideAll}
+use Rattle.row.specs.declared.Pending.{Pending}
+use Rattle.formatting.specs.Stand.{StandsRow}
 use Rattle.formatting.specs.declared.content_format.TextStyle.{TextStyle}
 use Rattle.formatting.specs.declared.content_format.Entered.{Entered}
 

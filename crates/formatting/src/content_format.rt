@@ -1,10 +1,10 @@
 // The text lines of a row, drawn one after another. A cell's next wrapped line is found one line ahead, so that each is found once.
 ghost use mathlib.Core.Path.{_≡_};
-ghost use mathlib.Core.List.{[], _∷_, _++_};
-ghost use mathlib.Core.Bool.{Bool, _&&_};
-ghost use Prim.Native.Nat.{ℕ, _+_, _-_, _≤_, _<_};
+ghost use mathlib.Core.List.{_++_};
+ghost use mathlib.Core.Bool.{_&&_};
+ghost use Prim.Native.Nat.{_+_, _-_, _≤_, _<_};
 ghost use lib.ListN.{length, take, drop};
-ghost use lib.Dec.{ltb, leb};
+ghost use lib.Dec.{leb};
 ghost use Rattle.rules.specs.Limits.{mostLines};
 ghost use Rattle.rules.specs.Text.{textWidth};
 ghost use Rattle.rules.specs.Sheet.{mostColumns};
@@ -12,36 +12,20 @@ ghost use Rattle.rules.specs.Page.{before};
 ghost use Rattle.sheet.specs.Walk.{firstRow};
 ghost use Rattle.buffer.specs.Put.{over, putAt, edge};
 ghost use Rattle.cells.specs.Cell.{Inside};
-ghost use Rattle.formatting.specs.Area.{areaIn, marksShown, shownText, InSheet, After, columnPiece};
-ghost use Rattle.formatting.specs.Line.{lead, lineBytes, ReadyAll, AfterAll, anyFound};
+ghost use Rattle.formatting.specs.Area.{areaIn, marksShown, shownText, After, columnPiece};
+ghost use Rattle.row.specs.Pending.{InSheet, anyFound};
+ghost use Rattle.formatting.specs.Line.{lineBytes, ReadyAll, AfterAll};
 ghost use Rattle.formatting.specs.Stand.{inLimit, lastOf};
-ghost use Rattle.formatting.specs.Packed.{viewOf, pendingsOf};
+ghost use Rattle.row.specs.Packed.{viewOf, pendingsOf};
 ghost use Rattle.formatting.specs.Part.{PartIs};
-ghost use Rattle.formatting.specs.RowText.{Drawable, rowLines, rowHeight, StandsAt, EnteredIs, Sized, Marks};
-use crate::packed;
-use crate::row;
-use cells::Next;
+ghost use Rattle.formatting.specs.RowText.{Drawable, rowLines, StandsAt, EnteredIs, Sized, Marks};
+use row::Pending;
+use row::VisibleColumn;
+use row::packed;
 use rules::MOST_COLUMNS;
 use sheet::records::Indicator;
 use sheet::records::Rows;
 use sheet::walk;
-
-// A visible column as it is drawn: its number in the sheet, its content width and paddings, and what a cell takes that chooses nothing.
-pub struct VisibleColumn {
-    pub number: usize,
-    pub width: usize,
-    pub left: usize,
-    pub right: usize,
-    pub delimiter: u8,
-    pub alignment: u8,
-}
-
-// A cell's pending line: the one that is drawn next, and where the line after it is looked for.
-pub struct Pending {
-    pub line: Next,
-    pub delimiter: u8,
-    pub alignment: u8,
-}
 
 // The spaces left of a text that leaves some columns free.
 fn spaces_before(alignment: u8, spare: usize) -> usize
@@ -190,16 +174,6 @@ pub struct TextStyle {
     pub closes: bool,
 }
 
-// A junction stands before every visible column but the first.
-pub fn joins_before(i: usize, joined: bool) -> bool
-    ensures { λ r. ⌜ r ≡ lead i joined ⌝ }
-{
-    if i == 0 {
-        return false;
-    }
-    joined
-}
-
 // What was written, and whether a cell has a line after it.
 pub struct Lined {
     pub written: usize,
@@ -231,7 +205,7 @@ fn write_line(
         let v = packed::column_from(y);
         let x = state[i];
         let t = packed::pending_from(x);
-        let joins = joins_before(i, style.joined);
+        let joins = buffer::joins_before(i, style.joined);
         let d = draw_column(
             page,
             at,

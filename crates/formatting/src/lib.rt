@@ -1,5 +1,2 @@
-// The lines of a page: comfy-table's `utils/formatting`.
-pub mod borders;
+// A row's text lines: comfy-table's `utils/formatting`.
 pub mod content_format;
-pub mod packed;
-pub mod row;

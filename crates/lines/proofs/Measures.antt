@@ -15,13 +15,12 @@ use Rattle.rules.proofs.Cases.{oneIf-cond}
 use Rattle.rules.proofs.Counts.{line-length-bound, border-length-bound}
 use Rattle.rules.proofs.Lists.{upFrom-last, map-append}
 use Rattle.sheet.specs.Held.{tableOf}
-use Rattle.formatting.specs.Line.{View, visibleAt}
-use Rattle.formatting.specs.Packed.{columnFrom, viewOf}
-use Rattle.formatting.specs.Rule.{NarrowAll}
-use Rattle.formatting.specs.Stand.{Views, shownOf, numberOf, ruleStyleOf}
-use Rattle.formatting.specs.declared.content_format.VisibleColumn.{VisibleColumn}
-use Rattle.formatting.proofs.Lent.{column-at}
-use Rattle.formatting.proofs.Whole.{map-numbered}
+use Rattle.row.specs.View.{View, visibleAt, Views, shownOf, numberOf}
+use Rattle.row.specs.Packed.{columnFrom, viewOf}
+use Rattle.borders.specs.Rule.{NarrowAll, ruleStyleOf}
+use Rattle.row.specs.declared.VisibleColumn.{VisibleColumn}
+use Rattle.row.proofs.Lent.{column-at}
+use Rattle.row.proofs.Joined.{map-numbered}
 use Rattle.lines.specs.Opened.{widthsIn, stylesOf, Opened}
 use Rattle.lines.specs.Lengths.{widthUpTo, LengthsAre}
 use Rattle.lines.specs.declared.open.LineStyles.{LineStyles}

@@ -35,16 +35,16 @@ use Rattle.sheet.proofs.Held.{held, room}
 use Rattle.sheet.proofs.Walks.{rows-number}
 use Rattle.arrangement.specs.declared.Widths.{Widths}
 use Rattle.arrangement.specs.Widths.{styleFrom, widthsOf}
-use Rattle.formatting.specs.Line.{View, noColumn as noVisible, visibleAt}
-use Rattle.formatting.specs.Open.{Rising, WideAll}
-use Rattle.formatting.specs.Packed.{columnFrom, viewOf}
+use Rattle.row.specs.View.{View, noColumn as noVisible, visibleAt, shownOf, numberOf, Views}
+use Rattle.row.specs.Open.{Rising, WideAll}
+use Rattle.row.specs.Packed.{columnFrom, viewOf}
 use Rattle.formatting.specs.RowText.{Marks}
-use Rattle.formatting.proofs.Lent.{set-each}
-use Rattle.formatting.specs.Rule.{NarrowAll}
-use Rattle.formatting.specs.Stand.{shownOf, numberOf, Views, textStyleOf, ruleStyleOf}
-use Rattle.formatting.specs.declared.content_format.VisibleColumn.{VisibleColumn}
+use Rattle.row.proofs.Lent.{set-each}
+use Rattle.borders.specs.Rule.{NarrowAll, ruleStyleOf}
+use Rattle.formatting.specs.Stand.{textStyleOf}
+use Rattle.row.specs.declared.VisibleColumn.{VisibleColumn}
 use Rattle.formatting.specs.declared.content_format.TextStyle.{TextStyle}
-use Rattle.formatting.specs.declared.borders.RuleStyle.{RuleStyle}
+use Rattle.borders.specs.declared.RuleStyle.{RuleStyle}
 use Rattle.lines.specs.declared.open.LineStyles.{LineStyles}
 use Rattle.lines.specs.Opened.{stylesOf, RowsAt}
 use Rattle.lines.specs.Opening.{shownFrom, behind, showing}

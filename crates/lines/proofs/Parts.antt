@@ -22,13 +22,14 @@ use Rattle.sheet.specs.Held.{tableOf}
 use Rattle.sheet.specs.Walk.{rowsIn, firstRow, RowsNext}
 use Rattle.sheet.specs.declared.records.Rows.{Rows}
 use Rattle.sheet.proofs.Walks.{rows-number}
-use Rattle.formatting.specs.Line.{View}
-use Rattle.formatting.specs.Packed.{viewOf}
+use Rattle.row.specs.View.{View}
+use Rattle.row.specs.Packed.{viewOf}
 use Rattle.formatting.specs.RowText.{styled, rowLines, rowHeight, Sized, Drawable}
-use Rattle.formatting.specs.Rule.{ruleText}
-use Rattle.formatting.specs.Stand.{textStyleOf, ruleStyleOf}
+use Rattle.borders.specs.Rule.{ruleText, ruleStyleOf}
+use Rattle.formatting.specs.Stand.{textStyleOf}
 use Rattle.formatting.proofs.RowText.{lines-count}
-use Rattle.formatting.proofs.Whole.{styled-text, rule-drawn}
+use Rattle.formatting.proofs.Whole.{styled-text}
+use Rattle.borders.proofs.Rule.{rule-drawn}
 use Rattle.lines.specs.Opened.{widthsIn, stylesOf, RowsAt, Opened}
 use Rattle.lines.specs.Ahead.{ruleLines, textLines, firstRuled, headerLinesOf, rowLinesOf, bodyLines, partBy, partLines, restBy, restLines, ahead, linesOf, isEnd, firstCursor, furtherOn, At, Next, AfterRow}
 use Rattle.lines.specs.Lengths.{LengthsAre, SizeIs}

@@ -25,17 +25,17 @@ use Rattle.sheet.specs.declared.records.Rows.{Rows}
 use Rattle.sheet.proofs.Walks.{rows-number}
 use Rattle.sheet.specs.declared.records.Row as records
 use Rattle.buffer.specs.Put.{over}
-use Rattle.formatting.specs.Height.{heightUpTo, limited}
-use Rattle.formatting.specs.Line.{View}
-use Rattle.formatting.specs.Packed.{viewOf}
+use Rattle.row.specs.Height.{heightUpTo, limited}
+use Rattle.row.specs.View.{View}
+use Rattle.row.specs.Packed.{viewOf}
 use Rattle.formatting.specs.Part.{PartIs}
 use Rattle.formatting.specs.RowText.{rowLines, rowHeight, Sized, Drawable}
-use Rattle.formatting.specs.Rule.{ruleText, ruleBytes}
+use Rattle.borders.specs.Rule.{ruleText, ruleBytes}
 use Rattle.formatting.specs.declared.content_format.Part.{Part}
-use Rattle.formatting.specs.declared.borders.RuleStyle.{RuleStyle}
+use Rattle.borders.specs.declared.RuleStyle.{RuleStyle}
 use Rattle.formatting.proofs.Heights.{limited-height}
 use Rattle.formatting.proofs.Parts.{part-none, part-line, part-full, part-length, part-room, part-whole, part-join, part-short}
-use Rattle.formatting.proofs.Rule.{rule-text}
+use Rattle.borders.proofs.Rule.{rule-text}
 use Rattle.lines.specs.Opened.{widthsIn, RowsAt, Opened}
 use Rattle.lines.specs.Ahead.{ruleLines, partLines, restLines, ahead, linesOf, isEnd, firstCursor, furtherOn, At, Next}
 use Rattle.lines.specs.Lengths.{SizeIs}

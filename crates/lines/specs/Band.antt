@@ -6,9 +6,9 @@ use mathlib.Core.Bool.{Bool, cond, _&&_}
 use lib.ListN.{length, getD}
 use lib.Dec.{ltb}
 use Rattle.rules.specs.Sheet.{Row, noRow}
-use Rattle.formatting.specs.Line.{View}
+use Rattle.row.specs.View.{View}
 use Rattle.formatting.specs.RowText.{rowLines, rowHeight, Sized}
-use Rattle.formatting.specs.Rule.{ruleText}
+use Rattle.borders.specs.Rule.{ruleText}
 use Rattle.lines.specs.declared.open.RowStyle.{RowStyle}
 
 -- its lines

@@ -7,7 +7,7 @@ use Rattle.rules.specs.Text.{All}
 use Rattle.rules.specs.Limits.{longestLine}
 use Rattle.rules.specs.Page.{lineLength, borderLength}
 use Rattle.sheet.specs.Held.{tableOf}
-use Rattle.formatting.specs.Line.{View, visibleAt}
+use Rattle.row.specs.View.{View, visibleAt}
 use Rattle.lines.specs.Opened.{widthsIn}
 use Rattle.lines.specs.Ahead.{partLines}
 use Rattle.lines.specs.declared.open.Page.{Page}

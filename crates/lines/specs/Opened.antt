@@ -11,11 +11,12 @@ use Rattle.rules.specs.Widths.{contents}
 use Rattle.sheet.specs.Held.{Passes, tableOf}
 use Rattle.sheet.specs.Walk.{rowsIn, rowsEnd}
 use Rattle.sheet.specs.declared.records.Rows.{Rows}
-use Rattle.formatting.specs.Open.{Rising, WideAll}
-use Rattle.formatting.specs.Packed.{viewOf}
+use Rattle.row.specs.Open.{Rising, WideAll}
+use Rattle.row.specs.Packed.{viewOf}
 use Rattle.formatting.specs.RowText.{Marks}
-use Rattle.formatting.specs.Rule.{NarrowAll}
-use Rattle.formatting.specs.Stand.{Views, textStyleOf, ruleStyleOf}
+use Rattle.borders.specs.Rule.{NarrowAll, ruleStyleOf}
+use Rattle.row.specs.View.{Views}
+use Rattle.formatting.specs.Stand.{textStyleOf}
 use Rattle.lines.specs.declared.open.LineStyles.{LineStyles}
 use Rattle.lines.specs.declared.open.Page.{Page}
 

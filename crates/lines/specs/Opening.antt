@@ -5,8 +5,8 @@ use lib.ListN.{set}
 use Rattle.rules.specs.Text.{orElse}
 use Rattle.rules.specs.declared.Column.{Column}
 use Rattle.rules.specs.Sheet.{isHidden}
-use Rattle.formatting.specs.declared.content_format.VisibleColumn.{VisibleColumn}
-use Rattle.formatting.specs.Line.{View}
+use Rattle.row.specs.declared.VisibleColumn.{VisibleColumn}
+use Rattle.row.specs.View.{View}
 
 -- column j as it is drawn: w is its content width, d stands in for an unset delimiter
 abbrev pub shownFrom : ℕ → Column → ℕ → ℕ → VisibleColumn

@@ -2,14 +2,14 @@
 ghost use mathlib.Core.Path.{_≡_};
 ghost use mathlib.Core.Bool.{cond};
 ghost use Prim.Native.Nat.{ℕ, _-_, _*_, _≤_};
-ghost use Rattle.formatting.specs.Packed.{viewOf};
-ghost use Rattle.formatting.specs.Rule.{NarrowAll};
+ghost use Rattle.row.specs.Packed.{viewOf};
+ghost use Rattle.borders.specs.Rule.{NarrowAll};
 ghost use Rattle.lines.specs.Opened.{Opened};
 ghost use Rattle.lines.specs.Lengths.{widthUpTo, LengthsAre, SizeIs};
 use crate::cursor::Cursor;
 use crate::cursor::Stage;
 use crate::open::Page;
-use formatting::packed;
+use row::packed;
 use rules::MOST_COLUMNS;
 
 // How long lines are, without their 0A: text lines and rules, and borders.

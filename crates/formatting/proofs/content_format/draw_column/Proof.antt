@@ -5,7 +5,8 @@ use denote.Ref.{now}
 use lib.ListN.{take}
 use Rattle.buffer.specs.Put.{putAt, edge}
 use Rattle.formatting.specs.Area.{columnPiece}
-use Rattle.formatting.proofs.Area.{two, piece-is}
+use Rattle.buffer.proofs.Laws.{two}
+use Rattle.formatting.proofs.Area.{piece-is}
 use Rattle.formatting.proofs.content_format.draw_column.Statement.{statement}
 use Rattle.formatting.proofs.content_format.draw_column.Tie as tie
 

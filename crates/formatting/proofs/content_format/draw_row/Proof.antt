@@ -8,7 +8,7 @@ use lib.ListN.{length, take, length-drop}
 use Rattle.rules.specs.Sheet.{Row}
 use Rattle.sheet.specs.Walk.{firstRow}
 use Rattle.buffer.proofs.Laws.{lent}
-use Rattle.formatting.specs.Packed.{viewOf, pendingsOf}
+use Rattle.row.specs.Packed.{viewOf, pendingsOf}
 use Rattle.formatting.specs.RowText.{Sized, StandsAt}
 use Rattle.formatting.proofs.RowText.{Running, running-begins, running-size, running-room, line-size, running-on, running-done, stands-drawn, stands-less, goes}
 use Rattle.formatting.proofs.content_format.draw_row.Statement.{statement}

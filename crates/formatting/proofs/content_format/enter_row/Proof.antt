@@ -3,7 +3,7 @@ use native.Mathlib.Omega.{arith}
 use denote.Ref.{now}
 use Rattle.sheet.specs.Walk.{firstRow}
 use Rattle.sheet.proofs.Walks.{cells-inside}
-use Rattle.formatting.specs.Packed.{viewOf, pendingsOf}
+use Rattle.row.specs.Packed.{viewOf, pendingsOf}
 use Rattle.formatting.proofs.RowText.{enters-first}
 use Rattle.formatting.proofs.content_format.enter_row.Statement.{statement}
 use Rattle.formatting.proofs.content_format.enter_row.Tie as tie

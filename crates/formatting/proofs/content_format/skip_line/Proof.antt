@@ -2,7 +2,7 @@ use borrow.Author.Needs.{needs}
 use native.Mathlib.Omega.{arith}
 use Prim.Native.Nat.{_-_}
 use denote.Ref.{now}
-use Rattle.formatting.specs.Packed.{viewOf, pendingsOf}
+use Rattle.row.specs.Packed.{viewOf, pendingsOf}
 use Rattle.formatting.proofs.Line.{Passing, passing-begins, passing-done}
 use Rattle.formatting.proofs.Lent.{same-cell, skip-ready, skip-on}
 use Rattle.formatting.proofs.content_format.skip_line.Statement.{statement}

@@ -8,7 +8,7 @@ use borrow.Author.Tests.{ltb-true}
 use denote.Ref.{now}
 use Rattle.rules.specs.Sheet.{Row}
 use Rattle.sheet.specs.Walk.{firstRow}
-use Rattle.formatting.specs.Packed.{viewOf, pendingsOf}
+use Rattle.row.specs.Packed.{viewOf, pendingsOf}
 use Rattle.formatting.specs.RowText.{StandsAt}
 use Rattle.formatting.proofs.RowText.{Skipping, skipping-done, stands-drawn, stands-more, first-true, second-true}
 use Rattle.formatting.proofs.content_format.skip_lines.Statement.{statement}

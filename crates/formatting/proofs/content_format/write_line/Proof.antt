@@ -4,7 +4,7 @@ use Prim.Native.Nat.{_-_}
 use mathlib.Core.Path.{sym}
 use denote.Ref.{now}
 use lib.ListN.{take, length-set}
-use Rattle.formatting.specs.Packed.{viewOf, pendingsOf}
+use Rattle.row.specs.Packed.{viewOf, pendingsOf}
 use Rattle.formatting.proofs.Line.{line-length, line-whole, Drawing, drawing-begins, drawing-done, passing-done}
 use Rattle.formatting.proofs.Lent.{same-cell, column-fits, column-room, column-drawn}
 use Rattle.formatting.proofs.content_format.write_line.Statement.{statement}

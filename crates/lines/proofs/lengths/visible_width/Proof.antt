@@ -3,7 +3,7 @@ use Prim.Native.Nat.{_*_, _-_, _≤_, _+_, _<_}
 use mathlib.Core.Path.{_≡_, sym, ap, _∙_}
 use borrow.Author.Needs.{needs}
 use denote.Ref.{now}
-use Rattle.formatting.specs.Packed.{viewOf}
+use Rattle.row.specs.Packed.{viewOf}
 use Rattle.lines.specs.Lengths.{widthUpTo}
 use Rattle.lines.proofs.Measures.{width-none, width-on, width-done, column-narrow}
 use Rattle.lines.proofs.lengths.visible_width.Statement.{statement}

@@ -5,7 +5,7 @@ use denote.Ref.{now}
 use Rattle.rules.specs.Sheet.{mostColumns}
 use Rattle.sheet.specs.Held.{tableOf}
 use Rattle.arrangement.proofs.Layouts.{count-fits, column-at}
-use Rattle.formatting.specs.Packed.{viewOf}
+use Rattle.row.specs.Packed.{viewOf}
 use Rattle.lines.proofs.Opening.{limits-of, Showing, showing-begin, showing-on, showing-done, columns-count, width-is, delimiter-is, view-rising, view-wide, view-narrow}
 use Rattle.lines.proofs.open.show_columns.Statement.{statement}
 use Rattle.lines.proofs.open.show_columns.Tie as tie

@@ -6,7 +6,7 @@ use denote.Ref.{now}
 use lib.ListN.{length, length-drop}
 use Rattle.sheet.specs.Walk.{rowsIn, firstRow}
 use Rattle.buffer.proofs.Laws.{lent}
-use Rattle.formatting.specs.Packed.{viewOf}
+use Rattle.row.specs.Packed.{viewOf}
 use Rattle.formatting.specs.RowText.{rowLines}
 use Rattle.formatting.proofs.Parts.{part-room, part-length}
 use Rattle.formatting.proofs.RowText.{lines-count}

@@ -1,7 +1,7 @@
 use borrow.Author.Needs.{needs}
 use native.Mathlib.Omega.{arith}
 use denote.Ref.{now}
-use Rattle.formatting.specs.Packed.{viewOf}
+use Rattle.row.specs.Packed.{viewOf}
 use Rattle.lines.proofs.Walks.{rule-none, rule-full, rule-one, rule-room}
 use Rattle.lines.proofs.part.draw_rule.Statement.{statement}
 use Rattle.lines.proofs.part.draw_rule.Tie as tie

@@ -1,0 +1,123 @@
+-- Visible columns and pending lines read from lists of numbers, and the loops over a row's cells. Assumes nothing.
+use Prim.Native.Nat.{ℕ, zero, suc, _+_, _-_, _%_, _≤_, _<_, max}
+use mathlib.Core.Path.{_≡_, refl, sym, ap, _∙_}
+use mathlib.Core.List.{List, [], _∷_, map}
+use mathlib.Core.Bool.{Bool, _||_}
+use native.Mathlib.Omega.{arith}
+use lib.ListN.{length, drop, set, getD, length-map}
+use lib.Dec.{eqb}
+use Rattle.rules.specs.Sheet.{Cell}
+use Rattle.sheet.specs.Walk.{cellsIn, cellsEnd, firstCell}
+use Rattle.sheet.specs.declared.records.Cells.{Cells}
+use Rattle.row.specs.Pending.{noPending, pendingAt}
+use Rattle.row.specs.Height.{cellHeight}
+use Rattle.row.specs.View.{noColumn, visibleAt}
+use Rattle.row.specs.Open.{OpenedAt, Rising, WideAll}
+use Rattle.row.specs.Packed.{columnFrom, pendingFrom, viewOf, pendingsOf}
+use Rattle.row.specs.declared.VisibleColumn.{VisibleColumn}
+use Rattle.row.specs.declared.Pending.{Pending}
+use Rattle.row.proofs.Open.{Opening, opening-on}
+use Rattle.row.proofs.Heights.{Measuring, measuring-on}
+
+-- ---- one column, one line
+
+pub column-is : (x : List ℕ) (d a : ℕ) → d ≡ getD x 4 0 % 256 → a ≡ getD x 5 0 % 256
+    → record { number = getD x 0 0; width = getD x 1 0; left = getD x 2 0; right = getD x 3 0; delimiter = d; alignment = a } ≡ columnFrom x
+unfolding columnFrom
+column-is x d a e f = rw (e, f)
+
+pub column-packed : (v : VisibleColumn) (d a : ℕ) → (d ≡ v .delimiter) × (d ≡ d % 256) → (a ≡ v .alignment) × (a ≡ a % 256)
+    → v ≡ columnFrom (v .number ∷ v .width ∷ v .left ∷ v .right ∷ d ∷ a ∷ [])
+unfolding columnFrom
+column-packed v d a e f = rw (← e .1, ← f .1, e .0, f .0)
+
+pub pending-is : (x : List ℕ) (f : Bool) (d a : ℕ) → f ≡ eqb (getD x 0 0) 1 → d ≡ getD x 6 0 % 256 → a ≡ getD x 7 0 % 256
+    → record {
+      line = record {
+        found = f;
+        start = getD x 1 0;
+        end = getD x 2 0;
+        cursor = record
+            { lines = record { at = getD x 3 0; left = getD x 4 0 }; from = getD x 5 0 };
+      };
+      delimiter = d;
+      alignment = a;
+    } ≡ pendingFrom x
+unfolding pendingFrom
+pending-is x f d a g e h = rw (g, e, h)
+
+pub pending-packed : (t : Pending) (f d a : ℕ) → t .line .found ≡ eqb f 1 → (d ≡ t .delimiter) × (d ≡ d % 256) → (a ≡ t .alignment) × (a ≡ a % 256)
+    → t ≡ pendingFrom (f ∷ t .line .start ∷ t .line .end ∷ t .line .cursor .lines .at ∷ t .line .cursor .lines .left ∷ t .line .cursor .from ∷ d ∷ a ∷
+    [])
+unfolding pendingFrom
+pending-packed t f d a g e h = rw (← g, ← e .1, ← h .1, e .0, h .0)
+
+pub pending-repacked : (x : List ℕ) (t : Pending) (f : ℕ) → t .line .found ≡ eqb f 1
+    → (t .delimiter ≡ pendingFrom x .delimiter) × (t .alignment ≡ pendingFrom x .alignment)
+    → t ≡ pendingFrom (f ∷ t .line .start ∷ t .line .end ∷ t .line .cursor .lines .at ∷ t .line .cursor .lines .left ∷ t .line .cursor .from ∷
+    getD x 6 0 ∷ getD x 7 0 ∷ [])
+unfolding pendingFrom
+pending-repacked x t f g e = rw (← g, ← e .0, ← e .1)
+
+-- ---- lists of them
+
+getD-each : {A B : Type 0} (f : A → B) (l : List A) (i : ℕ) (d : A) → getD (map f l) i (f d) ≡ f (getD l i d)
+getD-each f [] i d = refl
+getD-each f (x ∷ xs) zero d = refl
+getD-each f (x ∷ xs) (suc i) d = getD-each f xs i d
+
+pub set-each : {A B : Type 0} (f : A → B) (l : List A) (i : ℕ) (v : A) → map f (set l i v) ≡ set (map f l) i (f v)
+set-each f [] i v = refl
+set-each f (x ∷ xs) zero v = refl
+set-each f (x ∷ xs) (suc i) v = ap (λ l. f x ∷ l) (set-each f xs i v)
+
+no-column : noColumn ≡ columnFrom []
+unfolding columnFrom
+no-column = refl
+
+no-pending : noPending ≡ pendingFrom []
+unfolding pendingFrom
+no-pending = refl
+
+pub column-at : (cols : List (List ℕ)) (n i : ℕ) → visibleAt (viewOf cols n) i ≡ columnFrom (getD cols i [])
+column-at cols n i = ap (λ (d : VisibleColumn). getD (map columnFrom cols) i d) no-column ∙ getD-each columnFrom cols i []
+
+pub pending-at : (st : List (List ℕ)) (i : ℕ) → pendingAt (pendingsOf st) i ≡ pendingFrom (getD st i [])
+pending-at st i = ap (λ (d : Pending). getD (pendingsOf st) i d) no-pending ∙ getD-each pendingFrom st i []
+
+pub pendings-set : (st : List (List ℕ)) (i : ℕ) (z : List ℕ) (u : Pending) → u ≡ pendingFrom z → pendingsOf (set st i z) ≡ set (pendingsOf st) i u
+pendings-set st i z u e = set-each pendingFrom st i z ∙ ap (λ (w : Pending). set (pendingsOf st) i w) (sym e)
+
+pub pendings-length : (st : List (List ℕ)) → length (pendingsOf st) ≡ length st
+pendings-length st = length-map st pendingFrom
+
+-- ---- the loops: what they have read is the column and the line that their invariants speak of
+
+module _ (s : List ℕ) (cols : List (List ℕ)) (n : ℕ) (R : Rising (viewOf cols n)) (W : WideAll (viewOf cols n)) (xs : List Cell) (left : Cells)
+    (passed : ℕ) (i : ℕ)
+    (h : i < n) (v : VisibleColumn) (e : v ≡ columnFrom (getD cols i [])) where
+  at-i : v ≡ visibleAt (viewOf cols n) i
+  at-i = e ∙ sym (column-at cols n i)
+
+  pub cell-wide : 0 < v .width
+  cell-wide = rw at-i (W i h)
+
+  module _ (st : List (List ℕ)) (more : Bool) (O : Opening s (viewOf cols n) xs (pendingsOf st) left passed more i) where
+    pub open-order : passed ≤ v .number
+    open-order = rw at-i (O .passing .order i (omega arith) h)
+
+    pub open-on : (next : Cells) (t : Pending) (m : Bool) (z : List ℕ) → cellsIn s next ≡ drop (v .number - passed) (cellsIn s left) → cellsEnd s next
+        ≡ cellsEnd s left
+        → OpenedAt s (firstCell s next) v t → m ≡ (more || t .line .found) → t ≡ pendingFrom z
+        → Opening s (viewOf cols n) xs (pendingsOf (set st i z)) next (v .number) m (i + 1)
+    open-on next t m z a b o x y =
+        rw (pendings-set st i z t y, at-i)
+        (opening-on s (viewOf cols n) R xs (pendingsOf st) left passed more i O h next t m (rw at-i at a) b (rw at-i at o) x)
+
+  module _ (most : ℕ) (M : Measuring s (viewOf cols n) xs left passed most i) where
+    pub tall-order : passed ≤ v .number
+    tall-order = rw at-i (M .passing .order i (omega arith) h)
+
+    pub tall-on : (next : Cells) (k m : ℕ) → cellsIn s next ≡ drop (v .number - passed) (cellsIn s left) → cellsEnd s next ≡ cellsEnd s left
+        → k ≡ cellHeight (firstCell s next) v → m ≡ max most k → Measuring s (viewOf cols n) xs next (v .number) m (i + 1)
+    tall-on next k m a b o x = rw at-i (measuring-on s (viewOf cols n) R xs left passed most i M h next k m (rw at-i at a) b (rw at-i at o) x)

@@ -1,0 +1,5 @@
+pub mod Stand
+pub mod Joined
+pub mod Open
+pub mod Heights
+pub mod Lent

@@ -1,0 +1,5 @@
+pub mod View
+pub mod Pending
+pub mod Packed
+pub mod Open
+pub mod Height

@@ -1,0 +1,147 @@
+// A row's cells opened at their first lines, comfy-table's `format_row`, and their heights.
+pub mod packed;
+
+ghost use mathlib.Core.Path.{_≡_};
+ghost use Prim.Native.Nat.{ℕ, _≤_, _<_};
+ghost use lib.ListN.{length, drop, getD};
+ghost use Rattle.rules.specs.Sheet.{mostColumns};
+ghost use Rattle.sheet.specs.Walk.{cellsIn, cellsEnd, firstCell};
+ghost use Rattle.row.specs.Height.{cellHeight, heightUpTo};
+ghost use Rattle.row.specs.Pending.{anyFound};
+ghost use Rattle.row.specs.Open.{OpenedAt, OpenedRow, Rising, WideAll, missing};
+ghost use Rattle.row.specs.Packed.{viewOf, pendingsOf};
+use cells::CellCursor;
+use cells::Next;
+use rules::MOST_COLUMNS;
+use sheet::records::Cells;
+use sheet::records::Lines;
+use sheet::walk;
+
+// A visible column as it is drawn: its number in the sheet, its content width and paddings, and what a cell takes that chooses nothing.
+pub struct VisibleColumn {
+    pub number: usize,
+    pub width: usize,
+    pub left: usize,
+    pub right: usize,
+    pub delimiter: u8,
+    pub alignment: u8,
+}
+
+// A cell's pending line: the one that is drawn next, and where the line after it is looked for.
+pub struct Pending {
+    pub line: Next,
+    pub delimiter: u8,
+    pub alignment: u8,
+}
+
+// A missing cell: one blank line, which is no part of the sheet.
+fn missing_cell(v: VisibleColumn) -> Pending
+    ensures { λ r. ⌜ r ≡ missing v ⌝ }
+{
+    let lines = Lines { at: 0, left: 0 };
+    let cursor = CellCursor { lines, from: 0 };
+    let line = Next {
+        found: true,
+        start: 0,
+        end: 0,
+        cursor,
+    };
+    Pending {
+        line,
+        delimiter: v.delimiter,
+        alignment: v.alignment,
+    }
+}
+
+// The first of the cells at its first line.
+fn open_cell(sheet: &[u8], cells: Cells, v: VisibleColumn) -> Pending
+    requires { ⌜ (0 < v .width) × (cellsEnd (now sheet) cells ≤ length (now sheet)) ⌝ }
+    ensures { λ r. ⌜ OpenedAt (now (sheet .entry)) (firstCell (now (sheet .entry)) cells) v r ⌝ }
+{
+    if cells.left == 0 {
+        return missing_cell(v);
+    }
+    let x = walk::cell(sheet, cells);
+    let lines = x.lines;
+    let delimiter = numbers::or_else(x.delimiter, v.delimiter);
+    let alignment = numbers::or_else(x.alignment, v.alignment);
+    let line = cells::first_line(sheet, lines, v.width, delimiter);
+    Pending {
+        line,
+        delimiter,
+        alignment,
+    }
+}
+
+// Every visible column's cell of a row at its first line; whether there is one.
+pub fn format_row(
+    sheet: &[u8],
+    columns: &[[usize; 6]; MOST_COLUMNS],
+    count: usize,
+    cells: Cells,
+    state: &mut [[usize; 8]; MOST_COLUMNS],
+) -> bool
+    requires { ⌜ Rising (viewOf (now columns) count) × (WideAll (viewOf (now columns) count) × (cellsEnd (now sheet) cells ≤ length (now sheet))) ⌝ }
+    requires { ⌜ length (now state) ≡ mostColumns ⌝ }
+    ensures { λ r. ⌜ OpenedRow (now (sheet .entry)) (cellsIn (now (sheet .entry)) cells) (viewOf (now (columns .entry)) count) (pendingsOf (now (state .exit))) × (r ≡ anyFound (pendingsOf (now (state .exit))) count) ⌝ }
+{
+    let mut left = cells;
+    let mut passed: usize = 0;
+    let mut more = false;
+    let mut i: usize = 0;
+    while i < count {
+        let y = columns[i];
+        let v = packed::column_from(y);
+        let number = v.number;
+        left = walk::skip_cells(sheet, left, number - passed);
+        passed = number;
+        let t = open_cell(sheet, left, v);
+        let line = t.line;
+        more = numbers::either(more, line.found);
+        let z = packed::pack_pending(t);
+        state[i] = z;
+        i += 1;
+    }
+    more
+}
+
+// The lines of the first of the cells, wrapped. A missing cell is one blank line.
+fn open_height(sheet: &[u8], from: Cells, v: VisibleColumn) -> usize
+    requires { ⌜ (0 < v .width) × (cellsEnd (now sheet) from ≤ length (now sheet)) ⌝ }
+    ensures { λ r. ⌜ r ≡ cellHeight (firstCell (now (sheet .entry)) from) v ⌝ }
+{
+    if from.left == 0 {
+        return 1;
+    }
+    let x = walk::cell(sheet, from);
+    let lines = x.lines;
+    let delimiter = numbers::or_else(x.delimiter, v.delimiter);
+    cells::cell_height(sheet, lines, v.width, delimiter)
+}
+
+// The most lines of a visible column's cell, the row's limit left aside.
+pub fn row_height(
+    sheet: &[u8],
+    columns: &[[usize; 6]; MOST_COLUMNS],
+    count: usize,
+    from: Cells,
+) -> usize
+    requires { ⌜ Rising (viewOf (now columns) count) × (WideAll (viewOf (now columns) count) × (cellsEnd (now sheet) from ≤ length (now sheet))) ⌝ }
+    ensures { λ r. ⌜ r ≡ heightUpTo (cellsIn (now (sheet .entry)) from) (viewOf (now (columns .entry)) count) count ⌝ }
+{
+    let mut left = from;
+    let mut passed: usize = 0;
+    let mut most: usize = 0;
+    let mut i: usize = 0;
+    while i < count {
+        let y = columns[i];
+        let v = packed::column_from(y);
+        let number = v.number;
+        left = walk::skip_cells(sheet, left, number - passed);
+        passed = number;
+        let lines = open_height(sheet, left, v);
+        most = numbers::greater(most, lines);
+        i += 1;
+    }
+    most
+}
