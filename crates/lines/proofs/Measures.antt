@@ -21,11 +21,11 @@ use Rattle.borders.specs.Rule.{NarrowAll, ruleStyleOf}
 use Rattle.row.specs.declared.VisibleColumn.{VisibleColumn}
 use Rattle.row.proofs.Lent.{column-at}
 use Rattle.row.proofs.Joined.{map-numbered}
-use Rattle.lines.specs.Opened.{widthsIn, stylesOf, Opened}
+use Rattle.display_info.specs.Opened.{widthsIn, stylesOf, Opened}
 use Rattle.lines.specs.Lengths.{widthUpTo, LengthsAre}
-use Rattle.lines.specs.declared.open.LineStyles.{LineStyles}
-use Rattle.lines.specs.declared.open.Page.{Page}
-use Rattle.lines.proofs.Opening.{limits-of}
+use Rattle.display_info.specs.declared.LineStyles.{LineStyles}
+use Rattle.display_info.specs.declared.Page.{Page}
+use Rattle.display_info.proofs.Opening.{limits-of}
 
 -- ---- visible widths summed
 

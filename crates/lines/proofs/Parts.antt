@@ -30,18 +30,18 @@ use Rattle.formatting.specs.Stand.{textStyleOf}
 use Rattle.formatting.proofs.RowText.{lines-count}
 use Rattle.formatting.proofs.Whole.{styled-text}
 use Rattle.borders.proofs.Rule.{rule-drawn}
-use Rattle.lines.specs.Opened.{widthsIn, stylesOf, RowsAt, Opened}
+use Rattle.display_info.specs.Opened.{widthsIn, stylesOf, RowsAt, Opened}
 use Rattle.lines.specs.Ahead.{ruleLines, textLines, firstRuled, headerLinesOf, rowLinesOf, bodyLines, partBy, partLines, restBy, restLines, ahead, linesOf, isEnd, firstCursor, furtherOn, At, Next, AfterRow}
 use Rattle.lines.specs.Lengths.{LengthsAre, SizeIs}
 use Rattle.lines.specs.Band.{bandLines, bandCount, bodyStyle, SizedBand}
-use Rattle.lines.specs.declared.open.LineStyles.{LineStyles}
-use Rattle.lines.specs.declared.open.RowStyle.{RowStyle}
-use Rattle.lines.specs.declared.open.Page.{Page}
+use Rattle.display_info.specs.declared.LineStyles.{LineStyles}
+use Rattle.display_info.specs.declared.RowStyle.{RowStyle}
+use Rattle.display_info.specs.declared.Page.{Page}
 use Rattle.lines.specs.declared.cursor.Cursor.{Cursor}
 use Rattle.lines.specs.declared.cursor.Stage.{Stage}
 use Rattle.lines.specs.declared.cursor.Stage.the-variants.{Top, Header, Body, Bottom, End}
 use Rattle.lines.specs.declared.lengths.Lengths.{Lengths}
-use Rattle.lines.proofs.Opening.{limits-of}
+use Rattle.display_info.proofs.Opening.{limits-of}
 
 -- ---- rows
 

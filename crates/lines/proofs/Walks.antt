@@ -36,18 +36,18 @@ use Rattle.borders.specs.declared.RuleStyle.{RuleStyle}
 use Rattle.formatting.proofs.Heights.{limited-height}
 use Rattle.formatting.proofs.Parts.{part-none, part-line, part-full, part-length, part-room, part-whole, part-join, part-short}
 use Rattle.borders.proofs.Rule.{rule-text}
-use Rattle.lines.specs.Opened.{widthsIn, RowsAt, Opened}
+use Rattle.display_info.specs.Opened.{widthsIn, RowsAt, Opened}
 use Rattle.lines.specs.Ahead.{ruleLines, partLines, restLines, ahead, linesOf, isEnd, firstCursor, furtherOn, At, Next}
 use Rattle.lines.specs.Lengths.{SizeIs}
 use Rattle.lines.specs.Band.{bandLines, bandCount, bodyStyle, SizedBand}
-use Rattle.lines.specs.declared.open.Page.{Page}
-use Rattle.lines.specs.declared.open.RowStyle.{RowStyle}
+use Rattle.display_info.specs.declared.Page.{Page}
+use Rattle.display_info.specs.declared.RowStyle.{RowStyle}
 use Rattle.lines.specs.declared.Sought.{Sought}
 use Rattle.lines.specs.declared.cursor.Cursor.{Cursor}
 use Rattle.lines.specs.Walk.{sizeOf, TotalsAre, SoughtIs, FoundIs, WroteIs}
 use Rattle.lines.specs.declared.cursor.Stage.{Stage}
 use Rattle.lines.specs.declared.cursor.Stage.the-variants.{Top, Header, Body, Bottom, End}
-use Rattle.lines.proofs.Opening.{limits-of}
+use Rattle.display_info.proofs.Opening.{limits-of}
 use Rattle.lines.proofs.Parts.{border-few, top-drawn, bottom-drawn, header-drawn, body-drawn, ahead-start, first-at, first-ahead, end-ahead, top-count, header-count, body-count, bottom-count, end-count}
 
 drop-append : {A : Type 0} (n : ℕ) (xs ys : List A) → n ≤ length xs → drop n (xs ++ ys) ≡ drop n xs ++ ys

@@ -10,8 +10,8 @@ use Rattle.rules.specs.Page.{visibleWidths, rowText, shown, headed, ruledRows, 
 use Rattle.sheet.specs.Held.{tableOf}
 use Rattle.sheet.specs.Walk.{rowsIn}
 use Rattle.sheet.specs.declared.records.Rows.{Rows}
-use Rattle.lines.specs.Opened.{widthsIn, RowsAt}
-use Rattle.lines.specs.declared.open.Page.{Page}
+use Rattle.display_info.specs.Opened.{widthsIn, RowsAt}
+use Rattle.display_info.specs.declared.Page.{Page}
 use Rattle.lines.specs.declared.cursor.Cursor.{Cursor}
 use Rattle.lines.specs.declared.cursor.Stage.{Stage}
 use Rattle.lines.specs.declared.cursor.Stage.the-variants.{Top, Header, Body, Bottom, End}

@@ -9,7 +9,7 @@ use Rattle.rules.specs.Sheet.{Row, noRow}
 use Rattle.row.specs.View.{View}
 use Rattle.formatting.specs.RowText.{rowLines, rowHeight, Sized}
 use Rattle.borders.specs.Rule.{ruleText}
-use Rattle.lines.specs.declared.open.RowStyle.{RowStyle}
+use Rattle.display_info.specs.declared.RowStyle.{RowStyle}
 
 -- its lines
 unfoldable pub bandLines : List ℕ → View → RowStyle → List Row → List (List ℕ)

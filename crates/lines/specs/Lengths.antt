@@ -8,9 +8,9 @@ use Rattle.rules.specs.Limits.{longestLine}
 use Rattle.rules.specs.Page.{lineLength, borderLength}
 use Rattle.sheet.specs.Held.{tableOf}
 use Rattle.row.specs.View.{View, visibleAt}
-use Rattle.lines.specs.Opened.{widthsIn}
+use Rattle.display_info.specs.Opened.{widthsIn}
 use Rattle.lines.specs.Ahead.{partLines}
-use Rattle.lines.specs.declared.open.Page.{Page}
+use Rattle.display_info.specs.declared.Page.{Page}
 use Rattle.lines.specs.declared.cursor.Cursor.{Cursor}
 use Rattle.lines.specs.declared.lengths.Lengths.{Lengths}
 

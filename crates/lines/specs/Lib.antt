@@ -1,5 +1,3 @@
-pub mod Opened
-pub mod Opening
 pub mod Ahead
 pub mod Lengths
 pub mod Band

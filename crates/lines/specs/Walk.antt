@@ -7,7 +7,7 @@ use lib.ListN.{length, drop, getD}
 use Rattle.rules.specs.Page.{closed, fitting}
 use Rattle.buffer.specs.Put.{over}
 use Rattle.lines.specs.Ahead.{isEnd, At, partLines, linesOf, ahead}
-use Rattle.lines.specs.declared.open.Page.{Page}
+use Rattle.display_info.specs.declared.Page.{Page}
 use Rattle.lines.specs.declared.cursor.Cursor.{Cursor}
 use Rattle.lines.specs.declared.Totals.{Totals}
 use Rattle.lines.specs.declared.Sought.{Sought}

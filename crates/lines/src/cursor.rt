@@ -3,9 +3,9 @@
 ghost use mathlib.Core.Path.{_≡_};
 ghost use Prim.Native.Nat.{_+_, _≤_};
 ghost use Rattle.rules.specs.Limits.{mostLines};
-ghost use Rattle.lines.specs.Opened.{RowsAt};
+ghost use Rattle.display_info.specs.Opened.{RowsAt};
 ghost use Rattle.lines.specs.Ahead.{isEnd, AfterRow, Next, firstCursor, furtherOn};
-use crate::open::Page;
+use display_info::Page;
 use sheet::records::Rows;
 use sheet::walk;
 

@@ -4,11 +4,11 @@ ghost use mathlib.Core.Bool.{cond};
 ghost use Prim.Native.Nat.{ℕ, _-_, _*_, _≤_};
 ghost use Rattle.row.specs.Packed.{viewOf};
 ghost use Rattle.borders.specs.Rule.{NarrowAll};
-ghost use Rattle.lines.specs.Opened.{Opened};
+ghost use Rattle.display_info.specs.Opened.{Opened};
 ghost use Rattle.lines.specs.Lengths.{widthUpTo, LengthsAre, SizeIs};
 use crate::cursor::Cursor;
 use crate::cursor::Stage;
-use crate::open::Page;
+use display_info::Page;
 use row::packed;
 use rules::MOST_COLUMNS;
 

@@ -1,7 +1,6 @@
-// The lines of a page: opened from a sheet, then counted, sought and written, all part after part in one order.
+// The lines of an opened page: counted, sought and written, all part after part in one order.
 pub mod cursor;
 pub mod lengths;
-pub mod open;
 pub mod part;
 
 ghost use mathlib.Core.Path.{_≡_};
@@ -9,11 +8,11 @@ ghost use Prim.Native.Nat.{ℕ, _≤_};
 ghost use Rattle.rules.specs.Limits.{mostLines};
 ghost use lib.ListN.{length};
 ghost use Rattle.rules.specs.Page.{closed};
-ghost use Rattle.lines.specs.Opened.{Opened};
+ghost use Rattle.display_info.specs.Opened.{Opened};
 ghost use Rattle.lines.specs.Ahead.{At, linesOf, ahead};
 ghost use Rattle.lines.specs.Walk.{TotalsAre, SoughtIs, FoundIs, WroteIs};
 use crate::cursor::Cursor;
-use crate::open::Page;
+use display_info::Page;
 use rules::MOST_COLUMNS;
 
 // A page's lines and bytes.

@@ -25,14 +25,14 @@ use Rattle.sheet.specs.Walk.{rowsIn}
 use Rattle.sheet.proofs.Held.{held}
 use Rattle.buffer.specs.Put.{over}
 use Rattle.lines.specs.Ahead.{ahead, linesOf, firstCursor}
-use Rattle.lines.specs.Opened.{Opened}
+use Rattle.display_info.specs.Opened.{Opened}
 use Rattle.lines.specs.Walk.{sizeOf, TotalsAre, FoundIs, WroteIs}
-use Rattle.lines.specs.declared.open.Page.{Page}
+use Rattle.display_info.specs.declared.Page.{Page}
 use Rattle.lines.specs.declared.cursor.Cursor.{Cursor}
 use Rattle.lines.specs.declared.Totals.{Totals}
 use Rattle.lines.specs.declared.Found.{Found}
 use Rattle.lines.specs.declared.Written.{Written}
-use Rattle.lines.proofs.Opening.{limits-of}
+use Rattle.display_info.proofs.Opening.{limits-of}
 use Rattle.lines.proofs.Parts.{first-ahead}
 use Rattle.page.specs.Several as several
 

@@ -4,7 +4,6 @@ ghost use mathlib.Core.List.{[]};
 ghost use Rattle.rules.specs.Calls as calls;
 ghost use Rattle.page.specs.Several.{printLines, turned};
 use lines::cursor;
-use lines::open;
 use rules::Checked;
 use rules::Counted;
 use rules::MOST_COLUMNS;
@@ -32,7 +31,7 @@ pub fn widths(sheet: &[u8]) -> Measured
             hidden: [false; MOST_COLUMNS],
         };
     }
-    let found = open::content_widths(sheet);
+    let found = display_info::content_widths(sheet);
     let content = found.content;
     let hidden = found.hidden;
     Measured {
@@ -58,7 +57,7 @@ pub fn count(sheet: &[u8]) -> Counted
         };
     }
     let mut columns = [[0usize; 6]; MOST_COLUMNS];
-    let p = open::open(sheet, &mut columns);
+    let p = display_info::open(sheet, &mut columns);
     let totals = lines::count(sheet, &columns, p);
     Counted {
         number: 0,
@@ -89,7 +88,7 @@ pub fn print_page(sheet: &[u8], page: &mut [u8]) -> Printed
         return turned_down(checked.number, checked.place);
     }
     let mut columns = [[0usize; 6]; MOST_COLUMNS];
-    let p = open::open(sheet, &mut columns);
+    let p = display_info::open(sheet, &mut columns);
     let totals = lines::count(sheet, &columns, p);
     if page.len() < totals.bytes {
         return turned_down(20, totals.bytes as u64);
@@ -112,7 +111,7 @@ pub fn print_line(sheet: &[u8], line: usize, page: &mut [u8]) -> Printed
         return turned_down(checked.number, checked.place);
     }
     let mut columns = [[0usize; 6]; MOST_COLUMNS];
-    let p = open::open(sheet, &mut columns);
+    let p = display_info::open(sheet, &mut columns);
     let found = lines::find(sheet, &columns, p, line, page.len());
     if found.number != 0 {
         return turned_down(found.number, found.place as u64);
@@ -157,7 +156,7 @@ pub fn print_lines(sheet: &[u8], line: usize, page: &mut [u8]) -> PrintedLines
         return no_lines(checked.number, checked.place);
     }
     let mut columns = [[0usize; 6]; MOST_COLUMNS];
-    let p = open::open(sheet, &mut columns);
+    let p = display_info::open(sheet, &mut columns);
     let found = lines::find(sheet, &columns, p, line, page.len());
     if found.number != 0 {
         return no_lines(found.number, found.place as u64);

@@ -13,14 +13,14 @@ use Rattle.rules.proofs.Fitting.{fitting-more, fitted}
 use Rattle.rules.proofs.Lists.{all-drop}
 use Rattle.sheet.specs.Held.{tableOf}
 use Rattle.sheet.specs.Walk.{rowsIn}
-use Rattle.lines.specs.Opened.{Opened}
+use Rattle.display_info.specs.Opened.{Opened}
 use Rattle.lines.specs.Ahead.{isEnd, At, ahead, linesOf, firstCursor}
 use Rattle.rules.specs.Limits.{longestLine, mostLines}
 use Rattle.lines.specs.Walk.{WroteIs}
-use Rattle.lines.specs.declared.open.Page.{Page}
+use Rattle.display_info.specs.declared.Page.{Page}
 use Rattle.lines.specs.declared.cursor.Cursor.{Cursor}
 use Rattle.lines.specs.declared.Written.{Written}
-use Rattle.lines.proofs.Opening.{limits-of}
+use Rattle.display_info.proofs.Opening.{limits-of}
 use Rattle.lines.proofs.Parts.{first-at, first-ahead, end-ahead}
 use Rattle.lines.proofs.Walks.{total-lines}
 

@@ -4,7 +4,6 @@
 mod stream;
 
 use lines::cursor;
-use lines::open;
 use rules::MOST_COLUMNS;
 ghost use mathlib.Core.Path.{_≡_};
 ghost use Prim.Native.Nat.{_+_, _≤_};
@@ -35,7 +34,7 @@ fn print(sheet: &[u8], space: &mut [u8])
         return;
     }
     let mut columns = [[0usize; 6]; MOST_COLUMNS];
-    let p = open::open(sheet, &mut columns);
+    let p = display_info::open(sheet, &mut columns);
     let mut c = cursor::first(p);
     while !cursor::is_end(c) {
         let part = lines::write(space, sheet, &columns, p, c);

@@ -1,9 +1,9 @@
 use borrow.Author.Needs.{needs}
 use native.Mathlib.Omega.{arith}
 use denote.Ref.{now}
-use Rattle.lines.proofs.Opening.{show-hidden, show-visible}
-use Rattle.lines.proofs.open.show_column.Statement.{statement}
-use Rattle.lines.proofs.open.show_column.Tie as tie
+use Rattle.display_info.proofs.Opening.{show-hidden, show-visible}
+use Rattle.display_info.proofs.show_column.Statement.{statement}
+use Rattle.display_info.proofs.show_column.Tie as tie
 
 pub show-column-spec : {M : Type 1} → statement M
 show-column-spec =

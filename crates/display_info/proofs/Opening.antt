@@ -45,9 +45,9 @@ use Rattle.formatting.specs.Stand.{textStyleOf}
 use Rattle.row.specs.declared.VisibleColumn.{VisibleColumn}
 use Rattle.formatting.specs.declared.content_format.TextStyle.{TextStyle}
 use Rattle.borders.specs.declared.RuleStyle.{RuleStyle}
-use Rattle.lines.specs.declared.open.LineStyles.{LineStyles}
-use Rattle.lines.specs.Opened.{stylesOf, RowsAt}
-use Rattle.lines.specs.Opening.{shownFrom, behind, showing}
+use Rattle.display_info.specs.declared.LineStyles.{LineStyles}
+use Rattle.display_info.specs.Opened.{stylesOf, RowsAt}
+use Rattle.display_info.specs.Opening.{shownFrom, behind, showing}
 
 -- the table of a sheet that passes keeps every limit
 pub limits-of : (s : List ℕ) → Passes s → TableLimits (tableOf s)

@@ -17,8 +17,8 @@ use Rattle.formatting.specs.RowText.{Marks}
 use Rattle.borders.specs.Rule.{NarrowAll, ruleStyleOf}
 use Rattle.row.specs.View.{Views}
 use Rattle.formatting.specs.Stand.{textStyleOf}
-use Rattle.lines.specs.declared.open.LineStyles.{LineStyles}
-use Rattle.lines.specs.declared.open.Page.{Page}
+use Rattle.display_info.specs.declared.LineStyles.{LineStyles}
+use Rattle.display_info.specs.declared.Page.{Page}
 
 -- the content widths of a sheet's table
 abbrev pub widthsIn : List ℕ → List ℕ

@@ -1,8 +1,8 @@
 -- `lines::open::styles_by` meets its contract. Assumes nothing.
-use Rattle.lines.proofs.Opening.{styles-are}
+use Rattle.display_info.proofs.Opening.{styles-are}
 use borrow.Author.Needs.{needs}
-use Rattle.lines.proofs.open.styles_by.Statement.{statement}
-use Rattle.lines.proofs.open.styles_by.Tie as tie
+use Rattle.display_info.proofs.styles_by.Statement.{statement}
+use Rattle.display_info.proofs.styles_by.Tie as tie
 
 pub styles-by-spec : {M : Type 1} → statement M
 styles-by-spec =

@@ -6,9 +6,9 @@ use Rattle.rules.specs.Sheet.{mostColumns}
 use Rattle.sheet.specs.Held.{tableOf}
 use Rattle.arrangement.proofs.Layouts.{count-fits, column-at}
 use Rattle.row.specs.Packed.{viewOf}
-use Rattle.lines.proofs.Opening.{limits-of, Showing, showing-begin, showing-on, showing-done, columns-count, width-is, delimiter-is, view-rising, view-wide, view-narrow}
-use Rattle.lines.proofs.open.show_columns.Statement.{statement}
-use Rattle.lines.proofs.open.show_columns.Tie as tie
+use Rattle.display_info.proofs.Opening.{limits-of, Showing, showing-begin, showing-on, showing-done, columns-count, width-is, delimiter-is, view-rising, view-wide, view-narrow}
+use Rattle.display_info.proofs.show_columns.Statement.{statement}
+use Rattle.display_info.proofs.show_columns.Tie as tie
 
 abbrev Inv-loop : tie.InvT-loop
 Inv-loop sheet widths columns₀ delimiter found n count₀ j₀ columns count j = (j ≤ n) ×

@@ -1,8 +1,8 @@
 -- `lines::open::rule_style` meets its contract. Assumes nothing.
-use Rattle.lines.proofs.Opening.{rule-style-is}
+use Rattle.display_info.proofs.Opening.{rule-style-is}
 use borrow.Author.Needs.{needs}
-use Rattle.lines.proofs.open.rule_style.Statement.{statement}
-use Rattle.lines.proofs.open.rule_style.Tie as tie
+use Rattle.display_info.proofs.rule_style.Statement.{statement}
+use Rattle.display_info.proofs.rule_style.Tie as tie
 
 pub rule-style-spec : {M : Type 1} → statement M
 rule-style-spec =

@@ -1,8 +1,8 @@
 -- `lines::open::styles` meets its contract. Assumes nothing.
-use Rattle.lines.proofs.Opening.{edges-are}
+use Rattle.display_info.proofs.Opening.{edges-are}
 use borrow.Author.Needs.{needs}
-use Rattle.lines.proofs.open.styles.Statement.{statement}
-use Rattle.lines.proofs.open.styles.Tie as tie
+use Rattle.display_info.proofs.styles.Statement.{statement}
+use Rattle.display_info.proofs.styles.Tie as tie
 
 pub styles-spec : {M : Type 1} → statement M
 styles-spec =

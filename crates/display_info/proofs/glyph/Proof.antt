@@ -1,8 +1,8 @@
 -- `lines::open::glyph` meets its contract. Assumes nothing.
-use Rattle.lines.proofs.Opening.{glyph-is}
+use Rattle.display_info.proofs.Opening.{glyph-is}
 use borrow.Author.Needs.{needs}
-use Rattle.lines.proofs.open.glyph.Statement.{statement}
-use Rattle.lines.proofs.open.glyph.Tie as tie
+use Rattle.display_info.proofs.glyph.Statement.{statement}
+use Rattle.display_info.proofs.glyph.Tie as tie
 
 pub glyph-spec : {M : Type 1} → statement M
 glyph-spec =

@@ -1,9 +1,9 @@
 use borrow.Author.Needs.{needs}
 use mathlib.Core.Path.{ap, _∙_}
-use Rattle.lines.specs.Opened.{stylesOf}
-use Rattle.lines.proofs.Opening.{marks-of, header-at, header-one, rows-at, rows-few}
-use Rattle.lines.proofs.open.open.Statement.{statement}
-use Rattle.lines.proofs.open.open.Tie as tie
+use Rattle.display_info.specs.Opened.{stylesOf}
+use Rattle.display_info.proofs.Opening.{marks-of, header-at, header-one, rows-at, rows-few}
+use Rattle.display_info.proofs.open.Statement.{statement}
+use Rattle.display_info.proofs.open.Tie as tie
 
 pub open-spec : {M : Type 1} → statement M
 open-spec =

@@ -1,8 +1,8 @@
 -- `lines::open::text_style` meets its contract. Assumes nothing.
-use Rattle.lines.proofs.Opening.{text-style-is}
+use Rattle.display_info.proofs.Opening.{text-style-is}
 use borrow.Author.Needs.{needs}
-use Rattle.lines.proofs.open.text_style.Statement.{statement}
-use Rattle.lines.proofs.open.text_style.Tie as tie
+use Rattle.display_info.proofs.text_style.Statement.{statement}
+use Rattle.display_info.proofs.text_style.Tie as tie
 
 pub text-style-spec : {M : Type 1} → statement M
 text-style-spec =
