@@ -16,26 +16,12 @@ use Rattle.row.proofs.Lent.{column-at, pending-at, pendings-set}
 use Rattle.formatting.specs.Area.{After, columnPiece}
 use Rattle.formatting.specs.Line.{linePiece, ReadyAll}
 use Rattle.formatting.specs.declared.content_format.TextStyle.{TextStyle}
-use Rattle.formatting.proofs.Line.{Passing, passing-on, passing-ready, Drawing, column-ready, drawing-room, drawing-on}
+use Rattle.formatting.proofs.Line.{Drawing, column-ready, drawing-room, drawing-on}
 
 -- the next line of a cell, at its entry
 pub same-cell : (x : List ℕ) {s : List ℕ} {w : ℕ} {t u : Pending} → t ≡ pendingFrom x → After s w t u
     → (u .delimiter ≡ pendingFrom x .delimiter) × (u .alignment ≡ pendingFrom x .alignment)
 same-cell x e a = (a .delimiter ∙ ap (λ p. p .delimiter) e, a .alignment ∙ ap (λ p. p .alignment) e)
-
-module _ (s : List ℕ) (cols : List (List ℕ)) (n : ℕ) (st₀ : List (List ℕ)) (R : ReadyAll s (viewOf cols n) (pendingsOf st₀)) (st : List (List ℕ))
-    (more : Bool) (i : ℕ)
-    (P : Passing s (viewOf cols n) (pendingsOf st₀) (pendingsOf st) more i) (h : i < n) (v : VisibleColumn) (t : Pending)
-    (e : v ≡ columnFrom (getD cols i [])) (f : t ≡ pendingFrom (getD st i [])) where
-  pub skip-ready : Ready s v t
-  skip-ready = rw (e, f, ← column-at cols n i, ← pending-at st i) (passing-ready s (viewOf cols n) (pendingsOf st₀) (pendingsOf st) more i R P h)
-
-  pub skip-on : (u : Pending) (z : List ℕ) (m : Bool) → After s (v .width) t u → m ≡ (more || u .line .found) → u ≡ pendingFrom z
-      → Passing s (viewOf cols n) (pendingsOf st₀) (pendingsOf (set st i z)) m (i + 1)
-  skip-on u z m a x y =
-      rw (pendings-set st i z u y)
-      (passing-on s (viewOf cols n) (pendingsOf st₀) (pendingsOf st) more m i u (R .most) h P (rw (column-at cols n i, pending-at st i, ← e, ← f) a)
-      x)
 
 module _ (s : List ℕ) (cols : List (List ℕ)) (n : ℕ) (ind : Indicator) (style : TextStyle) (st₀ : List (List ℕ)) (last : Bool) (page₀ : List ℕ)
     (at₀ : ℕ)
@@ -46,9 +32,6 @@ module _ (s : List ℕ) (cols : List (List ℕ)) (n : ℕ) (ind : Indicator) (st
     (h : i < n)
     (v : VisibleColumn) (t : Pending) (j : Bool) (ev : v ≡ columnFrom (getD cols i [])) (et : t ≡ pendingFrom (getD st i []))
     (ej : j ≡ lead i (style .joined)) where
-  marks : List ℕ
-  marks = take (ind .count) (ind .characters)
-
   fv : v ≡ visibleAt (viewOf cols n) i
   fv = ev ∙ sym (column-at cols n i)
 

@@ -58,16 +58,6 @@ module _ (s : List ℕ) (view : View) where
         found = rw (add-one i) (e ∙ rw (p .found, same-below ts i i u (omega arith), getD-set-same ts i u noPending k));
       }
 
-  pub passing-from : (ts : List Pending) → length ts ≡ mostColumns → Passing s view ts ts (anyFound ts 0) 0
-  unfolding anyFound
-  passing-from ts h = passing-begins ts h
-
-  -- the same where only the cells count
-  pub passing-next : (ts₀ ts : List Pending) (i : ℕ) (u : Pending) → view .count ≤ mostColumns → i < view .count → Passing s view ts₀ ts
-      (anyFound ts i) i
-      → After s (visibleAt view i .width) (pendingAt ts i) u → Passing s view ts₀ (set ts i u) (anyFound (set ts i u) (i + 1)) (i + 1)
-  passing-next ts₀ ts i u l h p a = let q = passing-on ts₀ ts (anyFound ts i) (anyFound ts i || u .line .found) i u l h p a refl in rw (q .found) at q
-
   pub passing-done : (ts₀ ts : List Pending) (more : Bool) (i : ℕ) → view .count ≤ i → Passing s view ts₀ ts more i → AfterAll s view ts₀ ts ×
       (more ≡ anyFound ts (view .count))
   passing-done ts₀ ts more i h p =
@@ -185,9 +175,3 @@ module _ (s : List ℕ) (view : View) (ind : List ℕ) (style : TextStyle) (ts�
       let w = D .passing .within in
       let e : i ≡ view .count = omega arith in
       rw e at D
-
--- a column that isn't passed yet is ready
-pub passing-ready : (s : List ℕ) (view : View) (ts₀ ts : List Pending) (more : Bool) (i : ℕ) → ReadyAll s view ts₀ → Passing s view ts₀ ts more i → i
-    < view .count
-    → Ready s (visibleAt view i) (pendingAt ts i)
-passing-ready s view ts₀ ts more i R p h = rw (p .todo i (omega arith)) (R .each i h)

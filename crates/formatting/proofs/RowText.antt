@@ -1,4 +1,4 @@
--- Lines of a row passed over and drawn one after another. Assumes nothing.
+-- Lines of a row drawn one after another. Assumes nothing.
 use Prim.Native.Nat.{ℕ, zero, suc, _+_, _-_, _≤_, _<_}
 use mathlib.Core.Path.{_≡_, refl, sym, ap, subst, _∙_}
 use mathlib.Core.List.{List, [], _∷_, _++_, map}
@@ -29,7 +29,6 @@ use Rattle.formatting.specs.declared.content_format.Part.{Part}
 use Rattle.row.specs.declared.Pending.{Pending}
 use Rattle.formatting.specs.declared.content_format.TextStyle.{TextStyle}
 use Rattle.formatting.proofs.Parts.{part-none, part-line, part-full, part-length, part-room, part-join}
-use Rattle.formatting.proofs.Stand.{in-limit-0}
 use Rattle.formatting.proofs.Whole.{line-styled, height-has, opened-stands, stands-after, stands-ready}
 
 pub lines-count : (s : List ℕ) (y : TextStyle) (r : Row) → length (rowLines s y r) ≡ rowHeight s r
@@ -54,11 +53,11 @@ second-true false b e = let z : _≡_ {A = ℕ} 0 1 = cc in absurd (omega arith)
 -- ---- a row entered
 
 module _ (s : List ℕ) (view : View) (r : Row) (W : Views (tableOf s) (contents (tableOf s)) view) where
-  pub enters-first : (ts : List Pending) (more : Bool) → OpenedRow s (r .cells) view ts → more ≡ anyFound ts (view .count) → StandsAt s view r 0 more
-      ts
-  enters-first ts more o e =
-      let R = opened-stands s (tableOf s) (contents (tableOf s)) r view ts W o in
-      record { has = e ∙ sym (height-has s (tableOf s) (contents (tableOf s)) r view W 0 ts R ∙ rw (in-limit-0 (r .limit))); stands = λ _. R }
+  pub enters : (j : ℕ) (ts : List Pending) (found m : Bool) (limit : ℕ) → OpenedRow s (r .cells) view j ts → found ≡ anyFound ts (view .count)
+      → limit ≡ r .limit → m ≡ (inLimit limit j && found) → StandsAt s view r j m ts
+  enters j ts found m limit o f l g =
+      let R = opened-stands s (tableOf s) (contents (tableOf s)) r view j ts W o in
+      record { has = g ∙ rw (f, l) (sym (height-has s (tableOf s) (contents (tableOf s)) r view W j ts R)); stands = λ _. R }
 
   module _ (j : ℕ) (more : Bool) (ts : List Pending) (S : StandsAt s view r j more ts) (e : more ≡ true) where
     pub stands-drawn : ReadyAll s view ts
@@ -78,24 +77,6 @@ module _ (s : List ℕ) (view : View) (r : Row) (W : Views (tableOf s) (contents
     stands-more limit l us found m a f g =
         let R = stands-after s (tableOf s) (contents (tableOf s)) r view j ts us (S .stands e) a in
         record { has = g ∙ rw (f, l) (sym (height-has s (tableOf s) (contents (tableOf s)) r view W (j + 1) us R)); stands = λ _. R }
-
--- ---- lines passed over
-
--- j lines are passed over, or all of the row's, which has no line n then
-pub record Skipping (s : List ℕ) (view : View) (r : Row) (n : ℕ) (ts : List Pending) (more : Bool) (j : ℕ) : Type 0 where
-  pub within : j ≤ n
-  pub stands : StandsAt s view r j more ts
-
-pub skipping-done : (s : List ℕ) (view : View) (r : Row) (n : ℕ) (ts : List Pending) (more : Bool) (j : ℕ) (b : Bool) → Skipping s view r n ts more j
-    → b ≡ (more && ltb j n) → b ≡ false → StandsAt s view r n more ts
-skipping-done s view r n ts true j b S e f =
-    let w = S .within in
-    let z : j ≡ n = omega (arith, ltb-false j n (sym e ∙ f)) in
-    rw z at (S .stands)
-skipping-done s view r n ts false j b S e f =
-    let w = S .within in
-    let h = ltb-false j (rowHeight s r) (sym (S .stands .has)) in
-    record { has = sym (le-ltb n (rowHeight s r) (omega arith)); stands = λ x. let z : _≡_ {A = ℕ} 0 1 = cc in absurd (omega arith) }
 
 -- ---- lines drawn
 

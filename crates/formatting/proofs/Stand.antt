@@ -135,17 +135,13 @@ cut-has w ind (suc h) j ls = go (ltb (suc h) (length ls)) refl (ltb j (suc h)) r
 
 -- ---- the limit, exit by exit
 
-pub in-limit-0 : (h : ℕ) → inLimit h 0 ≡ true
-in-limit-0 zero = refl
-in-limit-0 (suc h) = lt-ltb 0 (suc h) (omega arith)
+pub past-limit : (limit line : ℕ) (found : Bool) → (limit ≡ 0 → ⊥) → limit ≤ line → false ≡ (inLimit limit line && found)
+past-limit zero line found h k = absurd (h refl)
+past-limit (suc l) line found h k = rw (le-ltb line (suc l) k)
 
-pub stays-out : (limit line : ℕ) (more : Bool) → (limit ≡ 0 → ⊥) → limit - 1 ≤ line → false ≡ (inLimit limit (line + 1) && more)
-stays-out zero line more h k = absurd (h refl)
-stays-out (suc l) line more h k = let e : ltb (line + 1) (suc l) ≡ false = le-ltb (line + 1) (suc l) (omega arith) in rw e
-
-pub stays-in : (limit line : ℕ) (more : Bool) → (limit ≡ 0 → ⊥) → line < limit - 1 → more ≡ (inLimit limit (line + 1) && more)
-stays-in zero line more h k = absurd (h refl)
-stays-in (suc l) line more h k = let e : ltb (line + 1) (suc l) ≡ true = lt-ltb (line + 1) (suc l) (omega arith) in rw e
+pub below-limit : (limit line : ℕ) (found : Bool) → (limit ≡ 0 → ⊥) → line < limit → found ≡ (inLimit limit line && found)
+below-limit zero line found h k = absurd (h refl)
+below-limit (suc l) line found h k = rw (lt-ltb line (suc l) k)
 
 pub last-line : (limit line : ℕ) → eqb (line + 1) limit ≡ lastOf limit line
 last-line zero line = ne-eqb (line + 1) 0 (λ e. omega arith)

@@ -126,11 +126,10 @@ module _ (s : List ℕ) (t : Table) (ws : List ℕ) (r : Row) (view : View) (W :
 
 -- ---- a row opened
 
-opened-cell : (s : List ℕ) (t : Table) (ws : List ℕ) (r : Row) (i : ℕ) (v : VisibleColumn) (st : Pending) → v ≡ shownOf t ws (numberOf t i) → OpenedAt
-    s (getD (r .cells) (v .number) noCell) v st
-    → StandsCell s t ws r v i 0 st
+opened-cell : (s : List ℕ) (t : Table) (ws : List ℕ) (r : Row) (i : ℕ) (v : VisibleColumn) (j : ℕ) (st : Pending) → v ≡ shownOf t ws (numberOf t i)
+    → OpenedAt s (getD (r .cells) (v .number) noCell) v j st → StandsCell s t ws r v i j st
 unfolding shownOf wrapped
-opened-cell s t ws r i v st e o =
+opened-cell s t ws r i v j st e o =
     let n : v .number ≡ numberOf t i = ap (λ (u : VisibleColumn). u .number) e in
     let w : v .width ≡ getD ws (numberOf t i) 0 = ap (λ (u : VisibleColumn). u .width) e in
     let d : v .delimiter ≡ orElse (columnAt t (numberOf t i) .delimiter) (orElse (t .delimiter) 32) = ap (λ (u : VisibleColumn). u .delimiter) e in
@@ -143,12 +142,11 @@ opened-cell s t ws r i v st e o =
       alignment = o .alignment ∙ rw (a, y);
     }
 
-pub opened-stands : (s : List ℕ) (t : Table) (ws : List ℕ) (r : Row) (view : View) (ts : List Pending) → Views t ws view → OpenedRow s (r .cells) view
-    ts → StandsRow s t ws r view 0 ts
-opened-stands s t ws r view ts W o = record {
+pub opened-stands : (s : List ℕ) (t : Table) (ws : List ℕ) (r : Row) (view : View) (j : ℕ) (ts : List Pending) → Views t ws view
+    → OpenedRow s (r .cells) view j ts → StandsRow s t ws r view j ts
+opened-stands s t ws r view j ts W o = record {
   size = o .size;
-  each = λ i h. opened-cell s t ws r i (visibleAt view i) (pendingAt ts i) (W .each i h)
-      (o .each i h);
+  each = λ i h. opened-cell s t ws r i (visibleAt view i) j (pendingAt ts i) (W .each i h) (o .each i h);
 }
 
 -- the next line of a row

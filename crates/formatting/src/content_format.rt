@@ -233,44 +233,17 @@ fn write_line(
     }
 }
 
-// Each cell's next line, with nothing drawn; whether there is one.
-fn skip_line(
-    sheet: &[u8],
-    columns: &[[usize; 6]; MOST_COLUMNS],
-    count: usize,
-    state: &mut [[usize; 8]; MOST_COLUMNS],
-) -> bool
-    requires { ⌜ ReadyAll (now sheet) (viewOf (now columns) count) (pendingsOf (now state)) ⌝ }
-    ensures { λ r. ⌜ AfterAll (now (sheet .entry)) (viewOf (now (columns .entry)) count) (pendingsOf (now (state .entry))) (pendingsOf (now (state .exit))) × (r ≡ anyFound (pendingsOf (now (state .exit))) count) ⌝ }
-{
-    let mut more = false;
-    let mut i: usize = 0;
-    while i < count {
-        let y = columns[i];
-        let v = packed::column_from(y);
-        let x = state[i];
-        let t = packed::pending_from(x);
-        let u = advance(sheet, v.width, t);
-        let line = u.line;
-        more = numbers::either(more, line.found);
-        let z = packed::repack_pending(x, u);
-        state[i] = z;
-        i += 1;
-    }
-    more
-}
-
-// A row goes on to its next line if one is pending and the limit leaves it.
-fn stays(limit: usize, line: usize, more: bool) -> bool
-    ensures { λ r. ⌜ r ≡ (inLimit limit (line + 1) && more) ⌝ }
+// A row has a line if the limit leaves it and a cell has it.
+fn has_line(limit: usize, line: usize, found: bool) -> bool
+    ensures { λ r. ⌜ r ≡ (inLimit limit line && found) ⌝ }
 {
     if limit == 0 {
-        return more;
+        return found;
     }
-    if limit - 1 <= line {
+    if limit <= line {
         return false;
     }
-    more
+    found
 }
 
 // The last line that the limit leaves.
@@ -287,31 +260,6 @@ pub struct Entered {
     pub more: bool,
 }
 
-// A row's cells from its first line on to line n, with nothing drawn; whether the row has that line.
-fn skip_lines(
-    sheet: &[u8],
-    columns: &[[usize; 6]; MOST_COLUMNS],
-    count: usize,
-    here: Rows,
-    limit: usize,
-    n: usize,
-    opened: bool,
-    state: &mut [[usize; 8]; MOST_COLUMNS],
-) -> bool
-    requires { ⌜ Drawable (now sheet) (viewOf (now columns) count) here × (limit ≡ firstRow (now sheet) here .limit) ⌝ }
-    requires { ⌜ StandsAt (now sheet) (viewOf (now columns) count) (firstRow (now sheet) here) 0 opened (pendingsOf (now state)) ⌝ }
-    ensures { λ r. ⌜ StandsAt (now (sheet .entry)) (viewOf (now (columns .entry)) count) (firstRow (now (sheet .entry)) here) n r (pendingsOf (now (state .exit))) ⌝ }
-{
-    let mut more = opened;
-    let mut j: usize = 0;
-    while numbers::both(more, j < n) {
-        let found = skip_line(sheet, columns, count, state);
-        more = stays(limit, j, found);
-        j += 1;
-    }
-    more
-}
-
 // The first of some rows, at its line n.
 fn enter_row(
     sheet: &[u8],
@@ -326,11 +274,10 @@ fn enter_row(
 {
     let r = walk::row(sheet, here);
     let cells = r.cells;
-    let opened = row::format_row(sheet, columns, count, cells, state);
-    let more = skip_lines(sheet, columns, count, here, r.limit, n, opened, state);
+    let found = row::format_row(sheet, columns, count, cells, n, state);
     Entered {
         limit: r.limit,
-        more,
+        more: has_line(r.limit, n, found),
     }
 }
 
@@ -383,8 +330,8 @@ pub fn draw_row(
             &mut state,
         );
         at += l.written;
-        more = stays(limit, line, l.more);
         line += 1;
+        more = has_line(limit, line, l.more);
     }
     Part {
         lines: line - first,

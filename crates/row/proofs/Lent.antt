@@ -102,17 +102,17 @@ module _ (s : List ℕ) (cols : List (List ℕ)) (n : ℕ) (R : Rising (viewOf c
   pub cell-wide : 0 < v .width
   cell-wide = rw at-i (W i h)
 
-  module _ (st : List (List ℕ)) (more : Bool) (O : Opening s (viewOf cols n) xs (pendingsOf st) left passed more i) where
+  module _ (st : List (List ℕ)) (more : Bool) (k : ℕ) (O : Opening s (viewOf cols n) xs k (pendingsOf st) left passed more i) where
     pub open-order : passed ≤ v .number
     open-order = rw at-i (O .passing .order i (omega arith) h)
 
     pub open-on : (next : Cells) (t : Pending) (m : Bool) (z : List ℕ) → cellsIn s next ≡ drop (v .number - passed) (cellsIn s left) → cellsEnd s next
         ≡ cellsEnd s left
-        → OpenedAt s (firstCell s next) v t → m ≡ (more || t .line .found) → t ≡ pendingFrom z
-        → Opening s (viewOf cols n) xs (pendingsOf (set st i z)) next (v .number) m (i + 1)
+        → OpenedAt s (firstCell s next) v k t → m ≡ (more || t .line .found) → t ≡ pendingFrom z
+        → Opening s (viewOf cols n) xs k (pendingsOf (set st i z)) next (v .number) m (i + 1)
     open-on next t m z a b o x y =
         rw (pendings-set st i z t y, at-i)
-        (opening-on s (viewOf cols n) R xs (pendingsOf st) left passed more i O h next t m (rw at-i at a) b (rw at-i at o) x)
+        (opening-on s (viewOf cols n) R xs k (pendingsOf st) left passed more i O h next t m (rw at-i at a) b (rw at-i at o) x)
 
   module _ (most : ℕ) (M : Measuring s (viewOf cols n) xs left passed most i) where
     pub tall-order : passed ≤ v .number

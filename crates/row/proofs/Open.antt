@@ -8,14 +8,17 @@ use native.Mathlib.Omega.{arith}
 use native.Mathlib.Numerals.{add-one}
 use native.Mathlib.Nat.{eq-or-lt-of-le}
 use lib.ListN.{length, drop, getD, set, length-set}
-use lib.Seq.{getD-set-same, getD-set-other, getD-drop, drop-drop}
+use lib.Seq.{getD-set-same, getD-set-other, getD-drop, drop-drop, drop-nil}
+use lib.Dec.{eqb}
+use borrow.Author.Tests.{ne-eqb}
 use Rattle.rules.specs.Text.{orElse}
 use Rattle.rules.specs.Sheet.{Cell, noCell, mostColumns}
 use Rattle.rules.specs.Wrap.{wrapLines}
 use Rattle.rules.proofs.Text.{width-length}
 use Rattle.rules.proofs.Split.{wrap-short}
 use Rattle.rules.specs.Places.{past, parts}
-use Rattle.cells.specs.Cell.{rest, FirstOf}
+use Rattle.cells.specs.Cell.{rest, FirstOf, Further}
+use Rattle.cells.specs.declared.Next.{Next}
 use Rattle.cells.proofs.Laws.{rest-none, wrap-more, wrap-none}
 use Rattle.sheet.specs.Walk.{cellsIn, cellsEnd, linesIn, linesEnd, firstCell, CellIs, CellsNext}
 use Rattle.sheet.specs.declared.records.Cells.{Cells}
@@ -36,18 +39,23 @@ pub no-cells : (s : List ℕ) (c : Cells) → c .left ≡ 0 → firstCell s c �
 unfolding cellsIn parts
 no-cells s c h = rw h
 
+-- of one blank line, what comes from line n on
+only-first : (n : ℕ) (ls : List (List ℕ)) → ls ≡ [] → elim (eqb n 0) as (λ b. List (List ℕ)) [ true ↦ [] ∷ ls | false ↦ [] ] ≡ drop {A = List ℕ} n ([] ∷ [])
+only-first zero ls e = ap (λ l. [] ∷ l) e
+only-first (suc n) ls e = rw (ne-eqb (suc n) 0 (λ z. omega arith)) (sym (drop-nil n))
+
 -- a missing cell
-pub opened-missing : (s : List ℕ) (c : Cells) (v : VisibleColumn) → 0 < v .width → c .left ≡ 0 → OpenedAt s (firstCell s c) v (missing v)
+pub opened-missing : (s : List ℕ) (c : Cells) (v : VisibleColumn) (n : ℕ) → 0 < v .width → c .left ≡ 0 → OpenedAt s (firstCell s c) v n (missing v n)
 unfolding remaining linesEnd past linesIn parts
-opened-missing s c v wide h =
+opened-missing s c v n wide h =
     let w = v .width in
     let d = v .delimiter in
-    let f : rest s w d (missing v .line .cursor) ≡ [] = rest-none s w d (missing v .line .cursor) wide (omega arith) in
+    let f : rest s w d (missing v n .line .cursor) ≡ [] = rest-none s w d (missing v n .line .cursor) wide (omega arith) in
     rw (no-cells s c h)
     (record {
       stands = record {
-        lines = rw f (sym (blank-line w d));
-        none = λ e. let z : _≡_ {A = ℕ} 0 1 = cc in absurd (omega arith);
+        lines = only-first n _ f ∙ ap (drop n) (sym (blank-line w d));
+        none = λ e. (f, refl);
         ready = record {
           wide = wide;
           line = record { ends = omega arith; order = omega arith; within = omega arith; fits = omega (arith, width-length []) };
@@ -58,16 +66,17 @@ opened-missing s c v wide h =
       alignment = refl;
     })
 
--- a cell at its first line
-pub opened-cell : (s : List ℕ) (c : Cells) (x : records.Cell) → CellIs s c x → (v : VisibleColumn) → 0 < v .width → (r : Pending)
+-- a cell at its line n
+pub opened-cell : (s : List ℕ) (c : Cells) (x : records.Cell) → CellIs s c x → (v : VisibleColumn) (n : ℕ) → 0 < v .width → (first : Next) (r : Pending)
     → r .delimiter ≡ orElse (x .delimiter) (v .delimiter) → r .alignment ≡ orElse (x .alignment) (v .alignment)
-    → FirstOf s (v .width) (r .delimiter) (wrapLines (v .width) (r .delimiter) (linesIn s (x .lines))) (r .line) → OpenedAt s (firstCell s c) v r
-opened-cell s c x X v wide r e f g =
+    → FirstOf s (v .width) (r .delimiter) (wrapLines (v .width) (r .delimiter) (linesIn s (x .lines))) first
+    → Further s (v .width) (r .delimiter) n first (r .line) → OpenedAt s (firstCell s c) v n r
+opened-cell s c x X v n wide first r e f g m =
     let y : r .delimiter ≡ orElse (firstCell s c .delimiter) (v .delimiter) = e ∙ ap (λ n. orElse n (v .delimiter)) (X .delimiter) in
     let z : r .alignment ≡ orElse (firstCell s c .alignment) (v .alignment) = f ∙ ap (λ n. orElse n (v .alignment)) (X .alignment) in
     let ls = wrapLines (v .width) (r .delimiter) (firstCell s c .lines) in
     record {
-      stands = rw (← y) (stands-next s v ls 0 (r .delimiter) ls r wide refl (rw (X .lines) at g) refl);
+      stands = rw (← y) (stands-next s v ls n (r .delimiter) (drop n ls) r wide refl (m ls (rw (X .lines) at g)) refl);
       delimiter = y;
       alignment = z;
     }
@@ -104,22 +113,23 @@ module _ (s : List ℕ) (view : View) (xs : List Cell) (left : Cells) (passed i 
   passing-on R f = record { within = omega arith; cells = cells-here; ends = omega (arith, P .ends); order = λ q a b. R .order i q (omega arith) b }
 
 -- the columns before i are opened
-pub record Opening (s : List ℕ) (view : View) (xs : List Cell) (ts : List Pending) (left : Cells) (passed : ℕ) (more : Bool) (i : ℕ) : Type 0 where
+pub record Opening (s : List ℕ) (view : View) (xs : List Cell) (n : ℕ) (ts : List Pending) (left : Cells) (passed : ℕ) (more : Bool)
+    (i : ℕ) : Type 0 where
   pub passing : Passing s view xs left passed i
   pub size : length ts ≡ mostColumns
-  pub done : (k : ℕ) → k < i → OpenedAt s (getD xs (visibleAt view k .number) noCell) (visibleAt view k) (pendingAt ts k)
+  pub done : (k : ℕ) → k < i → OpenedAt s (getD xs (visibleAt view k .number) noCell) (visibleAt view k) n (pendingAt ts k)
   pub found : more ≡ anyFound ts i
 
-pub opening-begins : (s : List ℕ) (view : View) (c : Cells) (ts : List Pending) → length ts ≡ mostColumns → cellsEnd s c ≤ length s → Opening s view
-    (cellsIn s c) ts c 0 false 0
+pub opening-begins : (s : List ℕ) (view : View) (c : Cells) (n : ℕ) (ts : List Pending) → length ts ≡ mostColumns → cellsEnd s c ≤ length s
+    → Opening s view (cellsIn s c) n ts c 0 false 0
 unfolding anyFound
-opening-begins s view c ts l h = record { passing = passing-begins s view c h; size = l; done = λ k x. absurd (omega arith); found = refl }
+opening-begins s view c n ts l h = record { passing = passing-begins s view c h; size = l; done = λ k x. absurd (omega arith); found = refl }
 
-module _ (s : List ℕ) (view : View) (R : Rising view) (xs : List Cell) (ts : List Pending) (left : Cells) (passed : ℕ) (more : Bool) (i : ℕ)
-    (O : Opening s view xs ts left passed more i) (h : i < view .count) where
+module _ (s : List ℕ) (view : View) (R : Rising view) (xs : List Cell) (n : ℕ) (ts : List Pending) (left : Cells) (passed : ℕ) (more : Bool) (i : ℕ)
+    (O : Opening s view xs n ts left passed more i) (h : i < view .count) where
   pub opening-on : (next : Cells) (t : Pending) (m : Bool) → cellsIn s next ≡ drop (visibleAt view i .number - passed) (cellsIn s left) → cellsEnd s
       next ≡ cellsEnd s left
-      → OpenedAt s (firstCell s next) (visibleAt view i) t → m ≡ (more || t .line .found) → Opening s view xs (set ts i t) next
+      → OpenedAt s (firstCell s next) (visibleAt view i) n t → m ≡ (more || t .line .found) → Opening s view xs n (set ts i t) next
       (visibleAt view i .number) m (i + 1)
   unfolding anyFound
   opening-on next t m e f o x =
@@ -136,10 +146,9 @@ module _ (s : List ℕ) (view : View) (R : Rising view) (xs : List Cell) (ts : L
         found = rw (add-one i) (x ∙ rw (O .found, same-below ts i i t (omega arith), getD-set-same ts i t noPending k));
       }
 
-pub opening-done : (s : List ℕ) (view : View) (xs : List Cell) (ts : List Pending) (left : Cells) (passed : ℕ) (more : Bool) (i : ℕ) → Opening s view
-    xs ts left passed more i → view .count ≤ i
-    → OpenedRow s xs view ts × (more ≡ anyFound ts (view .count))
-opening-done s view xs ts left passed more i O h =
+pub opening-done : (s : List ℕ) (view : View) (xs : List Cell) (n : ℕ) (ts : List Pending) (left : Cells) (passed : ℕ) (more : Bool) (i : ℕ)
+    → Opening s view xs n ts left passed more i → view .count ≤ i → OpenedRow s xs view n ts × (more ≡ anyFound ts (view .count))
+opening-done s view xs n ts left passed more i O h =
     let w = O .passing .within in
     let e : i ≡ view .count = omega arith in
     (record { size = O .size; each = λ k l. O .done k (omega arith) }, rw e at (O .found))

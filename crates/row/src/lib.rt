@@ -1,4 +1,4 @@
-// A row's cells opened at their first lines, comfy-table's `format_row`, and their heights.
+// A row's cells opened at one of its lines, comfy-table's `format_row`, and their heights.
 pub mod packed;
 
 ghost use mathlib.Core.Path.{_≡_};
@@ -34,14 +34,14 @@ pub struct Pending {
     pub alignment: u8,
 }
 
-// A missing cell: one blank line, which is no part of the sheet.
-fn missing_cell(v: VisibleColumn) -> Pending
-    ensures { λ r. ⌜ r ≡ missing v ⌝ }
+// A missing cell at its line n. It is one blank line, which is no part of the sheet.
+fn missing_cell(v: VisibleColumn, n: usize) -> Pending
+    ensures { λ r. ⌜ r ≡ missing v n ⌝ }
 {
     let lines = Lines { at: 0, left: 0 };
     let cursor = CellCursor { lines, from: 0 };
     let line = Next {
-        found: true,
+        found: n == 0,
         start: 0,
         end: 0,
         cursor,
@@ -53,19 +53,20 @@ fn missing_cell(v: VisibleColumn) -> Pending
     }
 }
 
-// The first of the cells at its first line.
-fn open_cell(sheet: &[u8], cells: Cells, v: VisibleColumn) -> Pending
+// The first of the cells at its line n.
+fn open_cell(sheet: &[u8], cells: Cells, v: VisibleColumn, n: usize) -> Pending
     requires { ⌜ (0 < v .width) × (cellsEnd (now sheet) cells ≤ length (now sheet)) ⌝ }
-    ensures { λ r. ⌜ OpenedAt (now (sheet .entry)) (firstCell (now (sheet .entry)) cells) v r ⌝ }
+    ensures { λ r. ⌜ OpenedAt (now (sheet .entry)) (firstCell (now (sheet .entry)) cells) v n r ⌝ }
 {
     if cells.left == 0 {
-        return missing_cell(v);
+        return missing_cell(v, n);
     }
     let x = walk::cell(sheet, cells);
     let lines = x.lines;
     let delimiter = numbers::or_else(x.delimiter, v.delimiter);
     let alignment = numbers::or_else(x.alignment, v.alignment);
-    let line = cells::first_line(sheet, lines, v.width, delimiter);
+    let first = cells::first_line(sheet, lines, v.width, delimiter);
+    let line = cells::further(sheet, first, v.width, delimiter, n);
     Pending {
         line,
         delimiter,
@@ -73,17 +74,18 @@ fn open_cell(sheet: &[u8], cells: Cells, v: VisibleColumn) -> Pending
     }
 }
 
-// Every visible column's cell of a row at its first line; whether there is one.
+// Every visible column's cell of a row at its line n; whether there is one.
 pub fn format_row(
     sheet: &[u8],
     columns: &[[usize; 6]; MOST_COLUMNS],
     count: usize,
     cells: Cells,
+    n: usize,
     state: &mut [[usize; 8]; MOST_COLUMNS],
 ) -> bool
     requires { ⌜ Rising (viewOf (now columns) count) × (WideAll (viewOf (now columns) count) × (cellsEnd (now sheet) cells ≤ length (now sheet))) ⌝ }
     requires { ⌜ length (now state) ≡ mostColumns ⌝ }
-    ensures { λ r. ⌜ OpenedRow (now (sheet .entry)) (cellsIn (now (sheet .entry)) cells) (viewOf (now (columns .entry)) count) (pendingsOf (now (state .exit))) × (r ≡ anyFound (pendingsOf (now (state .exit))) count) ⌝ }
+    ensures { λ r. ⌜ OpenedRow (now (sheet .entry)) (cellsIn (now (sheet .entry)) cells) (viewOf (now (columns .entry)) count) n (pendingsOf (now (state .exit))) × (r ≡ anyFound (pendingsOf (now (state .exit))) count) ⌝ }
 {
     let mut left = cells;
     let mut passed: usize = 0;
@@ -95,7 +97,7 @@ pub fn format_row(
         let number = v.number;
         left = walk::skip_cells(sheet, left, number - passed);
         passed = number;
-        let t = open_cell(sheet, left, v);
+        let t = open_cell(sheet, left, v, n);
         let line = t.line;
         more = numbers::either(more, line.found);
         let z = packed::pack_pending(t);

@@ -122,23 +122,23 @@ draw-row-spec =
           (s .pre .0 .0 .views) (now (a .page)) (l .page) (pendingsOf (l .state)) (l .more) (l .at) (l .line) G,
       s .good,
     ))
-    (λ c κs. search needs)
     (λ c.
-    let s = c .before .before .before .before .before .before .before .before .before .before .before .before .before .before .before in
+    let s = c .before .before .before .before .before .before .before .before .before .before .before .before .before .before in
     let a = s .args in
-    let l = c .before .before .before .before .before .before .before .before .before .before .loop in
+    let l = c .before .before .before .before .before .before .before .before .before .loop in
     let G = l .inv (firstRow (now (a .sheet)) (a .here))
-    (c .before .before .before .before .before .before .before .before .before .before .before .enter-row .ensures .limit) (s .pre .1)
-    (c .before .before .before .before .before .before .before .before .before .before .before .enter-row .ensures .stands) in
-    let g = goes (l .more) (c .before .before .before .before .before .before .before .before .before .goes-on .result) (a .size) _
-    (c .before .before .before .before .before .before .before .before .before .goes-on .ensures)
-    (c .before .before .before .before .before .before .before .before .if1 .taken) in
+    (c .before .before .before .before .before .before .before .before .before .before .enter-row .ensures .limit) (s .pre .1)
+    (c .before .before .before .before .before .before .before .before .before .before .enter-row .ensures .stands) in
+    let g = goes (l .more) (c .before .before .before .before .before .before .before .before .goes-on .result) (a .size) _
+    (c .before .before .before .before .before .before .before .before .goes-on .ensures)
+    (c .before .before .before .before .before .before .before .if1 .taken) in
     omega (
       arith,
       stands-less (now (a .sheet)) (viewOf (now (a .columns)) (a .count)) (firstRow (now (a .sheet)) (a .here)) (s .pre .0 .0 .views)
           (l .line) (l .more) (pendingsOf (l .state)) (G .stands) (g .0),
       s .pre .1 .few,
     ))
+    (λ c κs. search needs)
     (λ c.
     let s = c .before .before .before .before .before .before .before .before .before .before .before .before .before .before .before in
     let a = s .args in
@@ -182,8 +182,8 @@ draw-row-spec =
     (pendingsOf (l .state)) (l .more) (l .at) (l .line) (l .inv r e Z S)
     (g .0) (a .indicator) (s .pre .0 .1) _ e (c .before .before .before .before .before .before .before .is-last .result)
     (c .before .before .before .before .before .before .before .is-last .ensures) (a .size) Z (g .1) _ (w .last .0) _ (w .result .more)
-    (c .stays .result) (w .result .written)
-    (w .ensures .1 .1) refl (w .ensures .0) (w .ensures .1 .0 .0) (w .ensures .1 .0 .1) (c .stays .ensures))
+    (c .has-line .result) (w .result .written)
+    (w .ensures .1 .1) refl (w .ensures .0) (w .ensures .1 .0 .0) (w .ensures .1 .0 .1) (c .has-line .ensures))
     (λ c.
     let s = c .before .before .before .before .before .before .before in
     let a = s .args in

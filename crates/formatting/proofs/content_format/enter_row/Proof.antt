@@ -4,7 +4,7 @@ use denote.Ref.{now}
 use Rattle.sheet.specs.Walk.{firstRow}
 use Rattle.sheet.proofs.Walks.{cells-inside}
 use Rattle.row.specs.Packed.{viewOf, pendingsOf}
-use Rattle.formatting.proofs.RowText.{enters-first}
+use Rattle.formatting.proofs.RowText.{enters}
 use Rattle.formatting.proofs.content_format.enter_row.Statement.{statement}
 use Rattle.formatting.proofs.content_format.enter_row.Tie as tie
 
@@ -18,16 +18,16 @@ enter-row-spec =
     let D = s .pre .0 in
     let r = c .before .before .row in
     ((D .rising, (D .wide, cells-inside (now (s .args .sheet)) (s .args .here) (r .result) (D .some) (D .ends) (r .ensures))), s .pre .1))
-    (λ c κs.
+    (λ c κs. search needs)
+    (λ c.
     let s = c .before .before .before .before .before .before in
     let D = s .pre .0 in
     let r = c .before .before .before .before .row in
     let f = c .before .format-row in
     let a = s .args in
-    let e = f .ensures in (
-      (D, r .ensures .limit),
-      enters-first (now (a .sheet)) (viewOf (now (a .columns)) (a .count)) (firstRow (now (a .sheet)) (a .here)) (D .views)
-          (pendingsOf (f .last .1 .1 .1 .1 .0)) (f .result)
-          (rw (r .ensures .cells) at (e .0)) (e .1),
-    ))
-    (λ c. record { limit = c .before .before .before .before .before .row .ensures .limit; stands = c .skip-lines .ensures }))
+    record {
+      limit = r .ensures .limit;
+      stands = enters (now (a .sheet)) (viewOf (now (a .columns)) (a .count)) (firstRow (now (a .sheet)) (a .here)) (D .views) (a .n)
+          (pendingsOf (f .last .1 .1 .1 .1 .1 .0)) (f .result) (c .has-line .result) _ (rw (r .ensures .cells) at (f .ensures .0)) (f .ensures .1)
+          (r .ensures .limit) (c .has-line .ensures);
+    }))
