@@ -51,14 +51,6 @@ pub within-kept : (a n : ℕ) → a < n → none ≡ withinAverage n a
 unfolding withinAverage
 within-kept a n h = rw (lt-leb n a h, withinAverage)
 
-pub shorter-taken : (a n : ℕ) → n + 3 ≤ a → some n ≡ shorterBy3 n a
-unfolding shorterBy3
-shorter-taken a n h = rw (le-leb (n + 3) a h, shorterBy3)
-
-pub shorter-kept : (a n : ℕ) → a < n + 3 → none ≡ shorterBy3 n a
-unfolding shorterBy3
-shorter-kept a n h = rw (lt-leb (n + 3) a h, shorterBy3)
-
 module _ (c : Column) (b : Bound) (w : ConstraintWidth) (e : b ≡ At w) where
   pub trimmed-at : (n k : ContentWidth) → w .0 < n .0 → k ≡ content c w → k .0 ≡ trimmed c (n .0) (bound b)
   trimmed-at n k h q = rw (e, lt-ltb (w .0) (n .0) h, trimmed) (ap (λ (x : ContentWidth). x .0) q)

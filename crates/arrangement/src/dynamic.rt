@@ -10,7 +10,6 @@ ghost use Rattle.arrangement.specs.Describes.{Describes};
 ghost use Rattle.rules.specs.Sheet.{mostColumns};
 ghost use Rattle.rules.specs.Widths.{withinAverage, shorterBy3, longestPart};
 ghost use Rattle.sheet.specs.Held.{Passes, tableOf};
-use super::after_split;
 use constraint::Bound;
 use constraint::Layout;
 use constraint::Offer;

@@ -1,5 +1,4 @@
 // The width of each column: comfy-table's `arrangement/mod.rs`.
-pub mod after_split;
 pub mod disabled;
 pub mod dynamic;
 pub mod layout;

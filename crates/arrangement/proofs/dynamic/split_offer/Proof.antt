@@ -1,4 +1,4 @@
-use Rattle.arrangement.proofs.Ways.{shorter-taken, shorter-kept}
+use Rattle.after_split.proofs.Trials.{shorter-taken, shorter-kept}
 use borrow.Author.Needs.{needs}
 use Rattle.arrangement.proofs.dynamic.split_offer.Statement.{statement}
 use Rattle.arrangement.proofs.dynamic.split_offer.Tie as tie

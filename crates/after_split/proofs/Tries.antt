@@ -24,10 +24,9 @@ use Rattle.sheet.specs.declared.records.Row.{Row}
 use Rattle.sheet.specs.declared.records.Cell.{Cell}
 use Rattle.sheet.proofs.Held.{room}
 use Rattle.sheet.proofs.Walks.{lines-number, cells-number, rows-number, cells-none, rows-none, rows-next, row-whole, cell-whole}
-use Rattle.arrangement.specs.declared.after_split.Tried.{Tried}
-use Rattle.arrangement.specs.Trial.{ofLine, ofLines, ofCells, ofRows, otherwise, RowTried, Enough, RowsTried}
-use Rattle.arrangement.proofs.Ways.{shorter-kept}
-use Rattle.arrangement.proofs.Trials.{lines-cons, lines-nil, cells-there, cells-short, rows-le, rows-append, longest-part}
+use Rattle.after_split.specs.declared.Tried.{Tried}
+use Rattle.after_split.specs.Trial.{ofLine, ofLines, ofCells, ofRows, otherwise, RowTried, Enough, RowsTried}
+use Rattle.after_split.proofs.Trials.{lines-cons, lines-nil, cells-there, cells-short, rows-le, rows-append, longest-part, shorter-kept}
 
 -- a list of as many as are left
 nothing : {A : Type 0} (l : List A) → length l ≤ 0 → l ≡ []

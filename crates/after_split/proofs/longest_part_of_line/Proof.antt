@@ -1,8 +1,8 @@
 use borrow.Author.Needs.{needs}
 use native.Mathlib.Omega.{arith}
-use Rattle.arrangement.proofs.Trials.{line-whole, line-split}
-use Rattle.arrangement.proofs.after_split.longest_part_of_line.Statement.{statement}
-use Rattle.arrangement.proofs.after_split.longest_part_of_line.Tie as tie
+use Rattle.after_split.proofs.Trials.{line-whole, line-split}
+use Rattle.after_split.proofs.longest_part_of_line.Statement.{statement}
+use Rattle.after_split.proofs.longest_part_of_line.Tie as tie
 
 pub longest-part-of-line-spec : {M : Type 1} → statement M
 longest-part-of-line-spec =

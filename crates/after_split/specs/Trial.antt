@@ -11,7 +11,7 @@ use Rattle.rules.specs.Widths.{trialParts}
 use Rattle.sheet.specs.Walk.{rowsIn, cellsIn, rowsEnd, cellsEnd}
 use Rattle.sheet.specs.declared.records.Rows.{Rows}
 use Rattle.sheet.specs.declared.records.Cells.{Cells}
-use Rattle.arrangement.specs.declared.after_split.Tried.{Tried}
+use Rattle.after_split.specs.declared.Tried.{Tried}
 
 -- of a line, and of lines one after another
 unfoldable pub ofLine : ℕ → ℕ → List ℕ → ℕ

@@ -1,7 +1,7 @@
 use borrow.Author.Needs.{needs}
-use Rattle.arrangement.proofs.Tries.{RowsSoFar, rows-begin, row-fits, rows-enough, rows-again, rows-done}
-use Rattle.arrangement.proofs.after_split.longest_part_of_rows.Statement.{statement}
-use Rattle.arrangement.proofs.after_split.longest_part_of_rows.Tie as tie
+use Rattle.after_split.proofs.Tries.{RowsSoFar, rows-begin, row-fits, rows-enough, rows-again, rows-done}
+use Rattle.after_split.proofs.longest_part_of_rows.Statement.{statement}
+use Rattle.after_split.proofs.longest_part_of_rows.Tie as tie
 
 abbrev Inv-loop : tie.InvT-loop
 Inv-loop sheet column average otherwise longest₀ c₀ longest c = RowsSoFar sheet column average otherwise c₀ c longest

@@ -2,9 +2,9 @@ use borrow.Author.Needs.{needs}
 use Prim.Native.Nat.{_≤_}
 use native.Mathlib.Omega.{arith}
 use Rattle.rules.specs.Widths.{lifted}
-use Rattle.arrangement.proofs.Tries.{header-inside, header-behind, tried-le, tried-header, tried-both, otherwise-is}
-use Rattle.arrangement.proofs.after_split.longest_line_after_split.Statement.{statement}
-use Rattle.arrangement.proofs.after_split.longest_line_after_split.Tie as tie
+use Rattle.after_split.proofs.Tries.{header-inside, header-behind, tried-le, tried-header, tried-both, otherwise-is}
+use Rattle.after_split.proofs.longest_line_after_split.Statement.{statement}
+use Rattle.after_split.proofs.longest_line_after_split.Tie as tie
 
 pub longest-line-after-split-spec : {M : Type 1} → statement M
 longest-line-after-split-spec =

@@ -1,8 +1,8 @@
 use borrow.Author.Needs.{needs}
 use native.Mathlib.Omega.{arith}
-use Rattle.arrangement.proofs.Tries.{LinesSoFar, saves-some, lines-begin, lines-enough, lines-again, lines-done}
-use Rattle.arrangement.proofs.after_split.longest_part_of_lines.Statement.{statement}
-use Rattle.arrangement.proofs.after_split.longest_part_of_lines.Tie as tie
+use Rattle.after_split.proofs.Tries.{LinesSoFar, saves-some, lines-begin, lines-enough, lines-again, lines-done}
+use Rattle.after_split.proofs.longest_part_of_lines.Statement.{statement}
+use Rattle.after_split.proofs.longest_part_of_lines.Tie as tie
 
 abbrev Inv-loop : tie.InvT-loop
 Inv-loop sheet average delimiter longest₀ c₀ longest c = LinesSoFar sheet average delimiter c₀ c longest

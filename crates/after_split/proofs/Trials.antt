@@ -1,21 +1,22 @@
 -- The longest part, walked: laws of what is found of lines, cells and rows. Assumes nothing.
-use Prim.Native.Nat.{ℕ, _≤_, _<_, max}
+use Prim.Native.Nat.{ℕ, _+_, _≤_, _<_, max}
 use mathlib.Core.Path.{_≡_, refl, ap, _∙_}
 use mathlib.Core.List.{List, [], _∷_, _++_, map}
 use mathlib.Core.Bool.{Bool, true, false}
+use mathlib.Core.Option.{none, some}
 use native.Mathlib.Omega.{arith}
 use lib.ListN.{length, getD}
 use lib.Dec.{ltb}
-use borrow.Author.Tests.{ltb-false, lt-ltb, le-ltb}
+use borrow.Author.Tests.{ltb-false, le-leb, lt-leb, lt-ltb, le-ltb}
 use Rattle.rules.specs.Text.{textWidth, greatest, flat, orElse, All}
 use Rattle.rules.specs.Sheet.{Cell, Row, Table, noCell, cellAt, allRows}
 use Rattle.rules.specs.Wrap.{split}
-use Rattle.rules.specs.Widths.{lifted, cellsOf, trialParts, cellParts, longestPart}
+use Rattle.rules.specs.Widths.{lifted, cellsOf, trialParts, cellParts, longestPart, shorterBy3}
 use Rattle.rules.proofs.Lists.{map-append, all-imp, all-map-imp}
 use Rattle.rules.proofs.Text.{width-length}
 use Rattle.rules.proofs.Bounds.{Most, greatest-le}
 use Rattle.rules.proofs.Split.{Short, split-fits}
-use Rattle.arrangement.specs.Trial.{ofLine, ofLines, ofCells, ofRows, otherwise}
+use Rattle.after_split.specs.Trial.{ofLine, ofLines, ofCells, ofRows, otherwise}
 
 greatest-append : (xs ys : List ℕ) → greatest (xs ++ ys) ≡ max (greatest xs) (greatest ys)
 unfolding greatest
@@ -113,3 +114,12 @@ module _ (t : Table) (j a : ℕ) where
   pub longest-part : longestPart t j a ≡ ofRows j a (otherwise t j) (allRows t)
   unfolding longestPart
   longest-part = rows-part (allRows t)
+
+-- a longest part is taken, or the column kept open
+pub shorter-taken : (a n : ℕ) → n + 3 ≤ a → some n ≡ shorterBy3 n a
+unfolding shorterBy3
+shorter-taken a n h = rw (le-leb (n + 3) a h, shorterBy3)
+
+pub shorter-kept : (a n : ℕ) → a < n + 3 → none ≡ shorterBy3 n a
+unfolding shorterBy3
+shorter-kept a n h = rw (lt-leb (n + 3) a h, shorterBy3)

@@ -1,7 +1,7 @@
 use borrow.Author.Needs.{needs}
-use Rattle.arrangement.proofs.Tries.{row-short, row-inside, row-enough, row-there}
-use Rattle.arrangement.proofs.after_split.longest_part_of_row.Statement.{statement}
-use Rattle.arrangement.proofs.after_split.longest_part_of_row.Tie as tie
+use Rattle.after_split.proofs.Tries.{row-short, row-inside, row-enough, row-there}
+use Rattle.after_split.proofs.longest_part_of_row.Statement.{statement}
+use Rattle.after_split.proofs.longest_part_of_row.Tie as tie
 
 pub longest-part-of-row-spec : {M : Type 1} → statement M
 longest-part-of-row-spec =

@@ -2,9 +2,9 @@ use Prim.Native.Nat.{_+_}
 use mathlib.Core.Path.{sym}
 use native.Mathlib.Omega.{arith}
 use borrow.Author.Tests.{lt-ltb}
-use Rattle.arrangement.proofs.Tries.{saves-little}
-use Rattle.arrangement.proofs.after_split.saves_too_little.Statement.{statement}
-use Rattle.arrangement.proofs.after_split.saves_too_little.Tie as tie
+use Rattle.after_split.proofs.Tries.{saves-little}
+use Rattle.after_split.proofs.saves_too_little.Statement.{statement}
+use Rattle.after_split.proofs.saves_too_little.Tie as tie
 
 pub saves-too-little-spec : {M : Type 1} → statement M
 saves-too-little-spec =

@@ -8,7 +8,7 @@ ghost use Rattle.rules.specs.Sheet.{columnAt};
 ghost use Rattle.rules.specs.Widths.{shorterBy3, longestPart};
 ghost use Rattle.sheet.specs.Held.{Passes, tableOf};
 ghost use Rattle.sheet.specs.Walk.{linesIn, rowsEnd, cellsEnd, linesEnd};
-ghost use Rattle.arrangement.specs.Trial.{ofLine, ofLines, Enough, RowTried, RowsTried};
+ghost use Rattle.after_split.specs.Trial.{ofLine, ofLines, Enough, RowTried, RowsTried};
 use rules::Column;
 use sheet::records::Cells;
 use sheet::records::Lines;
