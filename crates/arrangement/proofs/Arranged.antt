@@ -19,9 +19,10 @@ use Rattle.rules.proofs.Bounds.{Most, small-start, small-step1, small-step2, sm
 use Rattle.constraint.specs.declared.Layout.{Layout}
 use Rattle.constraint.specs.declared.State.{State}
 use Rattle.constraint.specs.Widths.{choose, pass}
-use Rattle.arrangement.specs.Arrange.{untargeted, targeted, step1, step2, step3, finished, dynamic, started, arranged}
+use Rattle.arrangement.specs.Arrange.{untargeted, targeted, step1, step2, step3, dynamic, started, arranged}
 use Rattle.arrangement.specs.Describes.{Describes}
-use Rattle.arrangement.specs.Limits.{Small}
+use Rattle.sharing.specs.Limits.{Small}
+use Rattle.sharing.specs.Share.{finished}
 use Rattle.arrangement.proofs.Cases.{unlike}
 use Rattle.arrangement.proofs.Agrees.{Agrees, width-as, step1-agrees, step2-agrees, step3-agrees}
 use Rattle.arrangement.proofs.Begins.{targeted-agrees}

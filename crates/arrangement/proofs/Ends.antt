@@ -21,8 +21,9 @@ use Rattle.constraint.specs.declared.State.{State}
 use Rattle.constraint.specs.Widths.{choose, inOrder, column, decided, fixed, pass}
 use Rattle.constraint.proofs.Bits.{bit-other}
 use Rattle.constraint.proofs.Laws.{open-bit}
-use Rattle.arrangement.specs.declared.dynamic.Sharing.{Sharing}
-use Rattle.arrangement.specs.Arrange.{trimmed, untargeted, share, sharing, undecided, distributed, widened, widening, filled, finished, started}
+use Rattle.sharing.specs.declared.Sharing.{Sharing}
+use Rattle.sharing.specs.Share.{share, sharing, undecided, distributed, widened, widening, filled, finished}
+use Rattle.arrangement.specs.Arrange.{trimmed, untargeted, started}
 use Rattle.arrangement.specs.Describes.{Describes}
 use Rattle.arrangement.proofs.Rounds.{order-induct}
 use Rattle.arrangement.proofs.Cases.{by-place, unlike, not-true}

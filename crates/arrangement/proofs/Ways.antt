@@ -4,7 +4,7 @@ use mathlib.Core.Path.{_≡_, refl, sym, ap, ap₂, _∙_}
 use mathlib.Core.Bool.{Bool, true, false}
 use mathlib.Core.Option.{Option, none, some}
 use native.Mathlib.Omega.{arith}
-use lib.ListN.{getD}
+use lib.ListN.{getD, replicate}
 use lib.Dec.{eqb}
 use borrow.Author.Tests.{le-leb, lt-leb, lt-ltb, le-ltb}
 use Rattle.rules.specs.declared.Column.{Column}
@@ -15,10 +15,11 @@ use Rattle.style.specs.declared.column.ConstraintWidth.{ConstraintWidth}
 use Rattle.constraint.specs.declared.Bound.{Bound}
 use Rattle.constraint.specs.declared.Bound.the-variants.{Unset, At}
 use Rattle.constraint.specs.declared.Offer.{Offer}
-use Rattle.constraint.specs.Widths.{column, longest, bound, offered, lower, upper, average, bit, decided, pass}
+use Rattle.constraint.specs.Widths.{column, longest, bound, offered, lower, upper, average, visible, bit, decided, pass}
 use Rattle.constraint.proofs.Cases.{if-true, if-false, if-eq, if-ne}
-use Rattle.arrangement.specs.Arrange.{trimmed, untargeted, charged, raised, lowerRule, capped, fitRule, splitRule, fitPass}
-use Rattle.rules.specs.Sheet.{padding, isHidden}
+use Rattle.arrangement.specs.Arrange.{trimmed, untargeted, charged, remaining, targeted, raised, lowerRule, capped, fitRule, splitRule, fitPass}
+use Rattle.arrangement.specs.Arrange.{begun, started, dynamic, arranged}
+use Rattle.rules.specs.Sheet.{padding, isHidden, mostColumns}
 use Rattle.rules.specs.Widths.{withinAverage, shorterBy3}
 use Rattle.style.specs.Column.{content}
 
@@ -108,3 +109,26 @@ module _ (t : Layout) (s : State) (a : ℕ) (e : a ≡ average s) where
 
   pub fit-some : (u : State) → (a ≡ 0 → ⊥) → u ≡ pass fitRule t s → u ≡ fitPass t s
   fit-some u h q = if-ne (average s) 0 s _ u (λ z. h (e ∙ z)) q
+
+pub targeted-at : (t : Layout) (s : State) (r : ℕ) → r ≡ remaining t s
+    → _≡_ {A = State} (record { widths = s .widths; decided = s .decided; remaining = r; visible = s .visible }) (targeted t s)
+targeted-at t s r e = ap (λ (k : ℕ). record { widths = s .widths; decided = s .decided; remaining = k; visible = s .visible }) e
+
+pub begun-at : (t : Layout) (v : ℕ) → v ≡ visible t
+    → _≡_ {A = State} (record { widths = replicate mostColumns 0; decided = 0; remaining = 0; visible = v }) (begun t)
+begun-at t v e = ap (λ (k : ℕ). record { widths = replicate mostColumns 0; decided = 0; remaining = 0; visible = k }) e
+
+module _ (parts : ℕ → ℕ → ℕ) (t : Layout) (s u : State) (e : s ≡ started t) where
+  pub arranged-untargeted : t .target ≡ 0 → u ≡ pass untargeted t s → u ≡ arranged parts t
+  unfolding arranged
+  arranged-untargeted h q = if-eq (t .target) 0 _ _ u h (q ∙ ap (pass untargeted t) e)
+
+  pub arranged-disabled : (t .target ≡ 0 → ⊥) → t .arrangement ≡ 0 → u ≡ pass untargeted t s → u ≡ arranged parts t
+  unfolding arranged
+  arranged-disabled h a q =
+      if-ne (t .target) 0 _ _ u h (if-eq (t .arrangement) 0 _ _ u a (q ∙ ap (pass untargeted t) e))
+
+  pub arranged-dynamic : (t .target ≡ 0 → ⊥) → (t .arrangement ≡ 0 → ⊥) → u ≡ dynamic parts t s → u ≡ arranged parts t
+  unfolding arranged
+  arranged-dynamic h a q =
+      if-ne (t .target) 0 _ _ u h (if-ne (t .arrangement) 0 _ _ u a (q ∙ ap (dynamic parts t) e))

@@ -1,4 +1,3 @@
 pub mod Arrange
-pub mod Limits
 pub mod Describes
 pub mod Widths

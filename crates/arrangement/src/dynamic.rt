@@ -1,11 +1,9 @@
 // Widths that are to make up a target: comfy-table's `arrangement/dynamic.rs`.
 ghost use mathlib.Core.Path.{_≡_};
 ghost use Prim.Native.Nat.{_+_, _≤_, _<_};
-ghost use lib.ListN.{getD};
 ghost use Rattle.constraint.specs.Widths.{bound, offered, pass, step, average};
-ghost use Rattle.arrangement.specs.Limits.{Small};
 ghost use Rattle.arrangement.specs.Arrange.{charged, remaining, targeted, raised, lowerRule, step1, capped, fitRule, fitPass, step2, splitRule, step3};
-ghost use Rattle.arrangement.specs.Arrange.{share, sharing, undecided, distributed, widened, widening, filled, finished, dynamic, started};
+ghost use Rattle.arrangement.specs.Arrange.{dynamic, started};
 ghost use Rattle.arrangement.specs.Describes.{Describes};
 ghost use Rattle.rules.specs.Sheet.{mostColumns};
 ghost use Rattle.rules.specs.Widths.{withinAverage, shorterBy3, longestPart};
@@ -17,12 +15,6 @@ use constraint::State;
 use rules::Column;
 use style::column;
 use style::column::ContentWidth;
-
-// Columns that share a width: the state, and how many have their part.
-pub struct Sharing {
-    pub state: State,
-    pub given: u16,
-}
 
 // What column i takes off the remaining width: its padding, and its width if it is decided.
 fn charge(t: Layout, s: State, i: usize, r: u16) -> u16
@@ -252,113 +244,6 @@ fn optimize_space_after_split(sheet: &[u8], t: Layout, s: State) -> State
     r
 }
 
-// Part k of n shared evenly: the first parts take the excess.
-fn share_of(n: u16, parts: u16, k: u16) -> u16
-    requires { ⌜ 0 < parts ⌝ }
-    ensures { λ r. ⌜ (r ≡ share n parts k) × (r ≤ n) ⌝ }
-{
-    let base = n / parts;
-    if k < n % parts {
-        return base + 1;
-    }
-    base
-}
-
-// Hidden columns are never in the set.
-fn undecided_columns(s: State) -> u16
-    ensures { λ r. ⌜ r ≡ undecided s ⌝ }
-{
-    numbers::minus_u16(s.visible, u16::count_ones(s.decided) as u16)
-}
-
-fn share_step(t: Layout, n: u16, parts: u16, i: usize, x: Sharing) -> Sharing
-    requires { ⌜ (i < mostColumns) × (0 < parts) × (x .given < 65535) ⌝ }
-    ensures { λ r. ⌜ r ≡ sharing t n parts i x ⌝ }
-{
-    let s = x.state;
-    if constraint::is_decided(t, i, s) {
-        return x;
-    }
-    let k = x.given;
-    let u = constraint::fix_column(s, i, ContentWidth(share_of(n, parts, k)));
-    Sharing {
-        state: u,
-        given: k + 1,
-    }
-}
-
-// Step 4, with columns left: each gets at least 1.
-fn distribute_remaining_space(t: Layout, s: State) -> State
-    requires { ⌜ (t .count ≤ mostColumns) × (0 < undecided s) ⌝ }
-    ensures { λ r. ⌜ r ≡ distributed t s ⌝ }
-{
-    let n = t.count as usize;
-    let parts = undecided_columns(s);
-    let total = numbers::greater_u16(s.remaining, parts);
-    let mut x = Sharing { state: s, given: 0 };
-    for i in 0..n {
-        x = share_step(t, total, parts, i, x);
-    }
-    x.state
-}
-
-fn widen(s: State, i: usize, n: u16) -> State
-    requires { ⌜ (i < mostColumns) × (getD (s .widths) i 0 + n < 65536) ⌝ }
-    ensures { λ r. ⌜ r ≡ widened s i n ⌝ }
-{
-    let mut r = s;
-    r.widths[i] = s.widths[i] + n;
-    r
-}
-
-fn widen_step(t: Layout, n: u16, parts: u16, i: usize, x: Sharing) -> Sharing
-    requires { ⌜ (i < mostColumns) × (0 < parts) × (x .given < 65535) × (getD (x .state .widths) i 0 + n < 65536) ⌝ }
-    ensures { λ r. ⌜ r ≡ widening t n parts i x ⌝ }
-{
-    if constraint::is_hidden(t.columns[i]) {
-        return x;
-    }
-    let s = x.state;
-    let k = x.given;
-    let u = widen(s, i, share_of(n, parts, k));
-    Sharing {
-        state: u,
-        given: k + 1,
-    }
-}
-
-// Step 4, with none left: every visible column is widened.
-fn use_full_width(t: Layout, s: State) -> State
-    requires { ⌜ (t .count ≤ mostColumns) × Small s ⌝ }
-    ensures { λ r. ⌜ r ≡ filled t s ⌝ }
-{
-    let n = t.count as usize;
-    let total = s.remaining;
-    let parts = s.visible;
-    if parts == 0 {
-        return s;
-    }
-    let mut x = Sharing { state: s, given: 0 };
-    for i in 0..n {
-        x = widen_step(t, total, parts, i, x);
-    }
-    x.state
-}
-
-// Step 4.
-fn finish(t: Layout, s: State) -> State
-    requires { ⌜ (t .count ≤ mostColumns) × Small s ⌝ }
-    ensures { λ r. ⌜ r ≡ finished t s ⌝ }
-{
-    if undecided_columns(s) == 0 {
-        if t.arrangement == 2 {
-            return use_full_width(t, s);
-        }
-        return s;
-    }
-    distribute_remaining_space(t, s)
-}
-
 // The widths from the first step on, which must make up the target as well as they can.
 pub fn arrange(sheet: &[u8], t: Layout, s: State) -> State
     requires { ⌜ Passes (now sheet) × Describes t (tableOf (now sheet)) × (s ≡ started t) ⌝ }
@@ -368,5 +253,5 @@ pub fn arrange(sheet: &[u8], t: Layout, s: State) -> State
     let b = enforce_lower_boundary_constraints(t, a);
     let c = find_columns_that_fit_into_average(t, b);
     let d = optimize_space_after_split(sheet, t, c);
-    finish(t, d)
+    sharing::finish(t, d)
 }

@@ -1,4 +1,4 @@
-use Rattle.arrangement.proofs.Shares.{arranged-untargeted, arranged-disabled, arranged-dynamic}
+use Rattle.arrangement.proofs.Ways.{arranged-untargeted, arranged-disabled, arranged-dynamic}
 use borrow.Author.Needs.{needs}
 use Rattle.arrangement.proofs.arrange.Statement.{statement}
 use Rattle.arrangement.proofs.arrange.Tie as tie

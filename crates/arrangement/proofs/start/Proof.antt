@@ -3,7 +3,7 @@ use Prim.Native.Nat.{_-_}
 use native.Mathlib.Omega.{arith}
 use Rattle.constraint.specs.Widths.{inOrder, evaluated}
 use Rattle.constraint.proofs.Laws.{Walk, walk-begin, walk-again, walk-done}
-use Rattle.arrangement.proofs.Shares.{begun-at}
+use Rattle.arrangement.proofs.Ways.{begun-at}
 use borrow.Author.Needs.{needs}
 use Rattle.arrangement.proofs.start.Statement.{statement}
 use Rattle.arrangement.proofs.start.Tie as tie

@@ -1,5 +1,5 @@
 use borrow.Author.Needs.{needs}
-use Rattle.arrangement.proofs.Shares.{targeted-at}
+use Rattle.arrangement.proofs.Ways.{targeted-at}
 use Rattle.arrangement.proofs.dynamic.target.Statement.{statement}
 use Rattle.arrangement.proofs.dynamic.target.Tie as tie
 

@@ -2,8 +2,8 @@ use lib.Count.{ones-le}
 use native.Mathlib.Omega.{arith}
 use Rattle.constraint.specs.Widths.{decided, setWidth}
 use borrow.Author.Needs.{needs}
-use Rattle.arrangement.proofs.dynamic.undecided_columns.Statement.{statement}
-use Rattle.arrangement.proofs.dynamic.undecided_columns.Tie as tie
+use Rattle.sharing.proofs.undecided_columns.Statement.{statement}
+use Rattle.sharing.proofs.undecided_columns.Tie as tie
 
 pub undecided-columns-spec : {M : Type 1} → statement M
 undecided-columns-spec =

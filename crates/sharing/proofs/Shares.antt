@@ -4,17 +4,16 @@ use mathlib.Core.Path.{_≡_, refl, sym, ap, _∙_, subst}
 use mathlib.Core.Bool.{Bool, true, false}
 use native.Mathlib.Nat.{div-le-self, div-add-mod', mul-le-mul-left}
 use native.Mathlib.Omega.{arith}
-use lib.ListN.{getD, replicate}
+use lib.ListN.{getD}
 use lib.Seq.{getD-set-other}
 use borrow.Author.Tests.{lt-ltb, le-ltb}
 use Rattle.constraint.specs.declared.Layout.{Layout}
 use Rattle.constraint.specs.declared.State.{State}
-use Rattle.constraint.specs.Widths.{choose, inOrder, column, decided, fixed, visible, pass}
+use Rattle.constraint.specs.Widths.{choose, inOrder, column, decided, fixed}
 use Rattle.constraint.proofs.Cases.{if-true, if-false, if-eq, if-ne}
-use Rattle.arrangement.specs.declared.dynamic.Sharing.{Sharing}
-use Rattle.arrangement.specs.Arrange.{remaining, targeted, share, sharing, undecided, distributed, widened, widening, filled, finished, untargeted}
-use Rattle.arrangement.specs.Arrange.{begun, started, dynamic, arranged}
-use Rattle.rules.specs.Sheet.{isHidden, mostColumns}
+use Rattle.rules.specs.Sheet.{isHidden}
+use Rattle.sharing.specs.declared.Sharing.{Sharing}
+use Rattle.sharing.specs.Share.{share, sharing, undecided, distributed, widened, widening, filled, finished}
 
 pub share-more : (n parts k : ℕ) → 0 < parts → k < n % parts → n / parts + 1 ≤ n
 share-more n parts k h l = omega (arith, div-add-mod' n parts, mul-le-mul-left (n / parts) h)
@@ -81,10 +80,6 @@ unfolding widening
 widening-ahead t n parts i x y h e =
     subst (λ (z : Sharing). Ahead (i + 1) z) (sym e) (ahead-go (isHidden (column t i)) x i (share n parts (x .given)) (x .given + 1) h)
 
-pub targeted-at : (t : Layout) (s : State) (r : ℕ) → r ≡ remaining t s
-    → _≡_ {A = State} (record { widths = s .widths; decided = s .decided; remaining = r; visible = s .visible }) (targeted t s)
-targeted-at t s r e = ap (λ (k : ℕ). record { widths = s .widths; decided = s .decided; remaining = k; visible = s .visible }) e
-
 module _ (t : Layout) (s : State) where
   pub filled-none : s .visible ≡ 0 → s ≡ filled t s
   unfolding filled
@@ -109,25 +104,6 @@ module _ (t : Layout) (s : State) where
     pub finished-shared : (u : State) → (n ≡ 0 → ⊥) → u ≡ distributed t s → u ≡ finished t s
     unfolding finished
     finished-shared u h q = if-ne (undecided s) 0 _ _ u (λ e. h (z ∙ e)) q
-
-pub begun-at : (t : Layout) (v : ℕ) → v ≡ visible t
-    → _≡_ {A = State} (record { widths = replicate mostColumns 0; decided = 0; remaining = 0; visible = v }) (begun t)
-begun-at t v e = ap (λ (k : ℕ). record { widths = replicate mostColumns 0; decided = 0; remaining = 0; visible = k }) e
-
-module _ (parts : ℕ → ℕ → ℕ) (t : Layout) (s u : State) (e : s ≡ started t) where
-  pub arranged-untargeted : t .target ≡ 0 → u ≡ pass untargeted t s → u ≡ arranged parts t
-  unfolding arranged
-  arranged-untargeted h q = if-eq (t .target) 0 _ _ u h (q ∙ ap (pass untargeted t) e)
-
-  pub arranged-disabled : (t .target ≡ 0 → ⊥) → t .arrangement ≡ 0 → u ≡ pass untargeted t s → u ≡ arranged parts t
-  unfolding arranged
-  arranged-disabled h a q =
-      if-ne (t .target) 0 _ _ u h (if-eq (t .arrangement) 0 _ _ u a (q ∙ ap (pass untargeted t) e))
-
-  pub arranged-dynamic : (t .target ≡ 0 → ⊥) → (t .arrangement ≡ 0 → ⊥) → u ≡ dynamic parts t s → u ≡ arranged parts t
-  unfolding arranged
-  arranged-dynamic h a q =
-      if-ne (t .target) 0 _ _ u h (if-ne (t .arrangement) 0 _ _ u a (q ∙ ap (dynamic parts t) e))
 
 pub distributed-at : (t : Layout) (s : State) (parts total : ℕ) (x : Sharing) → parts ≡ undecided s → total ≡ max (s .remaining) parts
     → x ≡ inOrder (sharing t total parts) (t .count) (record { state = s; given = 0 }) → x .state ≡ distributed t s

@@ -1,7 +1,7 @@
-use Rattle.arrangement.proofs.Shares.{widening-hidden, widening-visible}
+use Rattle.sharing.proofs.Shares.{widening-hidden, widening-visible}
 use borrow.Author.Needs.{needs}
-use Rattle.arrangement.proofs.dynamic.widen_step.Statement.{statement}
-use Rattle.arrangement.proofs.dynamic.widen_step.Tie as tie
+use Rattle.sharing.proofs.widen_step.Statement.{statement}
+use Rattle.sharing.proofs.widen_step.Tie as tie
 
 pub widen-step-spec : {M : Type 1} → statement M
 widen-step-spec =

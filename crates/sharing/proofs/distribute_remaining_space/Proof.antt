@@ -1,11 +1,11 @@
 use Prim.Native.Nat.{_-_, _≤_}
 use native.Mathlib.Omega.{arith}
 use Rattle.constraint.proofs.Laws.{Walk, walk-begin, walk-again, walk-done}
-use Rattle.arrangement.specs.Arrange.{sharing}
-use Rattle.arrangement.proofs.Shares.{sharing-given, distributed-at}
+use Rattle.sharing.specs.Share.{sharing}
+use Rattle.sharing.proofs.Shares.{sharing-given, distributed-at}
 use borrow.Author.Needs.{needs}
-use Rattle.arrangement.proofs.dynamic.distribute_remaining_space.Statement.{statement}
-use Rattle.arrangement.proofs.dynamic.distribute_remaining_space.Tie as tie
+use Rattle.sharing.proofs.distribute_remaining_space.Statement.{statement}
+use Rattle.sharing.proofs.distribute_remaining_space.Tie as tie
 
 abbrev Inv-loop : tie.InvT-loop
 Inv-loop t n parts total x₀ i₀ x i = (x .given ≤ i) × Walk (sharing t total parts) x₀ (t .count) n i x

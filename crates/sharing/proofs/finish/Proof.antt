@@ -1,7 +1,7 @@
-use Rattle.arrangement.proofs.Shares.{finished-full, finished-kept, finished-shared}
+use Rattle.sharing.proofs.Shares.{finished-full, finished-kept, finished-shared}
 use borrow.Author.Needs.{needs}
-use Rattle.arrangement.proofs.dynamic.finish.Statement.{statement}
-use Rattle.arrangement.proofs.dynamic.finish.Tie as tie
+use Rattle.sharing.proofs.finish.Statement.{statement}
+use Rattle.sharing.proofs.finish.Tie as tie
 
 pub finish-spec : {M : Type 1} → statement M
 finish-spec =

@@ -1,9 +1,9 @@
 use native.Mathlib.Omega.{arith}
 use Rattle.constraint.proofs.Laws.{open-by}
-use Rattle.arrangement.proofs.Shares.{sharing-decided, sharing-open}
+use Rattle.sharing.proofs.Shares.{sharing-decided, sharing-open}
 use borrow.Author.Needs.{needs}
-use Rattle.arrangement.proofs.dynamic.share_step.Statement.{statement}
-use Rattle.arrangement.proofs.dynamic.share_step.Tie as tie
+use Rattle.sharing.proofs.share_step.Statement.{statement}
+use Rattle.sharing.proofs.share_step.Tie as tie
 
 pub share-step-spec : {M : Type 1} → statement M
 share-step-spec =

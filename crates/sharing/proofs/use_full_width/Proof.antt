@@ -1,11 +1,11 @@
 use Prim.Native.Nat.{_-_, _≤_}
 use native.Mathlib.Omega.{arith}
 use Rattle.constraint.proofs.Laws.{Walk, walk-begin, walk-again, walk-done}
-use Rattle.arrangement.specs.Arrange.{widening}
-use Rattle.arrangement.proofs.Shares.{widening-given, Ahead, widening-ahead, filled-none, filled-some}
+use Rattle.sharing.specs.Share.{widening}
+use Rattle.sharing.proofs.Shares.{widening-given, Ahead, widening-ahead, filled-none, filled-some}
 use borrow.Author.Needs.{needs}
-use Rattle.arrangement.proofs.dynamic.use_full_width.Statement.{statement}
-use Rattle.arrangement.proofs.dynamic.use_full_width.Tie as tie
+use Rattle.sharing.proofs.use_full_width.Statement.{statement}
+use Rattle.sharing.proofs.use_full_width.Tie as tie
 
 abbrev Inv-loop : tie.InvT-loop
 Inv-loop t n total parts x₀ i₀ x i = (x .given ≤ i) × Ahead i x × Walk (widening t total parts) x₀ (t .count) n i x

@@ -1,8 +1,8 @@
 use native.Mathlib.Omega.{arith}
-use Rattle.arrangement.proofs.Shares.{share-more, share-first, share-rest}
+use Rattle.sharing.proofs.Shares.{share-more, share-first, share-rest}
 use borrow.Author.Needs.{needs}
-use Rattle.arrangement.proofs.dynamic.share_of.Statement.{statement}
-use Rattle.arrangement.proofs.dynamic.share_of.Tie as tie
+use Rattle.sharing.proofs.share_of.Statement.{statement}
+use Rattle.sharing.proofs.share_of.Tie as tie
 
 pub share-of-spec : {M : Type 1} → statement M
 share-of-spec =
