@@ -1,15 +1,12 @@
 // Replays sheets against stored answers of the Rust: every call, with buffers that are full, short and wide. Standard input
 // holds records one after another; the README of tools/differential/sample has their format.
-mod answers;
-mod buffers;
-mod stored;
-
-use answers::differs;
-use answers::sum;
-use buffers::Lines;
 use libc::STDIN_FILENO;
 use libc::STDOUT_FILENO;
+use print_calls::Lines;
 use stored::Accepted;
+use stored::answers;
+use stored::answers::differs;
+use stored::answers::sum;
 ghost use mathlib.Core.Path.{_≡_};
 ghost use Prim.Native.Nat.{_<_};
 ghost use lib.ListN.{length};
@@ -55,10 +52,10 @@ fn asked(text: &[u8], sheet: &[u8], place: u64, a: Accepted, bytes: usize) -> u6
 fn accepted(text: &[u8], sheet: &[u8], place: u64, a: Accepted, buffer: &mut [u8]) -> Lines {
     let wanted = stored::part(text, a.page, a.next);
     let quiet = asked(text, sheet, place, a, wanted.len());
-    let whole = buffers::pages(sheet, wanted, buffer);
-    let each = buffers::each_line(sheet, wanted, a.lines, buffer);
+    let whole = print_calls::pages(sheet, wanted, buffer);
+    let each = print_calls::each_line(sheet, wanted, a.lines, buffer);
     let count = differs(b"count of stored lines", each.count == a.lines);
-    let past = buffers::past_the_end(sheet, a.lines, buffer);
+    let past = print_calls::past_the_end(sheet, a.lines, buffer);
     let loud = sum(sum(whole, each.differences), sum(count, past));
     Lines {
         count: each.count,
@@ -71,7 +68,7 @@ fn refused(sheet: &[u8], number: u64, place: u64, buffer: &mut [u8]) -> u64 {
     let checked = answers::checked(page::check(sheet), number, place);
     let counted = answers::counted(page::count(sheet), number, place, 0, 0);
     let measured = answers::measured(page::widths(sheet), number, place, sheet, 0, 0);
-    let printed = buffers::turned_down(sheet, number, place, buffer);
+    let printed = print_calls::turned_down(sheet, number, place, buffer);
     sum(sum(checked, counted), sum(measured, printed))
 }
 

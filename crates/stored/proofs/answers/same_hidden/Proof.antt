@@ -1,8 +1,8 @@
--- `replay::answers::same_hidden` meets its contract. The loop: i is at most 12. Assumes nothing.
+-- `stored::answers::same_hidden` meets its contract. The loop: i is at most 12. Assumes nothing.
 use borrow.Author.Needs.{needs}
 use Prim.Native.Nat.{_-_, _≤_}
-use Rattle.replay.proofs.answers.same_hidden.Statement.{statement}
-use Rattle.replay.proofs.answers.same_hidden.Tie as tie
+use Rattle.stored.proofs.answers.same_hidden.Statement.{statement}
+use Rattle.stored.proofs.answers.same_hidden.Tie as tie
 use Rattle.rules.specs.Sheet.{mostColumns}
 
 abbrev Inv-loop : tie.InvT-loop

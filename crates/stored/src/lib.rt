@@ -1,4 +1,6 @@
 // The stored answers: numbers, low byte first, and parts of the text. Past the end every byte reads as 0.
+pub mod answers;
+
 ghost use Prim.Native.Nat.{_≤_, _<_};
 ghost use lib.ListN.{length};
 ghost use Rattle.rules.specs.Sheet.{mostColumns};

@@ -1,11 +1,11 @@
--- `replay::buffers::blank` meets its contract. The loop: i stands inside the buffer, whose length is kept. Assumes nothing.
+-- `print_calls::blank` meets its contract. The loop: i stands inside the buffer, whose length is kept. Assumes nothing.
 use lib.ListN.{length, length-set}
 use borrow.Author.Needs.{needs}
 use native.Mathlib.Omega.{arith}
 use mathlib.Core.Path.{_≡_}
 use Prim.Native.Nat.{_-_, _≤_}
-use Rattle.replay.proofs.buffers.blank.Statement.{statement}
-use Rattle.replay.proofs.buffers.blank.Tie as tie
+use Rattle.print_calls.proofs.blank.Statement.{statement}
+use Rattle.print_calls.proofs.blank.Tie as tie
 
 abbrev Inv-loop : tie.InvT-loop
 Inv-loop buffer₀ i₀ buffer i = (i ≤ length buffer) × (length buffer ≡ length buffer₀)

@@ -1,9 +1,9 @@
--- `replay::buffers::line_end` meets its contract. The loop: i stands between the line's start and the page's end. Assumes nothing.
+-- `print_calls::line_end` meets its contract. The loop: i stands between the line's start and the page's end. Assumes nothing.
 use lib.ListN.{length}
 use borrow.Author.Needs.{needs}
 use Prim.Native.Nat.{_-_, _≤_}
-use Rattle.replay.proofs.buffers.line_end.Statement.{statement}
-use Rattle.replay.proofs.buffers.line_end.Tie as tie
+use Rattle.print_calls.proofs.line_end.Statement.{statement}
+use Rattle.print_calls.proofs.line_end.Tie as tie
 
 abbrev Inv-loop : tie.InvT-loop
 Inv-loop page at i₀ i = (at ≤ i) × (i ≤ length page)

@@ -1,10 +1,10 @@
--- `replay::buffers::each_line` meets its contract. The loop: no more lines than bytes were passed, and the buffer's length is kept. Assumes nothing.
+-- `print_calls::each_line` meets its contract. The loop: no more lines than bytes were passed, and the buffer's length is kept. Assumes nothing.
 use lib.ListN.{length}
 use borrow.Author.Needs.{needs}
 use mathlib.Core.Path.{_≡_}
 use Prim.Native.Nat.{_-_, _≤_}
-use Rattle.replay.proofs.buffers.each_line.Statement.{statement}
-use Rattle.replay.proofs.buffers.each_line.Tie as tie
+use Rattle.print_calls.proofs.each_line.Statement.{statement}
+use Rattle.print_calls.proofs.each_line.Tie as tie
 
 abbrev Inv-loop : tie.InvT-loop
 Inv-loop sheet page count buffer₀ k₀ at₀ differences₀ buffer k at differences = (k ≤ at) × ((at ≤ length page) × (length buffer ≡ length buffer₀))

@@ -1,9 +1,9 @@
--- `replay::buffers::holds` meets its contract. Assumes nothing.
+-- `print_calls::holds` meets its contract. Assumes nothing.
 use lib.Seq.{length-take-le}
 use mathlib.Core.Path.{sym}
 use borrow.Author.Needs.{needs}
-use Rattle.replay.proofs.buffers.holds.Statement.{statement}
-use Rattle.replay.proofs.buffers.holds.Tie as tie
+use Rattle.print_calls.proofs.holds.Statement.{statement}
+use Rattle.print_calls.proofs.holds.Tie as tie
 
 pub holds-spec : {M : Type 1} → statement M
 holds-spec =

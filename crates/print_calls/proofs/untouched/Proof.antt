@@ -1,9 +1,9 @@
--- `replay::buffers::untouched` meets its contract. The loop counts up to the length. Assumes nothing.
+-- `print_calls::untouched` meets its contract. The loop counts up to the length. Assumes nothing.
 use lib.ListN.{length}
 use borrow.Author.Needs.{needs}
 use Prim.Native.Nat.{_-_, _≤_}
-use Rattle.replay.proofs.buffers.untouched.Statement.{statement}
-use Rattle.replay.proofs.buffers.untouched.Tie as tie
+use Rattle.print_calls.proofs.untouched.Statement.{statement}
+use Rattle.print_calls.proofs.untouched.Tie as tie
 
 abbrev Inv-loop : tie.InvT-loop
 Inv-loop buffer from i₀ i = from ≤ i

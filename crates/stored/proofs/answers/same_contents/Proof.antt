@@ -1,8 +1,8 @@
--- `replay::answers::same_contents` meets its contract. The loop: i is at most 12. Assumes nothing.
+-- `stored::answers::same_contents` meets its contract. The loop: i is at most 12. Assumes nothing.
 use borrow.Author.Needs.{needs}
 use Prim.Native.Nat.{_-_, _≤_}
-use Rattle.replay.proofs.answers.same_contents.Statement.{statement}
-use Rattle.replay.proofs.answers.same_contents.Tie as tie
+use Rattle.stored.proofs.answers.same_contents.Statement.{statement}
+use Rattle.stored.proofs.answers.same_contents.Tie as tie
 use Rattle.rules.specs.Sheet.{mostColumns}
 
 abbrev Inv-loop : tie.InvT-loop

@@ -1,9 +1,9 @@
--- `replay::buffers::leaves` meets its contract. Assumes nothing.
+-- `print_calls::leaves` meets its contract. Assumes nothing.
 use lib.Seq.{length-take-le}
 use mathlib.Core.Path.{sym}
 use borrow.Author.Needs.{needs}
-use Rattle.replay.proofs.buffers.leaves.Statement.{statement}
-use Rattle.replay.proofs.buffers.leaves.Tie as tie
+use Rattle.print_calls.proofs.leaves.Statement.{statement}
+use Rattle.print_calls.proofs.leaves.Tie as tie
 
 pub leaves-spec : {M : Type 1} → statement M
 leaves-spec =

@@ -1,8 +1,8 @@
 // The calls that print, and what each leaves in a buffer.
-use crate::answers::differs;
-use crate::answers::sum;
 use libc::STDOUT_FILENO;
 use page::PrintedLines;
+use stored::answers::differs;
+use stored::answers::sum;
 ghost use Prim.Native.Nat.{_≤_, _<_};
 ghost use lib.ListN.{length};
 

@@ -1,5 +1,4 @@
 // Answers beside the stored ones. Each function says what differs, and counts it.
-use crate::stored;
 use libc::STDOUT_FILENO;
 use rules::Checked;
 use rules::Counted;
@@ -58,7 +57,7 @@ fn flag(b: bool) -> usize {
 // Whether each of the twelve widths is the stored one.
 fn same_contents(content: [u16; MOST_COLUMNS], text: &[u8], widths: usize, columns: usize) -> bool {
     for i in 0..MOST_COLUMNS {
-        if wide(content[i]) != stored::content(text, widths, columns, i) {
+        if wide(content[i]) != crate::content(text, widths, columns, i) {
             return false;
         }
     }
@@ -68,7 +67,7 @@ fn same_contents(content: [u16; MOST_COLUMNS], text: &[u8], widths: usize, colum
 // Whether just the stored columns are hidden.
 fn same_hidden(hidden: [bool; MOST_COLUMNS], text: &[u8], widths: usize, columns: usize) -> bool {
     for i in 0..MOST_COLUMNS {
-        if flag(hidden[i]) != stored::hidden(text, widths, columns, i) {
+        if flag(hidden[i]) != crate::hidden(text, widths, columns, i) {
             return false;
         }
     }
