@@ -1,18 +1,26 @@
 // What the widths of a sheet's columns depend on, read from it once.
 ghost use mathlib.Core.Path.{_≡_};
 ghost use Prim.Native.Nat.{_+_, _<_};
+ghost use Rattle.rules.specs.Style.{styleCharacters};
 ghost use Rattle.sheet.specs.Held.{Passes, tableOf};
 ghost use Rattle.arrangement.specs.Describes.{Describes};
 ghost use Rattle.arrangement.specs.Widths.{lineFrom, contentFrom, styleFrom};
 use constraint::Layout;
+use rules::BOTTOM_BORDER;
+use rules::CONTENT_LINES;
+use rules::HEADER_LINES;
+use rules::HEADER_RULE;
+use rules::ROW_RULE;
+use rules::STYLE_CHARACTERS;
+use rules::TOP_BORDER;
 use sheet::longest;
 use sheet::settings;
 use style::table_style::ContentLineStyle;
 use style::table_style::LineStyle;
 use style::table_style::TableStyle;
 
-fn line_from(b: [u8; 22], k: usize) -> LineStyle
-    requires { ⌜ k + 3 < 22 ⌝ }
+fn line_from(b: [u8; STYLE_CHARACTERS], k: usize) -> LineStyle
+    requires { ⌜ k + 3 < styleCharacters ⌝ }
     ensures { λ r. ⌜ r ≡ lineFrom b k ⌝ }
 {
     LineStyle {
@@ -23,8 +31,8 @@ fn line_from(b: [u8; 22], k: usize) -> LineStyle
     }
 }
 
-fn content_from(b: [u8; 22], k: usize) -> ContentLineStyle
-    requires { ⌜ k + 2 < 22 ⌝ }
+fn content_from(b: [u8; STYLE_CHARACTERS], k: usize) -> ContentLineStyle
+    requires { ⌜ k + 2 < styleCharacters ⌝ }
     ensures { λ r. ⌜ r ≡ contentFrom b k ⌝ }
 {
     ContentLineStyle {
@@ -35,15 +43,15 @@ fn content_from(b: [u8; 22], k: usize) -> ContentLineStyle
 }
 
 // The style record of the sheet's characters.
-pub fn style_from(b: [u8; 22]) -> TableStyle
+pub fn style_from(b: [u8; STYLE_CHARACTERS]) -> TableStyle
     ensures { λ r. ⌜ r ≡ styleFrom b ⌝ }
 {
-    let top_border = line_from(b, 0);
-    let header_lines = content_from(b, 4);
-    let header_separator = line_from(b, 7);
-    let content_lines = content_from(b, 11);
-    let row_separator = line_from(b, 14);
-    let bottom_border = line_from(b, 18);
+    let top_border = line_from(b, TOP_BORDER);
+    let header_lines = content_from(b, HEADER_LINES);
+    let header_separator = line_from(b, HEADER_RULE);
+    let content_lines = content_from(b, CONTENT_LINES);
+    let row_separator = line_from(b, ROW_RULE);
+    let bottom_border = line_from(b, BOTTOM_BORDER);
     TableStyle {
         top_border,
         header_lines,

@@ -24,6 +24,10 @@ rowRule = 14
 abbrev pub bottomBorder : ℕ
 bottomBorder = 18
 
+-- and how many characters there are
+abbrev pub styleCharacters : ℕ
+styleCharacters = 22
+
 abbrev pub glyphAt : List ℕ → ℕ → ℕ
 glyphAt S k = getD S k 0
 
