@@ -10,7 +10,7 @@ use lib.ListN.{length, getD, take, set, length-set, length-take}
 use lib.Seq.{getD-set-same, getD-set-other, getD-take, take-set-lt}
 use lib.Dec.{eqb}
 use lib.Count.{ones}
-use borrow.Author.Tests.{eqb-true, eqb-false, eq-eqb, ne-eqb}
+use borrow.Author.Tests.{eqb-true, eqb-false, eq-eqb, ne-eqb, not-false}
 use Rattle.rules.specs.Sheet.{Table, isHidden, mostColumns}
 use Rattle.rules.specs.Widths as doc
 use Rattle.rules.specs.Widths.{lifted, zeros, isUndecided, fix, fixAt, visit, passes, aboveAverage, averageIsSome, fittingAverage, splitAtAverage, longestPart}
@@ -23,7 +23,7 @@ use Rattle.constraint.proofs.Laws.{open-bit}
 use Rattle.arrangement.specs.Arrange.{again, repeated, lowerRule, fitRule, fitPass, splitRule, step1, step2, step3}
 use Rattle.arrangement.specs.Describes.{Describes}
 use Rattle.arrangement.proofs.Rounds.{pass-grew, again-stop, again-go}
-use Rattle.arrangement.proofs.Cases.{by-place, unlike, not-true}
+use Rattle.arrangement.proofs.Cases.{by-place, unlike}
 use Rattle.arrangement.proofs.Offers.{SameRule, lower-same, fit-same, split-same}
 
 -- the same widths, none past the columns; what is decided is noted; what is undecided and what is in the set make up the visible columns
@@ -71,7 +71,7 @@ module _ (l : Layout) (t : Table) (d : Describes l t) where
       z = open-bit l i s o
 
       was : getD (u .widths) i 0 ≡ 0
-      was = eqb-true (getD (u .widths) i 0) 0 (not-true (isUndecided u i) (sym o ∙ a .noted i h))
+      was = eqb-true (getD (u .widths) i 0) 0 (not-false (isUndecided u i) (sym (a .noted i h) ∙ o))
 
       now-noted : decided l i (fixed s i w) ≡ not (isUndecided (fix i w u) i)
       unfolding fix

@@ -10,7 +10,7 @@ use lib.ListN.{length, getD, take, set, replicate, length-set, length-take, leng
 use lib.Seq.{getD-set-same, getD-set-other, getD-take, ext-getD}
 use lib.Dec.{eqb}
 use lib.Count.{ones, onesIn}
-use borrow.Author.Tests.{eqb-true, ne-eqb}
+use borrow.Author.Tests.{eqb-true, not-false, ne-eqb}
 use Rattle.rules.specs.Text.{upFrom, keep, sum}
 use Rattle.rules.specs.Sheet.{Table, columnAt, padding, isHidden, mostColumns}
 use Rattle.rules.specs.Widths as doc
@@ -23,7 +23,7 @@ use Rattle.constraint.proofs.Bits.{add-lt, count-add, bit-same, bit-other, zero
 use Rattle.arrangement.specs.Arrange.{begun, started, charged, remaining, targeted}
 use Rattle.arrangement.specs.Describes.{Describes}
 use Rattle.arrangement.proofs.Rounds.{order-induct}
-use Rattle.arrangement.proofs.Cases.{by-place, not-true}
+use Rattle.arrangement.proofs.Cases.{by-place}
 use Rattle.arrangement.proofs.Offers.{shown, hidden-as, visible-as, room-as, first-as}
 use Rattle.arrangement.proofs.Agrees.{Agrees}
 use Rattle.arrangement.proofs.Placed.{map-last}
@@ -243,7 +243,7 @@ module _ (l : Layout) (t : Table) (d : Describes l t) where
         go false true e q = rw (hidden-as l t d i h, e, q, taken-shown t i e, b .done i h, d .column i h)
         go false false e q =
             let k : decided l i s ≡ false = rw (hidden-as l t d i h, e) q in
-            let z : doc.first t i ≡ 0 = eqb-true (doc.first t i) 0 (not-true (eqb (doc.first t i) 0) (sym k ∙ b .known i h)) in
+            let z : doc.first t i ≡ 0 = eqb-true (doc.first t i) 0 (not-false (eqb (doc.first t i) 0) (sym (b .known i h) ∙ k)) in
             rw (hidden-as l t d i h, e, q, taken-shown t i e, z, d .column i h) (omega arith)
 
     remaining-below : (n r : ℕ) → n ≤ l .count → inOrder (charged l s) n r ≡ r - sum (map (taken t) (upFrom 0 n))

@@ -1,7 +1,7 @@
 -- Two ways to tell cases apart. Assumes nothing.
 use Prim.Native.Nat.{ℕ}
 use mathlib.Core.Path.{_≡_, refl, sym, _∙_, subst}
-use mathlib.Core.Bool.{Bool, true, false, not}
+use mathlib.Core.Bool.{Bool, true, false}
 use native.Mathlib.Omega.{arith}
 use lib.Dec.{eqb}
 use borrow.Author.Tests.{eqb-true, eqb-false}
@@ -16,7 +16,3 @@ by-place P j i p q = at (eqb j i) refl
 
 pub unlike : (b : Bool) → b ≡ true → b ≡ false → ⊥
 unlike b p q = let z : _≡_ {A = ℕ} 0 1 = (let y : true ≡ false = sym p ∙ q in cc) in omega arith
-
-pub not-true : (b : Bool) → false ≡ not b → b ≡ true
-not-true true e = refl
-not-true false e = e

@@ -9,7 +9,7 @@ use native.Mathlib.Omega.{arith}
 use lib.ListN.{length, getD, take, set, length-append}
 use lib.Seq.{set-getD, take-suc, take-all}
 use lib.Dec.{eqb, ltb}
-use borrow.Author.Tests.{eqb-true, eqb-false, lt-ltb, le-ltb}
+use borrow.Author.Tests.{eqb-true, eqb-false, not-false, lt-ltb, le-ltb}
 use Rattle.rules.specs.Text.{upFrom, keep, oneIf, orElse, All}
 use Rattle.rules.specs.Sheet.{Table, columnAt, isHidden, mostColumns}
 use Rattle.rules.specs.Widths as doc
@@ -26,7 +26,7 @@ use Rattle.sharing.specs.Share.{share, sharing, undecided, distributed, widened
 use Rattle.arrangement.specs.Arrange.{trimmed, untargeted, started}
 use Rattle.arrangement.specs.Describes.{Describes}
 use Rattle.arrangement.proofs.Rounds.{order-induct}
-use Rattle.arrangement.proofs.Cases.{by-place, unlike, not-true}
+use Rattle.arrangement.proofs.Cases.{by-place, unlike}
 use Rattle.arrangement.proofs.Offers.{shown, hidden-as, untrimmed, untargeted-same}
 use Rattle.arrangement.proofs.Agrees.{Agrees, length-as, width-as, pass-agrees}
 use Rattle.arrangement.proofs.Begins.{started-agrees, first-at, zeros-append, zeros-one}
@@ -247,7 +247,7 @@ module _ (l : Layout) (t : Table) (d : Describes l t) where
               }))
           go true e = given-decided (λ z. unlike true refl (sym e ∙ told ∙ rw z))
           go false e =
-              let z = eqb-true (getD (u .widths) i 0) 0 (not-true (isUndecided u i) (sym e ∙ told)) in
+              let z = eqb-true (getD (u .widths) i 0) 0 (not-false (isUndecided u i) (sym told ∙ e)) in
               let k = share-some amount (doc.undecided u) (zeros (take i (u .widths))) m (omega arith) in
               given-open _ p (omega (arith, p)) z e
 
@@ -326,7 +326,7 @@ module _ (l : Layout) (t : Table) (d : Describes l t) where
     -- with no visible column there is nothing to widen
     all-hidden : length (doc.visible t) ≡ 0 → (j : ℕ) → j < l .count → isHidden (columnAt t j) ≡ true
     unfolding doc.visible doc.numbers
-    all-hidden e j h = not-true (isHidden (columnAt t j)) (sym (none-kept (shown t) (length (t .columns)) e j (omega (arith, d .count))))
+    all-hidden e j h = not-false (isHidden (columnAt t j)) (none-kept (shown t) (length (t .columns)) e j (omega (arith, d .count)))
 
     unwidened : length (doc.visible t) ≡ 0 → Widths l (map (doc.widened t u) (doc.numbers t)) s
     unwidened e =

@@ -7,7 +7,7 @@ use native.Mathlib.Omega.{arith}
 use lib.ListN.{length, length-append}
 use lib.Dec.{eqb}
 use borrow.Author.Tests.{eqb-true}
-use Rattle.rules.specs.Text.{upFrom, keep, oneIf}
+use Rattle.rules.specs.Text.{upFrom, keep}
 use Rattle.rules.specs.declared.Width.{Width}
 use Rattle.rules.specs.declared.Column.{Column}
 use Rattle.rules.specs.Sheet.{Table, columnAt, isHidden}
@@ -16,6 +16,7 @@ use Rattle.rules.specs.Widths as doc
 use Rattle.rules.specs.Widths.{contentOf, percentOf, widthOf, valueOf, lowerWidth, upperWidth, absoluteWidth, covering, evaluate, aboveAverage}
 use Rattle.rules.specs.Widths.{fittingAverage, splitAtAverage, longestPart}
 use Rattle.rules.proofs.Lists.{keep-yes, keep-no}
+use Rattle.rules.proofs.Text.{cond-one}
 use Rattle.constraint.specs.declared.Layout.{Layout}
 use Rattle.constraint.specs.declared.State.{State}
 use Rattle.constraint.specs.Widths.{choose, inOrder, column, longest, counting, visible, borders, percent, value, valued, lower, upper, average, Rule}
@@ -27,13 +28,9 @@ use Rattle.arrangement.specs.Describes.{Describes}
 abbrev pub shown : Table → ℕ → Bool
 shown t j = not (isHidden (columnAt t j))
 
-one-if : (a x : Bool) → a ≡ x → choose a 1 0 ≡ oneIf x
-one-if true x e = rw (← e)
-one-if false x e = rw (← e)
-
-between-if : (a x : Bool) (n : ℕ) → a ≡ x → choose a n 0 ≡ cond x n 0
-between-if true x n e = rw (← e)
-between-if false x n e = rw (← e)
+choose-cond : (a x : Bool) (n : ℕ) → a ≡ x → choose a n 0 ≡ cond x n 0
+choose-cond true x n e = rw (← e)
+choose-cond false x n e = rw (← e)
 
 module _ (l : Layout) (t : Table) (d : Describes l t) where
   pub hidden-as : (j : ℕ) → j < l .count → isHidden (column l j) ≡ isHidden (columnAt t j)
@@ -57,8 +54,10 @@ module _ (l : Layout) (t : Table) (d : Describes l t) where
   borders-as : (v : ℕ) → borders l v ≡ bordersOf (t .style) v
   unfolding bordersOf
   borders-as v =
-      let a = one-if (l .left) (anyLeft (t .style)) (d .left) in
-      let b = one-if (l .right) (anyRight (t .style)) (d .right) in let c = between-if (l .junction) (anyJunction (t .style)) (v - 1) (d .junction) in cc
+      let a = choose-cond (l .left) (anyLeft (t .style)) 1 (d .left) ∙ cond-one (anyLeft (t .style)) in
+      let b = choose-cond (l .right) (anyRight (t .style)) 1 (d .right) ∙ cond-one (anyRight (t .style)) in
+      let c = choose-cond (l .junction) (anyJunction (t .style)) (v - 1) (d .junction) in
+      cc
 
   module _ (v : ℕ) (m : v ≡ length (doc.visible t)) where
     pub room-as : l .target - borders l v ≡ t .target - doc.borders t

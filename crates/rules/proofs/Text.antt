@@ -2,9 +2,10 @@
 use Prim.Native.Nat.{ℕ, suc, _+_, _-_, _<_, min}
 use mathlib.Core.Path.{_≡_, refl}
 use mathlib.Core.List.{List, [], _∷_, _++_}
+use mathlib.Core.Bool.{Bool, true, false, cond}
 use native.Mathlib.Omega.{arith}
 use lib.ListN.{length, length-append, length-take, length-drop, length-replicate, take-append-drop}
-use Rattle.rules.specs.Text.{textWidth, firstOf, restOf, blank, All}
+use Rattle.rules.specs.Text.{textWidth, firstOf, restOf, blank, oneIf, All}
 use Rattle.rules.proofs.Lists.{all-take, all-drop}
 
 -- a character is one byte and one column. What leans on this alone is what a wider alphabet changes
@@ -61,3 +62,8 @@ all-first P n l h = all-take P n l h
 pub all-rest : (P : ℕ → Type 0) (n : ℕ) (l : List ℕ) → All P l → All P (restOf n l)
 unfolding restOf
 all-rest P n l h = all-drop P n l h
+
+-- a yes counted, as a choice of numbers
+pub cond-one : (b : Bool) → cond b 1 0 ≡ oneIf b
+cond-one true = refl
+cond-one false = refl
