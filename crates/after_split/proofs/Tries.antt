@@ -14,16 +14,16 @@ use Rattle.rules.specs.Sheet.{Table, noCell, noRow, columnAt}
 use Rattle.rules.specs.Widths.{lifted, shorterBy3, longestPart}
 use Rattle.rules.specs.Places.{rowsPlace}
 use Rattle.rules.specs.declared.Column.{Column}
-use Rattle.sheet.specs.Held.{Passes, settingsOf}
-use Rattle.sheet.specs.declared.records.Settings.{Settings}
-use Rattle.sheet.specs.Walk.{rowsIn, cellsIn, linesIn, rowsEnd, cellsEnd, linesEnd, firstRow, firstCell, firstLine, RowIs, CellIs, CellsNext, LinesNext, CellsSkipped}
-use Rattle.sheet.specs.declared.records.Rows.{Rows}
-use Rattle.sheet.specs.declared.records.Cells.{Cells}
-use Rattle.sheet.specs.declared.records.Lines.{Lines}
-use Rattle.sheet.specs.declared.records.Row.{Row}
-use Rattle.sheet.specs.declared.records.Cell.{Cell}
-use Rattle.sheet.proofs.Held.{room}
-use Rattle.sheet.proofs.Walks.{lines-number, cells-number, rows-number, cells-none, rows-none, rows-next, row-whole, cell-whole}
+use Rattle.table.specs.Held.{Passes, settingsOf}
+use Rattle.table.specs.declared.records.Settings.{Settings}
+use Rattle.table.specs.Walk.{rowsIn, cellsIn, linesIn, rowsEnd, cellsEnd, linesEnd, firstRow, firstCell, firstLine, RowIs, CellIs, CellsNext, LinesNext, CellsSkipped}
+use Rattle.table.specs.declared.records.Rows.{Rows}
+use Rattle.table.specs.declared.records.Cells.{Cells}
+use Rattle.table.specs.declared.records.Lines.{Lines}
+use Rattle.table.specs.declared.records.Row.{Row}
+use Rattle.table.specs.declared.records.Cell.{Cell}
+use Rattle.table.proofs.Held.{room}
+use Rattle.table.proofs.Walks.{lines-number, cells-number, rows-number, cells-none, rows-none, rows-next, row-whole, cell-whole}
 use Rattle.after_split.specs.declared.Tried.{Tried}
 use Rattle.after_split.specs.Trial.{ofLine, ofLines, ofCells, ofRows, otherwise, RowTried, Enough, RowsTried}
 use Rattle.after_split.proofs.Trials.{lines-cons, lines-nil, cells-there, cells-short, rows-le, rows-append, longest-part, shorter-kept}

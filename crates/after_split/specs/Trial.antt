@@ -8,9 +8,9 @@ use lib.Dec.{ltb}
 use Rattle.rules.specs.Text.{textWidth, greatest, flat, orElse}
 use Rattle.rules.specs.Sheet.{Cell, Row, Table, noCell, columnAt}
 use Rattle.rules.specs.Widths.{trialParts}
-use Rattle.sheet.specs.Walk.{rowsIn, cellsIn, rowsEnd, cellsEnd}
-use Rattle.sheet.specs.declared.records.Rows.{Rows}
-use Rattle.sheet.specs.declared.records.Cells.{Cells}
+use Rattle.table.specs.Walk.{rowsIn, cellsIn, rowsEnd, cellsEnd}
+use Rattle.table.specs.declared.records.Rows.{Rows}
+use Rattle.table.specs.declared.records.Cells.{Cells}
 use Rattle.after_split.specs.declared.Tried.{Tried}
 
 -- of a line, and of lines one after another

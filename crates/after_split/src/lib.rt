@@ -6,15 +6,15 @@ ghost use lib.Dec.{ltb};
 ghost use lib.ListN.{length};
 ghost use Rattle.rules.specs.Sheet.{columnAt};
 ghost use Rattle.rules.specs.Widths.{shorterBy3, longestPart};
-ghost use Rattle.sheet.specs.Held.{Passes, tableOf};
-ghost use Rattle.sheet.specs.Walk.{linesIn, rowsEnd, cellsEnd, linesEnd};
+ghost use Rattle.table.specs.Held.{Passes, tableOf};
+ghost use Rattle.table.specs.Walk.{linesIn, rowsEnd, cellsEnd, linesEnd};
 ghost use Rattle.after_split.specs.Trial.{ofLine, ofLines, Enough, RowTried, RowsTried};
 use rules::Column;
-use sheet::records::Cells;
-use sheet::records::Lines;
-use sheet::records::Rows;
-use sheet::settings;
-use sheet::walk;
+use table::records::Cells;
+use table::records::Lines;
+use table::records::Rows;
+use table::settings;
+use table::walk;
 
 // The longest part that was found, and where the walk stands.
 pub struct Tried {

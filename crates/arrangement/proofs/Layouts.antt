@@ -18,9 +18,9 @@ use Rattle.style.specs.Bytes.{bytesOf}
 use Rattle.style.specs.declared.table_style.LineStyle.{LineStyle}
 use Rattle.style.specs.declared.table_style.ContentLineStyle.{ContentLineStyle}
 use Rattle.style.specs.declared.table_style.TableStyle.{TableStyle}
-use Rattle.sheet.specs.Held.{settingsOf, columnsOf}
-use Rattle.sheet.specs.declared.records.Settings.{Settings}
-use Rattle.sheet.specs.declared.records.Columns.{Columns}
+use Rattle.table.specs.Held.{settingsOf, columnsOf}
+use Rattle.table.specs.declared.records.Settings.{Settings}
+use Rattle.table.specs.declared.records.Columns.{Columns}
 use Rattle.constraint.specs.declared.Layout.{Layout}
 use Rattle.constraint.specs.declared.State.{State}
 use Rattle.constraint.specs.Widths.{inOrder, column}

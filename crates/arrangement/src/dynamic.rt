@@ -7,7 +7,7 @@ ghost use Rattle.arrangement.specs.Arrange.{dynamic, started};
 ghost use Rattle.arrangement.specs.Describes.{Describes};
 ghost use Rattle.rules.specs.Sheet.{mostColumns};
 ghost use Rattle.rules.specs.Widths.{withinAverage, shorterBy3, longestPart};
-ghost use Rattle.sheet.specs.Held.{Passes, tableOf};
+ghost use Rattle.table.specs.Held.{Passes, tableOf};
 use constraint::Bound;
 use constraint::Layout;
 use constraint::Offer;

@@ -7,7 +7,7 @@ ghost use mathlib.Core.Path.{_≡_};
 ghost use Prim.Native.Nat.{_≤_};
 ghost use Rattle.rules.specs.Sheet.{mostColumns};
 ghost use Rattle.rules.specs.Widths.{longestPart};
-ghost use Rattle.sheet.specs.Held.{Passes, tableOf};
+ghost use Rattle.table.specs.Held.{Passes, tableOf};
 ghost use Rattle.arrangement.specs.Arrange.{started, arranged};
 ghost use Rattle.arrangement.specs.Describes.{Describes};
 ghost use Rattle.arrangement.specs.Widths.{marked, widthsOf};

@@ -14,8 +14,8 @@ use Rattle.rules.proofs.Fuel.{View, joins, retries, fills, begins, view}
 use Rattle.rules.proofs.Split.{wrap-short, wrap-long}
 use Rattle.rules.specs.Places.{past, parts, byteAt, textAt, lineStop}
 use Rattle.rules.proofs.Stands.{past-onward, lines-onward, text-length}
-use Rattle.sheet.specs.Walk.{linesIn, linesEnd, firstLine, LinesNext}
-use Rattle.sheet.specs.declared.records.Lines.{Lines}
+use Rattle.table.specs.Walk.{linesIn, linesEnd, firstLine, LinesNext}
+use Rattle.table.specs.declared.records.Lines.{Lines}
 use Rattle.cells.proofs.Laws.{wrap-more, wrap-none, lines-none, lines-some}
 
 -- ---- a line wraps into no more lines than it has bytes, its length included

@@ -13,9 +13,9 @@ use Rattle.rules.specs.Wrap.{split, wrapLine, wrapLines}
 use Rattle.rules.proofs.Text.{width-length}
 use Rattle.rules.proofs.Split.{wrap-short, wrap-long}
 use Rattle.rules.specs.Places.{parts}
-use Rattle.sheet.specs.Walk.{linesIn, linesEnd, firstLine, LinesNext}
-use Rattle.sheet.specs.declared.records.Lines.{Lines}
-use Rattle.sheet.proofs.Walks.{lines-number}
+use Rattle.table.specs.Walk.{linesIn, linesEnd, firstLine, LinesNext}
+use Rattle.table.specs.declared.records.Lines.{Lines}
+use Rattle.table.proofs.Walks.{lines-number}
 use Rattle.content_split.specs.Parts.{LineIs, PartIs}
 use Rattle.content_split.specs.declared.Part.{Part}
 use Rattle.content_split.specs.declared.Part.the-variants.{Line, Nothing}

@@ -8,8 +8,8 @@ use lib.Seq.{slice}
 use lib.Dec.{ltb}
 use Rattle.rules.specs.Text.{textWidth}
 use Rattle.rules.specs.Wrap.{split, wrapLines}
-use Rattle.sheet.specs.Walk.{linesIn, linesEnd, firstLine}
-use Rattle.sheet.specs.declared.records.Lines.{Lines}
+use Rattle.table.specs.Walk.{linesIn, linesEnd, firstLine}
+use Rattle.table.specs.declared.records.Lines.{Lines}
 use Rattle.content_split.specs.declared.Part.{Part}
 use Rattle.content_split.specs.declared.Part.the-variants.{Line, Nothing}
 use Rattle.cells.specs.declared.CellCursor.{CellCursor}

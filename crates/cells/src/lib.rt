@@ -1,12 +1,12 @@
 // The wrapped lines of a cell, found one after another. Each is a part of a cell line, which the sheet's reader hands on as a part of the sheet.
 use content_split::Part;
-use sheet::records::Lines;
-use sheet::walk;
+use table::records::Lines;
+use table::walk;
 ghost use mathlib.Core.Path.{_≡_};
 ghost use Prim.Native.Nat.{_+_, _≤_, _<_};
 ghost use lib.ListN.{length};
 ghost use Rattle.rules.specs.Wrap.{wrapLine, wrapLines};
-ghost use Rattle.sheet.specs.Walk.{linesIn, linesEnd, firstLine};
+ghost use Rattle.table.specs.Walk.{linesIn, linesEnd, firstLine};
 ghost use Rattle.cells.specs.Cell.{rest, Inside, HeadIs, taken, noLine, FirstOf, Further};
 
 // Where the next wrapped line of a cell is looked for: in the first of its cell lines from byte `from` on, and then in those that follow.

@@ -25,14 +25,14 @@ use Rattle.rules.proofs.Lists.{all-getD}
 use Rattle.rules.specs.Places.{rowsPlace}
 use Rattle.style.specs.Bytes.{bytesOf}
 use Rattle.style.specs.declared.table_style.TableStyle.{TableStyle}
-use Rattle.sheet.specs.Held.{Passes, tableOf, settingsOf, indicatorOf, columnsOf}
-use Rattle.sheet.specs.Walk.{rowsIn, rowsEnd}
-use Rattle.sheet.specs.declared.records.Rows.{Rows}
-use Rattle.sheet.specs.declared.records.Settings.{Settings}
-use Rattle.sheet.specs.declared.records.Indicator.{Indicator}
-use Rattle.sheet.specs.declared.records.Columns.{Columns}
-use Rattle.sheet.proofs.Held.{held, room}
-use Rattle.sheet.proofs.Walks.{rows-number}
+use Rattle.table.specs.Held.{Passes, tableOf, settingsOf, indicatorOf, columnsOf}
+use Rattle.table.specs.Walk.{rowsIn, rowsEnd}
+use Rattle.table.specs.declared.records.Rows.{Rows}
+use Rattle.table.specs.declared.records.Settings.{Settings}
+use Rattle.table.specs.declared.records.Indicator.{Indicator}
+use Rattle.table.specs.declared.records.Columns.{Columns}
+use Rattle.table.proofs.Held.{held, room}
+use Rattle.table.proofs.Walks.{rows-number}
 use Rattle.arrangement.specs.declared.Widths.{Widths}
 use Rattle.arrangement.specs.Widths.{styleFrom, widthsOf}
 use Rattle.row.specs.View.{View, noColumn as noVisible, visibleAt, shownOf, numberOf, Views}

@@ -8,9 +8,9 @@ use Rattle.rules.specs.Text.{All}
 use Rattle.rules.specs.Limits.{RowLimits}
 use Rattle.rules.specs.Style.{topBorder, headerLines, headerRule, contentLines, rowRule, bottomBorder, anyJunction, isVisible}
 use Rattle.rules.specs.Widths.{contents}
-use Rattle.sheet.specs.Held.{Passes, tableOf}
-use Rattle.sheet.specs.Walk.{rowsIn, rowsEnd}
-use Rattle.sheet.specs.declared.records.Rows.{Rows}
+use Rattle.table.specs.Held.{Passes, tableOf}
+use Rattle.table.specs.Walk.{rowsIn, rowsEnd}
+use Rattle.table.specs.declared.records.Rows.{Rows}
 use Rattle.row.specs.Open.{Rising, WideAll}
 use Rattle.row.specs.Packed.{viewOf}
 use Rattle.formatting.specs.RowText.{Marks}

@@ -6,8 +6,8 @@ ghost use Rattle.rules.specs.Sheet.{mostColumns};
 ghost use Rattle.rules.specs.Style as characters;
 ghost use Rattle.rules.specs.Style.{anyLeft, anyRight, anyJunction};
 ghost use Rattle.rules.specs.Widths.{contents};
-ghost use Rattle.sheet.specs.Held.{Passes, tableOf};
-ghost use Rattle.sheet.specs.Walk.{rowsIn};
+ghost use Rattle.table.specs.Held.{Passes, tableOf};
+ghost use Rattle.table.specs.Walk.{rowsIn};
 ghost use Rattle.arrangement.specs.Widths.{styleFrom, widthsOf};
 ghost use Rattle.row.specs.View.{Views};
 ghost use Rattle.formatting.specs.Stand.{textStyleOf};
@@ -24,10 +24,10 @@ use row::VisibleColumn;
 use row::packed;
 use rules::Column;
 use rules::MOST_COLUMNS;
-use sheet::records::Indicator;
-use sheet::records::Rows;
-use sheet::settings;
-use sheet::walk;
+use table::records::Indicator;
+use table::records::Rows;
+use table::settings;
+use table::walk;
 use style::table_style::TableStyle;
 
 // How the lines of a row look: its text lines, the rule after it, and whether that rule is visible.

@@ -14,7 +14,7 @@ use Rattle.rules.specs.Wrap.{fitting, cutLine}
 use Rattle.rules.specs.Page.{before}
 use Rattle.rules.proofs.Text.{width-length, width-append}
 use Rattle.rules.proofs.Sizes.{before-le}
-use Rattle.sheet.specs.Walk.{firstLine}
+use Rattle.table.specs.Walk.{firstLine}
 use Rattle.buffer.specs.Put.{putAt}
 use Rattle.buffer.proofs.Laws.{two}
 use Rattle.row.specs.Pending.{pendingText, InSheet}

@@ -4,7 +4,7 @@ use mathlib.Core.Path.{_≡_, sym, ap, _∙_}
 use mathlib.Core.List.{List, [], _++_}
 use mathlib.Core.Bool.{Bool, _||_}
 use lib.ListN.{length, take, set, getD}
-use Rattle.sheet.specs.declared.records.Indicator.{Indicator}
+use Rattle.table.specs.declared.records.Indicator.{Indicator}
 use Rattle.buffer.specs.Put.{putAt, build, edge, lead}
 use Rattle.cells.specs.Cell.{Inside}
 use Rattle.row.specs.Pending.{InSheet, pendingAt, Ready}

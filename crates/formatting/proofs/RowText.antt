@@ -14,8 +14,8 @@ use Rattle.rules.specs.Widths.{visible, contents}
 use Rattle.rules.specs.Page.{areaAt, areas}
 use Rattle.rules.proofs.Areas.{length-areas, line-at}
 use Rattle.rules.proofs.Lists.{getD-map}
-use Rattle.sheet.specs.Held.{tableOf}
-use Rattle.sheet.specs.declared.records.Indicator.{Indicator}
+use Rattle.table.specs.Held.{tableOf}
+use Rattle.table.specs.declared.records.Indicator.{Indicator}
 use Rattle.buffer.specs.Put.{over}
 use Rattle.buffer.proofs.Laws.{lent, lent-same}
 use Rattle.row.specs.View.{View, Views}

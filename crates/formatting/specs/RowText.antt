@@ -9,10 +9,10 @@ use Rattle.rules.specs.Limits.{mostLines}
 use Rattle.rules.specs.Sheet.{Row, mostColumns}
 use Rattle.rules.specs.Widths.{contents}
 use Rattle.rules.specs.Page.{lineOf, areas, height}
-use Rattle.sheet.specs.Held.{tableOf}
-use Rattle.sheet.specs.Walk.{rowsEnd}
-use Rattle.sheet.specs.declared.records.Rows.{Rows}
-use Rattle.sheet.specs.declared.records.Indicator.{Indicator}
+use Rattle.table.specs.Held.{tableOf}
+use Rattle.table.specs.Walk.{rowsEnd}
+use Rattle.table.specs.declared.records.Rows.{Rows}
+use Rattle.table.specs.declared.records.Indicator.{Indicator}
 use Rattle.buffer.specs.Put.{edge}
 use Rattle.row.specs.View.{View, Views}
 use Rattle.row.specs.Open.{Rising, WideAll}

@@ -9,7 +9,7 @@ ghost use Rattle.rules.specs.Limits.{mostLines};
 ghost use Rattle.rules.specs.Text.{textWidth};
 ghost use Rattle.rules.specs.Sheet.{mostColumns};
 ghost use Rattle.rules.specs.Page.{before};
-ghost use Rattle.sheet.specs.Walk.{firstRow};
+ghost use Rattle.table.specs.Walk.{firstRow};
 ghost use Rattle.buffer.specs.Put.{over, putAt, edge};
 ghost use Rattle.cells.specs.Cell.{Inside};
 ghost use Rattle.formatting.specs.Area.{areaIn, marksShown, shownText, After, columnPiece};
@@ -23,9 +23,9 @@ use row::Pending;
 use row::VisibleColumn;
 use row::packed;
 use rules::MOST_COLUMNS;
-use sheet::records::Indicator;
-use sheet::records::Rows;
-use sheet::walk;
+use table::records::Indicator;
+use table::records::Rows;
+use table::walk;
 
 // The spaces left of a text that leaves some columns free.
 fn spaces_before(alignment: u8, spare: usize) -> usize

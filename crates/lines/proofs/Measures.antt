@@ -14,7 +14,7 @@ use Rattle.rules.specs.Page.{visibleWidth, visibleWidths, lineLength, borderLen
 use Rattle.rules.proofs.Cases.{oneIf-cond}
 use Rattle.rules.proofs.Counts.{line-length-bound, border-length-bound}
 use Rattle.rules.proofs.Lists.{upFrom-last, map-append}
-use Rattle.sheet.specs.Held.{tableOf}
+use Rattle.table.specs.Held.{tableOf}
 use Rattle.row.specs.View.{View, visibleAt, Views, shownOf, numberOf}
 use Rattle.row.specs.Packed.{columnFrom, viewOf}
 use Rattle.borders.specs.Rule.{NarrowAll, ruleStyleOf}

@@ -18,10 +18,10 @@ use Rattle.rules.proofs.Counts.{height-bound}
 use Rattle.rules.proofs.Lines.{text-length, rule-length, border-length}
 use Rattle.rules.proofs.Lists.{all-drop, all-append, all-map, all-map-imp, getD-map}
 use Rattle.rules.proofs.Rows.{all-headed}
-use Rattle.sheet.specs.Held.{tableOf}
-use Rattle.sheet.specs.Walk.{rowsIn, firstRow, RowsNext}
-use Rattle.sheet.specs.declared.records.Rows.{Rows}
-use Rattle.sheet.proofs.Walks.{rows-number}
+use Rattle.table.specs.Held.{tableOf}
+use Rattle.table.specs.Walk.{rowsIn, firstRow, RowsNext}
+use Rattle.table.specs.declared.records.Rows.{Rows}
+use Rattle.table.proofs.Walks.{rows-number}
 use Rattle.row.specs.View.{View}
 use Rattle.row.specs.Packed.{viewOf}
 use Rattle.formatting.specs.RowText.{styled, rowLines, rowHeight, Sized, Drawable}

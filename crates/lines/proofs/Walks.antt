@@ -19,11 +19,11 @@ use Rattle.rules.proofs.Counts.{height-bound, framed-count, framed-byte-bound}
 use Rattle.rules.proofs.Fitting.{fitting-few}
 use Rattle.rules.proofs.Lists.{all-getD}
 use Rattle.rules.proofs.Sizes.{closed-append, closed-none}
-use Rattle.sheet.specs.Held.{tableOf}
-use Rattle.sheet.specs.Walk.{rowsIn, cellsIn, firstRow, RowIs}
-use Rattle.sheet.specs.declared.records.Rows.{Rows}
-use Rattle.sheet.proofs.Walks.{rows-number}
-use Rattle.sheet.specs.declared.records.Row as records
+use Rattle.table.specs.Held.{tableOf}
+use Rattle.table.specs.Walk.{rowsIn, cellsIn, firstRow, RowIs}
+use Rattle.table.specs.declared.records.Rows.{Rows}
+use Rattle.table.proofs.Walks.{rows-number}
+use Rattle.table.specs.declared.records.Row as records
 use Rattle.buffer.specs.Put.{over}
 use Rattle.row.specs.Height.{heightUpTo, limited}
 use Rattle.row.specs.View.{View}

@@ -7,9 +7,9 @@ use lib.ListN.{length, drop}
 use Rattle.rules.specs.Sheet.{Row}
 use Rattle.rules.specs.Style.{topBorder, headerLines, headerRule, contentLines, rowRule, bottomBorder}
 use Rattle.rules.specs.Page.{visibleWidths, rowText, shown, headed, ruledRows, framed}
-use Rattle.sheet.specs.Held.{tableOf}
-use Rattle.sheet.specs.Walk.{rowsIn}
-use Rattle.sheet.specs.declared.records.Rows.{Rows}
+use Rattle.table.specs.Held.{tableOf}
+use Rattle.table.specs.Walk.{rowsIn}
+use Rattle.table.specs.declared.records.Rows.{Rows}
 use Rattle.display_info.specs.Opened.{widthsIn, RowsAt}
 use Rattle.display_info.specs.declared.Page.{Page}
 use Rattle.lines.specs.declared.cursor.Cursor.{Cursor}

@@ -6,7 +6,7 @@ use lib.ListN.{length}
 use Rattle.rules.specs.Text.{All}
 use Rattle.rules.specs.Limits.{longestLine}
 use Rattle.rules.specs.Page.{lineLength, borderLength}
-use Rattle.sheet.specs.Held.{tableOf}
+use Rattle.table.specs.Held.{tableOf}
 use Rattle.row.specs.View.{View, visibleAt}
 use Rattle.display_info.specs.Opened.{widthsIn}
 use Rattle.lines.specs.Ahead.{partLines}

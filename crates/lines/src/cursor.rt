@@ -6,8 +6,8 @@ ghost use Rattle.rules.specs.Limits.{mostLines};
 ghost use Rattle.display_info.specs.Opened.{RowsAt};
 ghost use Rattle.lines.specs.Ahead.{isEnd, AfterRow, Next, firstCursor, furtherOn};
 use display_info::Page;
-use sheet::records::Rows;
-use sheet::walk;
+use table::records::Rows;
+use table::walk;
 
 // The part that comes next.
 pub enum Stage {

@@ -4,7 +4,7 @@ ghost use mathlib.Core.List.{[], _∷_};
 ghost use mathlib.Core.Bool.{cond};
 ghost use Prim.Native.Nat.{ℕ, _+_, _-_, _≤_, _<_};
 ghost use lib.ListN.{length, drop};
-ghost use Rattle.sheet.specs.Walk.{rowsIn, firstRow};
+ghost use Rattle.table.specs.Walk.{rowsIn, firstRow};
 ghost use Rattle.row.specs.Packed.{viewOf};
 ghost use Rattle.formatting.specs.Part.{PartIs};
 ghost use Rattle.borders.specs.Rule.{ruleText, NarrowAll};
@@ -24,8 +24,8 @@ use display_info::RowStyle;
 use formatting::content_format;
 use formatting::content_format::Part;
 use rules::MOST_COLUMNS;
-use sheet::records::Rows;
-use sheet::walk;
+use table::records::Rows;
+use table::walk;
 
 // The lines that a row's limit leaves, 0 being none.
 fn within_limit(limit: usize, lines: usize) -> usize

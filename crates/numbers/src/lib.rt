@@ -51,7 +51,14 @@ pub fn either(a: bool, b: bool) -> bool
     if a { true } else { b }
 }
 
-// A byte as a count.
+// A byte as a number to calculate with.
+pub fn wide(byte: u8) -> u16
+    ensures { λ r. ⌜ (r ≡ byte) × (r < 256) ⌝ }
+{
+    byte as u16
+}
+
+// A byte as a count or a position.
 pub fn size(byte: u8) -> usize
     ensures { λ r. ⌜ (r ≡ byte) × (r < 256) ⌝ }
 {

@@ -20,9 +20,9 @@ use Rattle.rules.specs.Calls.{check, checkOf, count, countOf, put, turned, prin
 use Rattle.rules.proofs.Counts.{line-count-bound}
 use Rattle.rules.proofs.Fitting.{fitting-few, fitting-none, fitting-more, fitting-stops, fitting-all}
 use Rattle.rules.proofs.Sizes.{closed-one, byte-count-closed}
-use Rattle.sheet.specs.Held.{Passes, tableOf}
-use Rattle.sheet.specs.Walk.{rowsIn}
-use Rattle.sheet.proofs.Held.{held}
+use Rattle.table.specs.Held.{Passes, tableOf}
+use Rattle.table.specs.Walk.{rowsIn}
+use Rattle.table.proofs.Held.{held}
 use Rattle.buffer.specs.Put.{over}
 use Rattle.lines.specs.Ahead.{ahead, linesOf, firstCursor}
 use Rattle.display_info.specs.Opened.{Opened}

@@ -10,8 +10,8 @@ use Rattle.rules.specs.Sheet.{Table, mostColumns}
 use Rattle.rules.specs.Field.{Read, got, refused}
 use Rattle.rules.specs.Format.{sheet}
 use Rattle.rules.specs.Calls.{check, checkOf, measure, measureOf}
-use Rattle.sheet.specs.Held.{Passes, tableOf}
-use Rattle.sheet.proofs.Held.{held}
+use Rattle.table.specs.Held.{Passes, tableOf}
+use Rattle.table.proofs.Held.{held}
 use Rattle.arrangement.specs.declared.Widths.{Widths}
 use Rattle.arrangement.specs.Widths.{widthsOf}
 

@@ -11,8 +11,8 @@ use Rattle.rules.specs.Page.{closed, fitting}
 use Rattle.rules.proofs.Counts.{framed-line-bound}
 use Rattle.rules.proofs.Fitting.{fitting-more, fitted}
 use Rattle.rules.proofs.Lists.{all-drop}
-use Rattle.sheet.specs.Held.{tableOf}
-use Rattle.sheet.specs.Walk.{rowsIn}
+use Rattle.table.specs.Held.{tableOf}
+use Rattle.table.specs.Walk.{rowsIn}
 use Rattle.display_info.specs.Opened.{Opened}
 use Rattle.lines.specs.Ahead.{isEnd, At, ahead, linesOf, firstCursor}
 use Rattle.rules.specs.Limits.{longestLine, mostLines}

@@ -8,9 +8,9 @@ use lib.ListN.{length, drop}
 use Rattle.rules.specs.Text.{orElse}
 use Rattle.rules.specs.Sheet.{Cell}
 use Rattle.rules.specs.Wrap.{wrapLines}
-use Rattle.sheet.specs.Walk.{cellsIn, cellsEnd, linesIn, firstCell, CellIs}
-use Rattle.sheet.specs.declared.records.Cells.{Cells}
-use Rattle.sheet.specs.declared.records.Cell as records
+use Rattle.table.specs.Walk.{cellsIn, cellsEnd, linesIn, firstCell, CellIs}
+use Rattle.table.specs.declared.records.Cells.{Cells}
+use Rattle.table.specs.declared.records.Cell as records
 use Rattle.row.specs.View.{View, visibleAt}
 use Rattle.row.specs.Open.{Rising}
 use Rattle.row.specs.Height.{cellHeight, heightUpTo}

@@ -7,8 +7,8 @@ use native.Mathlib.Omega.{arith}
 use lib.ListN.{length, drop, set, getD, length-map}
 use lib.Dec.{eqb}
 use Rattle.rules.specs.Sheet.{Cell}
-use Rattle.sheet.specs.Walk.{cellsIn, cellsEnd, firstCell}
-use Rattle.sheet.specs.declared.records.Cells.{Cells}
+use Rattle.table.specs.Walk.{cellsIn, cellsEnd, firstCell}
+use Rattle.table.specs.declared.records.Cells.{Cells}
 use Rattle.row.specs.Pending.{noPending, pendingAt}
 use Rattle.row.specs.Height.{cellHeight}
 use Rattle.row.specs.View.{noColumn, visibleAt}

@@ -5,7 +5,7 @@ use mathlib.Core.List.{List, [], _∷_}
 use mathlib.Core.Bool.{Bool, true, false, _||_}
 use lib.ListN.{length, getD, drop}
 use Rattle.rules.specs.Text.{textWidth}
-use Rattle.sheet.specs.Walk.{linesEnd, firstLine}
+use Rattle.table.specs.Walk.{linesEnd, firstLine}
 use Rattle.cells.specs.Cell.{Inside, rest, textOf}
 use Rattle.row.specs.declared.VisibleColumn.{VisibleColumn}
 use Rattle.row.specs.declared.Pending.{Pending}

@@ -5,7 +5,7 @@ ghost use mathlib.Core.Path.{_≡_};
 ghost use Prim.Native.Nat.{ℕ, _≤_, _<_};
 ghost use lib.ListN.{length, drop, getD};
 ghost use Rattle.rules.specs.Sheet.{mostColumns};
-ghost use Rattle.sheet.specs.Walk.{cellsIn, cellsEnd, firstCell};
+ghost use Rattle.table.specs.Walk.{cellsIn, cellsEnd, firstCell};
 ghost use Rattle.row.specs.Height.{cellHeight, heightUpTo};
 ghost use Rattle.row.specs.Pending.{anyFound};
 ghost use Rattle.row.specs.Open.{OpenedAt, OpenedRow, Rising, WideAll, missing};
@@ -13,9 +13,9 @@ ghost use Rattle.row.specs.Packed.{viewOf, pendingsOf};
 use cells::CellCursor;
 use cells::Next;
 use rules::MOST_COLUMNS;
-use sheet::records::Cells;
-use sheet::records::Lines;
-use sheet::walk;
+use table::records::Cells;
+use table::records::Lines;
+use table::walk;
 
 // A visible column as it is drawn: its number in the sheet, its content width and paddings, and what a cell takes that chooses nothing.
 pub struct VisibleColumn {

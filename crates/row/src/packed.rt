@@ -8,7 +8,7 @@ use crate::Pending;
 use crate::VisibleColumn;
 use cells::CellCursor;
 use cells::Next;
-use sheet::records::Lines;
+use table::records::Lines;
 
 fn code(x: usize) -> u8
     ensures { λ r. ⌜ r ≡ x % 256 ⌝ }

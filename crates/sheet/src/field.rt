@@ -93,20 +93,6 @@ pub fn printable_or_zero(sheet: &[u8], from: Step) -> Step
     Step::At(at + 1)
 }
 
-// A byte as a number to calculate with.
-pub fn wide(byte: u8) -> u16
-    ensures { λ r. ⌜ (r ≡ byte) × (r < 256) ⌝ }
-{
-    byte as u16
-}
-
-// A byte as a count or a position.
-pub fn size(byte: u8) -> usize
-    ensures { λ r. ⌜ (r ≡ byte) × (r < 256) ⌝ }
-{
-    byte as usize
-}
-
 // Two bytes, low byte first, are one field: half of it is none.
 pub fn word(sheet: &[u8], from: Step, most: u16) -> Step
     ensures { λ r. ⌜ r ≡ after (wordTo most) (now (sheet .entry)) from ⌝ }
@@ -127,8 +113,8 @@ pub fn word(sheet: &[u8], from: Step, most: u16) -> Step
             place: end,
         };
     }
-    let low = wide(sheet[at]);
-    let high = wide(sheet[at + 1]);
+    let low = numbers::wide(sheet[at]);
+    let high = numbers::wide(sheet[at + 1]);
     if most < low + high * 256 {
         return Step::Refused {
             number: 5,

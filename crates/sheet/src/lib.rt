@@ -1,13 +1,8 @@
-// Sheet, edition 1: checks a sheet, and hands out what it holds.
+// Sheet, edition 1: checks a sheet.
 mod columns;
 mod field;
-pub mod longest;
-mod places;
-pub mod records;
 mod rows;
-pub mod settings;
 mod text;
-pub mod walk;
 
 ghost use mathlib.Core.Path.{_≡_};
 ghost use Rattle.rules.specs.Field as fields;

@@ -3,7 +3,7 @@ use native.Mathlib.Omega.{arith}
 use Prim.Native.Nat.{_-_, _≤_}
 use denote.Ref.{now}
 use Rattle.rules.specs.Sheet.{mostColumns}
-use Rattle.sheet.specs.Held.{tableOf}
+use Rattle.table.specs.Held.{tableOf}
 use Rattle.arrangement.proofs.Layouts.{count-fits, column-at}
 use Rattle.row.specs.Packed.{viewOf}
 use Rattle.display_info.proofs.Opening.{limits-of, Showing, showing-begin, showing-on, showing-done, columns-count, width-is, delimiter-is, view-rising, view-wide, view-narrow}

@@ -1,6 +1,6 @@
 use borrow.Author.Needs.{needs}
 use mathlib.Core.Path.{refl}
-use Rattle.sheet.proofs.Held.{passes}
+use Rattle.table.proofs.Held.{passes}
 use Rattle.page.proofs.Answers.{count-refused, count-all, count-accepted}
 use Rattle.page.proofs.count.Statement.{statement}
 use Rattle.page.proofs.count.Tie as tie

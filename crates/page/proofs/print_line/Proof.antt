@@ -5,9 +5,9 @@ use denote.Ref.{now}
 use lib.ListN.{take}
 use lib.Seq.{length-take-le}
 use Rattle.rules.specs.Page.{lineAt}
-use Rattle.sheet.specs.Held.{tableOf}
+use Rattle.table.specs.Held.{tableOf}
 use Rattle.rules.specs.Calls.{Written}
-use Rattle.sheet.proofs.Held.{passes}
+use Rattle.table.proofs.Held.{passes}
 use Rattle.page.proofs.Answers.{line-refused, line-turned, found-here, lines-bound, line-written, line-answer, prefix-back}
 use Rattle.page.proofs.print_line.Statement.{statement}
 use Rattle.page.proofs.print_line.Tie as tie

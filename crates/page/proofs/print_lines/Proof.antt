@@ -3,7 +3,7 @@ use native.Mathlib.Omega.{arith}
 use mathlib.Core.Path.{refl, sym, ap, _∙_}
 use denote.Ref.{now}
 use Rattle.page.specs.Several.{Several}
-use Rattle.sheet.proofs.Held.{passes}
+use Rattle.table.proofs.Held.{passes}
 use Rattle.page.proofs.Answers.{lines-refused, lines-turned, lines-bound, lines-answer, lines-few, k-small}
 use Rattle.page.proofs.print_lines.Statement.{statement}
 use Rattle.page.proofs.print_lines.Tie as tie

@@ -3,7 +3,7 @@ use native.Mathlib.Omega.{arith}
 use mathlib.Core.Path.{refl, sym, ap, _∙_}
 use denote.Ref.{now}
 use Rattle.rules.specs.Calls.{Written}
-use Rattle.sheet.proofs.Held.{passes}
+use Rattle.table.proofs.Held.{passes}
 use Rattle.lines.proofs.Parts.{first-at, first-ahead}
 use Rattle.page.proofs.Answers.{page-refused, count-all, lines-bound-first, page-short, page-written}
 use Rattle.page.proofs.print_page.Statement.{statement}

@@ -1,5 +1,5 @@
 -- `page::widths` meets its contract. Assumes nothing.
-use Rattle.sheet.proofs.Held.{passes}
+use Rattle.table.proofs.Held.{passes}
 use Rattle.page.proofs.Measured.{measure-refused, measure-accepted}
 use borrow.Author.Needs.{needs}
 use Rattle.page.proofs.widths.Statement.{statement}

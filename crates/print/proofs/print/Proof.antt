@@ -5,7 +5,7 @@ use mathlib.Core.Path.{_≡_, refl, sym, _∙_}
 use denote.Ref.{now}
 use lib.ListN.{length}
 use lib.Seq.{length-take-le}
-use Rattle.sheet.proofs.Held.{passes}
+use Rattle.table.proofs.Held.{passes}
 use Rattle.print.proofs.Rounds.{left, Standing, standing-first, standing-few, round-bytes, round-on, round-less}
 use Rattle.print.proofs.print.Statement.{statement}
 use Rattle.print.proofs.print.Tie as tie

@@ -3,7 +3,7 @@ use native.Mathlib.Omega.{arith}
 use Prim.Native.Nat.{_-_}
 use mathlib.Core.Path.{_∙_}
 use denote.Ref.{now}
-use Rattle.sheet.specs.Walk.{cellsIn}
+use Rattle.table.specs.Walk.{cellsIn}
 use Rattle.row.specs.Packed.{viewOf, pendingsOf}
 use Rattle.row.proofs.Open.{Opening, opening-begins, opening-done}
 use Rattle.row.proofs.Lent.{pendings-length, cell-wide, open-order, open-on}

@@ -3,7 +3,7 @@ use native.Mathlib.Omega.{arith}
 use Prim.Native.Nat.{_<_}
 use mathlib.Core.Path.{sym}
 use denote.Ref.{now}
-use Rattle.sheet.proofs.Walks.{lines-inside}
+use Rattle.table.proofs.Walks.{lines-inside}
 use Rattle.row.proofs.Open.{opened-missing, opened-cell}
 use Rattle.row.proofs.open_cell.Statement.{statement}
 use Rattle.row.proofs.open_cell.Tie as tie

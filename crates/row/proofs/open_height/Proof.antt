@@ -2,7 +2,7 @@ use borrow.Author.Needs.{needs}
 use native.Mathlib.Omega.{arith}
 use Prim.Native.Nat.{_<_}
 use denote.Ref.{now}
-use Rattle.sheet.proofs.Walks.{lines-inside}
+use Rattle.table.proofs.Walks.{lines-inside}
 use Rattle.row.proofs.Heights.{height-missing, height-here}
 use Rattle.row.proofs.open_height.Statement.{statement}
 use Rattle.row.proofs.open_height.Tie as tie

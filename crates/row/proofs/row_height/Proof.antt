@@ -2,7 +2,7 @@ use borrow.Author.Needs.{needs}
 use native.Mathlib.Omega.{arith}
 use Prim.Native.Nat.{_-_}
 use denote.Ref.{now}
-use Rattle.sheet.specs.Walk.{cellsIn}
+use Rattle.table.specs.Walk.{cellsIn}
 use Rattle.row.specs.Packed.{viewOf}
 use Rattle.row.proofs.Heights.{Measuring, measuring-begins, measuring-done}
 use Rattle.row.proofs.Lent.{cell-wide, tall-order, tall-on}

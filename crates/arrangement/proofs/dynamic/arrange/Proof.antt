@@ -1,7 +1,7 @@
 use borrow.Author.Needs.{needs}
 use mathlib.Core.Path.{refl}
 use Rattle.rules.proofs.Accepted.{accepted-limits}
-use Rattle.sheet.proofs.Held.{held}
+use Rattle.table.proofs.Held.{held}
 use Rattle.arrangement.proofs.Arranged.{steps-small, steps-finish}
 use Rattle.arrangement.proofs.dynamic.arrange.Statement.{statement}
 use Rattle.arrangement.proofs.dynamic.arrange.Tie as tie

@@ -1,5 +1,5 @@
 use Rattle.rules.specs.Widths.{longestPart}
-use Rattle.sheet.specs.Held.{tableOf}
+use Rattle.table.specs.Held.{tableOf}
 use borrow.Author.Needs.{needs}
 use Prim.Native.Nat.{_+_}
 use Rattle.constraint.specs.Widths.{pass}

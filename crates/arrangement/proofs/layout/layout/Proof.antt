@@ -1,7 +1,7 @@
 use borrow.Author.Needs.{needs}
 use native.Mathlib.Omega.{arith}
 use Rattle.rules.proofs.Accepted.{accepted-limits}
-use Rattle.sheet.proofs.Held.{held}
+use Rattle.table.proofs.Held.{held}
 use Rattle.arrangement.proofs.Layouts.{count-fits, describes}
 use Rattle.arrangement.proofs.layout.layout.Statement.{statement}
 use Rattle.arrangement.proofs.layout.layout.Tie as tie

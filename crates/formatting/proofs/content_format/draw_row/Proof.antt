@@ -6,7 +6,7 @@ use mathlib.Core.Bool.{true}
 use denote.Ref.{now}
 use lib.ListN.{length, take, length-drop}
 use Rattle.rules.specs.Sheet.{Row}
-use Rattle.sheet.specs.Walk.{firstRow}
+use Rattle.table.specs.Walk.{firstRow}
 use Rattle.buffer.proofs.Laws.{lent}
 use Rattle.row.specs.Packed.{viewOf, pendingsOf}
 use Rattle.formatting.specs.RowText.{Sized, StandsAt}

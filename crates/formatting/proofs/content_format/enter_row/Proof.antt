@@ -1,8 +1,8 @@
 use borrow.Author.Needs.{needs}
 use native.Mathlib.Omega.{arith}
 use denote.Ref.{now}
-use Rattle.sheet.specs.Walk.{firstRow}
-use Rattle.sheet.proofs.Walks.{cells-inside}
+use Rattle.table.specs.Walk.{firstRow}
+use Rattle.table.proofs.Walks.{cells-inside}
 use Rattle.row.specs.Packed.{viewOf, pendingsOf}
 use Rattle.formatting.proofs.RowText.{enters}
 use Rattle.formatting.proofs.content_format.enter_row.Statement.{statement}

@@ -4,7 +4,7 @@ use Prim.Native.Nat.{_<_}
 use mathlib.Core.Path.{_≡_, refl, sym, ap, _∙_}
 use denote.Ref.{now}
 use lib.ListN.{length, length-drop}
-use Rattle.sheet.specs.Walk.{rowsIn, firstRow}
+use Rattle.table.specs.Walk.{rowsIn, firstRow}
 use Rattle.buffer.proofs.Laws.{lent}
 use Rattle.row.specs.Packed.{viewOf}
 use Rattle.formatting.specs.RowText.{rowLines}

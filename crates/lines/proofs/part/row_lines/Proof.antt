@@ -1,7 +1,7 @@
 use borrow.Author.Needs.{needs}
 use native.Mathlib.Omega.{arith}
 use denote.Ref.{now}
-use Rattle.sheet.proofs.Walks.{cells-inside}
+use Rattle.table.proofs.Walks.{cells-inside}
 use Rattle.lines.proofs.Walks.{row-lines-are}
 use Rattle.lines.proofs.part.row_lines.Statement.{statement}
 use Rattle.lines.proofs.part.row_lines.Tie as tie

@@ -1,0 +1,4 @@
+pub mod Held
+pub mod Copies
+pub mod Walks
+pub mod Longests

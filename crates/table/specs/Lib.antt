@@ -1,0 +1,3 @@
+pub mod Held
+pub mod Walk
+pub mod Longest

@@ -1,0 +1,102 @@
+// The longest line of each column, in one walk over the sheet: only lengths are read, no characters.
+ghost use mathlib.Core.Path.{_≡_};
+ghost use mathlib.Core.List.{map};
+ghost use Prim.Native.Nat.{_≤_};
+ghost use lib.ListN.{length};
+ghost use Rattle.rules.specs.Text.{upFrom};
+ghost use Rattle.rules.specs.Sheet.{mostColumns};
+ghost use Rattle.rules.specs.Widths as widths;
+ghost use Rattle.table.specs.Held.{Passes, tableOf};
+ghost use Rattle.table.specs.Walk.{rowsIn, rowsEnd, cellsEnd, linesEnd};
+ghost use Rattle.table.specs.Longest.{Narrow, CellWalked, RowWalked, RowsWalked};
+use super::records::Cells;
+use super::records::Lines;
+use super::records::Rows;
+use super::walk;
+use rules::MOST_COLUMNS;
+
+// A cell's longest line, and where the cell ends.
+pub struct LongestLine {
+    pub longest: u16,
+    pub end: usize,
+}
+
+// Each column's longest line so far, and where the walk stands.
+pub struct LongestLines {
+    pub longest: [u16; MOST_COLUMNS],
+    pub end: usize,
+}
+
+// A cell counts 1 even where all its lines are empty.
+fn of_cell(sheet: &[u8], lines: Lines) -> LongestLine
+    requires { ⌜ linesEnd (now sheet) lines ≤ length (now sheet) ⌝ }
+    ensures { λ r. ⌜ CellWalked (now (sheet .entry)) lines r ⌝ }
+{
+    let mut longest: u16 = 1;
+    let mut c = lines;
+    while 0 < c.left {
+        let at = c.at;
+        longest = numbers::greater_u16(longest, numbers::wide(sheet[at]));
+        c = walk::next_line(sheet, c);
+    }
+    LongestLine { longest, end: c.at }
+}
+
+// A row's cells, each in its column.
+fn of_row(sheet: &[u8], cells: Cells, before: [u16; MOST_COLUMNS]) -> LongestLines
+    requires { ⌜ (cells .left ≤ mostColumns) × (cellsEnd (now sheet) cells ≤ length (now sheet)) ⌝ }
+    ensures { λ r. ⌜ RowWalked (now (sheet .entry)) cells before r ⌝ }
+{
+    let mut longest = before;
+    let mut c = cells;
+    let mut j: usize = 0;
+    while 0 < c.left {
+        let cell = walk::cell(sheet, c);
+        let lines = cell.lines;
+        let found = of_cell(sheet, lines);
+        longest[j] = numbers::greater_u16(longest[j], found.longest);
+        c = Cells {
+            at: found.end,
+            left: c.left - 1,
+        };
+        j += 1;
+    }
+    LongestLines { longest, end: c.at }
+}
+
+// Row after row, from the columns' longest so far.
+fn of_rows(sheet: &[u8], rows: Rows, before: [u16; MOST_COLUMNS]) -> LongestLines
+    requires { ⌜ Narrow (rowsIn (now sheet) rows) × (rowsEnd (now sheet) rows ≤ length (now sheet)) ⌝ }
+    ensures { λ r. ⌜ RowsWalked (now (sheet .entry)) rows before r ⌝ }
+{
+    let mut longest = before;
+    let mut c = rows;
+    while 0 < c.left {
+        let row = walk::row(sheet, c);
+        let cells = row.cells;
+        let found = of_row(sheet, cells, longest);
+        longest = found.longest;
+        c = Rows {
+            at: found.end,
+            left: c.left - 1,
+        };
+    }
+    LongestLines { longest, end: c.at }
+}
+
+// Each column's longest line over header and rows; 0 past the columns.
+pub fn longest(sheet: &[u8]) -> [u16; MOST_COLUMNS]
+    requires { ⌜ Passes (now sheet) ⌝ }
+    ensures { λ r. ⌜ r ≡ map (widths.longest (tableOf (now (sheet .entry)))) (upFrom 0 mostColumns) ⌝ }
+{
+    let header = walk::header(sheet);
+    let first = of_rows(sheet, header, [0u16; MOST_COLUMNS]);
+    let behind = Rows {
+        at: first.end,
+        left: 0,
+    };
+    let rows = walk::rows(sheet, behind);
+    let before = first.longest;
+    let all = of_rows(sheet, rows, before);
+    all.longest
+}
