@@ -6,7 +6,7 @@ use mathlib.Core.Bool.{Bool, true, false}
 use native.Mathlib.Omega.{arith}
 use lib.ListN.{length, getD, drop, drop-of-length-le}
 use lib.Dec.{leb, ltb}
-use lib.Seq.{drop-cons, drop-drop, getD-drop}
+use lib.Seq.{drop-cons, getD-drop}
 use borrow.Author.Tests.{leb-true, leb-false, ltb-true, ltb-false, lt-ltb, le-ltb}
 use Rattle.rules.specs.Text.{orElse}
 use Rattle.rules.specs.Sheet as sheet
@@ -14,9 +14,9 @@ use Rattle.rules.specs.Sheet.{Table, noCell, noRow, columnAt}
 use Rattle.rules.specs.Widths.{lifted, shorterBy3, longestPart}
 use Rattle.rules.specs.Places.{rowsPlace}
 use Rattle.rules.specs.declared.Column.{Column}
-use Rattle.table.specs.Held.{Passes, settingsOf}
+use Rattle.table.specs.Held.{IsAccepted, settingsOf}
 use Rattle.table.specs.declared.records.Settings.{Settings}
-use Rattle.table.specs.Walk.{rowsIn, cellsIn, linesIn, rowsEnd, cellsEnd, linesEnd, firstRow, firstCell, firstLine, RowIs, CellIs, CellsNext, LinesNext, CellsSkipped}
+use Rattle.table.specs.Walk.{rowsIn, cellsIn, linesIn, rowsEnd, cellsEnd, linesEnd, firstRow, firstCell, firstLine, RowIs, CellIs, LinesNext, CellsSkipped}
 use Rattle.table.specs.declared.records.Rows.{Rows}
 use Rattle.table.specs.declared.records.Cells.{Cells}
 use Rattle.table.specs.declared.records.Lines.{Lines}
@@ -179,7 +179,7 @@ module _ (s : List ℕ) (j a d : ℕ) (all : Rows) where
 -- ---- the whole
 
 -- the header's walk ends inside the sheet, where the rows' count stands
-pub header-inside : (s : List ℕ) (c : Rows) → Passes s → rowsEnd s c ≡ rowsPlace s → rowsEnd s c ≤ length s
+pub header-inside : (s : List ℕ) (c : Rows) → IsAccepted s → rowsEnd s c ≡ rowsPlace s → rowsEnd s c ≤ length s
 header-inside s c h e = omega (arith, room s h .inside)
 
 pub header-behind : (s : List ℕ) (c : Rows) (j a d : ℕ) (r : Tried) (b : Bool) → b ≡ ltb a (r .longest + 3) → b ≡ false → RowsTried s c j a d r

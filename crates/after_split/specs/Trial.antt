@@ -1,9 +1,9 @@
 -- The longest part of a column's lines split at an average, as a walk over the sheet finds it: line by line, row by row. Assumes nothing.
-use Prim.Native.Nat.{ℕ, _+_, _-_, _≤_, max}
+use Prim.Native.Nat.{ℕ, _+_, _≤_, max}
 use mathlib.Core.Path.{_≡_}
 use mathlib.Core.List.{List, [], _∷_, map}
 use mathlib.Core.Bool.{true, false}
-use lib.ListN.{length, getD, drop}
+use lib.ListN.{length, getD}
 use lib.Dec.{ltb}
 use Rattle.rules.specs.Text.{textWidth, greatest, flat, orElse}
 use Rattle.rules.specs.Sheet.{Cell, Row, Table, noCell, columnAt}

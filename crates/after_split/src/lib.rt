@@ -6,7 +6,7 @@ ghost use lib.Dec.{ltb};
 ghost use lib.ListN.{length};
 ghost use Rattle.rules.specs.Sheet.{columnAt};
 ghost use Rattle.rules.specs.Widths.{shorterBy3, longestPart};
-ghost use Rattle.table.specs.Held.{Passes, tableOf};
+ghost use Rattle.table.specs.Held.{IsAccepted, tableOf};
 ghost use Rattle.table.specs.Walk.{linesIn, rowsEnd, cellsEnd, linesEnd};
 ghost use Rattle.after_split.specs.Trial.{ofLine, ofLines, Enough, RowTried, RowsTried};
 use rules::Column;
@@ -132,7 +132,7 @@ fn longest_part_of_rows(
 
 // The longest part of the column's lines, over header and rows, split at the average; or one that saves too little as well.
 pub fn longest_line_after_split(sheet: &[u8], c: Column, column: usize, average: u16) -> u16
-    requires { ⌜ Passes (now sheet) × (c ≡ columnAt (tableOf (now sheet)) column) ⌝ }
+    requires { ⌜ IsAccepted (now sheet) × (c ≡ columnAt (tableOf (now sheet)) column) ⌝ }
     ensures { λ r. ⌜ shorterBy3 r average ≡ shorterBy3 (longestPart (tableOf (now (sheet .entry))) column average) average ⌝ }
 {
     let table = settings::settings(sheet);

@@ -10,7 +10,7 @@ use borrow.Author.Tests.{leb-true, leb-false}
 use Rattle.rules.specs.Text.{orElse}
 use Rattle.rules.specs.Sheet.{Table}
 use Rattle.rules.specs.Limits.{TableLimits}
-use Rattle.rules.specs.Calls.{padded}
+use Rattle.rules.specs.Calls.{asArray}
 use Rattle.rules.specs.Widths as doc
 use Rattle.rules.specs.Widths.{longestPart, contents}
 use Rattle.rules.proofs.Lists.{all-default}
@@ -69,7 +69,7 @@ module _ (l : Layout) (t : Table) (d : Describes l t) where
         go false false false true e q = absurd (unlike true refl (sym q))
 
     -- the content widths, and 0 past the columns
-    pub arranged-contents : arranged parts l .widths ≡ padded 0 (contents t)
+    pub arranged-contents : arranged parts l .widths ≡ asArray 0 (contents t)
     arranged-contents = let w = arranged-widths in padded-as (l .count) (arranged parts l .widths) (contents t) (w .long) (d .few) (w .widths) (w .past)
 
     -- what the steps come to, and that it is small

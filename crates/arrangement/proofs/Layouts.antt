@@ -10,7 +10,7 @@ use Rattle.rules.specs.Text.{upFrom}
 use Rattle.rules.specs.Sheet.{Table, mostColumns, noColumn, columnAt, isHidden}
 use Rattle.rules.specs.Limits.{TableLimits}
 use Rattle.rules.specs.Style.{anyLeft, anyRight, anyJunction}
-use Rattle.rules.specs.Calls.{padded}
+use Rattle.rules.specs.Calls.{asArray}
 use Rattle.rules.specs.Widths as doc
 use Rattle.rules.specs.Widths.{longestPart, contents}
 use Rattle.rules.proofs.Lists.{getD-map, getD-upFrom, length-upFrom, map-below}
@@ -27,7 +27,7 @@ use Rattle.constraint.specs.Widths.{inOrder, column}
 use Rattle.arrangement.specs.declared.Widths.{Widths}
 use Rattle.arrangement.specs.Arrange.{arranged}
 use Rattle.arrangement.specs.Describes.{Describes}
-use Rattle.arrangement.specs.Widths.{lineFrom, contentFrom, styleFrom, marking, marked, widthsOf}
+use Rattle.arrangement.specs.Widths.{lineFrom, contentFrom, styleFrom, marking, marked, arrangedWidths}
 use Rattle.arrangement.proofs.Offers.{hidden-as}
 use Rattle.arrangement.proofs.Arranged.{arranged-contents}
 use Rattle.arrangement.proofs.Placed.{map-last}
@@ -52,7 +52,7 @@ module _ (t : Table) (limits : TableLimits t) (x : Columns) (columns : x ≡ col
   count-fits = omega (arith, ap (λ (y : Columns). y .count) columns, limits .columns)
 
   pub column-at : (j : ℕ) → j < x .count → getD (x .each) j noColumn ≡ columnAt t j
-  unfolding columnsOf padded
+  unfolding columnsOf asArray
   column-at j h =
       let k : j < length (t .columns) = omega (arith, ap (λ (y : Columns). y .count) columns) in
       rw columns (List·getD-append (t .columns) (replicate (mostColumns - length (t .columns)) noColumn) noColumn j k)
@@ -91,46 +91,46 @@ module _ (t : Table) (limits : TableLimits t) (x : Columns) (columns : x ≡ col
       }
 
 -- flags set one after another
-set-padded : (n : ℕ) (xs : List Bool) (v : Bool) → length xs ≡ n → n < mostColumns → set (padded false xs) n v ≡ padded false (xs ++ (v ∷ []))
-unfolding padded
+set-padded : (n : ℕ) (xs : List Bool) (v : Bool) → length xs ≡ n → n < mostColumns → set (asArray false xs) n v ≡ asArray false (xs ++ (v ∷ []))
+unfolding asArray
 set-padded n xs v k h =
     let m = length-append xs (v ∷ []) in
     let q : mostColumns - length xs ≡ suc (mostColumns - length (xs ++ (v ∷ []))) = omega arith in
     rw q (set-at xs false (replicate (mostColumns - length (xs ++ (v ∷ []))) false) v n k)
     ∙ sym (append-assoc xs (v ∷ []) (replicate (mostColumns - length (xs ++ (v ∷ []))) false))
 
-none-padded : replicate mostColumns false ≡ padded false []
-unfolding padded
+none-padded : replicate mostColumns false ≡ asArray false []
+unfolding asArray
 none-padded = refl
 
 flags-none : (p : ℕ → Bool) → map p (upFrom 0 0) ≡ []
 unfolding upFrom
 flags-none p = refl
 
-flags-padded : (p : ℕ → Bool) (n : ℕ) → n ≤ mostColumns → inOrder (λ i fs. set fs i (p i)) n (replicate mostColumns false) ≡ padded false (map p (upFrom 0 n))
+flags-padded : (p : ℕ → Bool) (n : ℕ) → n ≤ mostColumns → inOrder (λ i fs. set fs i (p i)) n (replicate mostColumns false) ≡ asArray false (map p (upFrom 0 n))
 unfolding inOrder
-flags-padded p zero h = none-padded ∙ ap (padded false) (sym (flags-none p))
+flags-padded p zero h = none-padded ∙ ap (asArray false) (sym (flags-none p))
 flags-padded p (suc n) h =
     let k : length (map p (upFrom 0 n)) ≡ n = length-map (upFrom 0 n) p ∙ length-upFrom 0 n in
     ap (λ (fs : List Bool). set fs n (p n)) (flags-padded p n (omega arith)) ∙ set-padded n (map p (upFrom 0 n)) (p n) k h
-    ∙ ap (padded false) (sym (map-last p n))
+    ∙ ap (asArray false) (sym (map-last p n))
 
 -- a column is marked
 pub marking-at : (l : Layout) (i : ℕ) (fs : List Bool) (b : Bool) → b ≡ isHidden (column l i) → set fs i b ≡ marking l i fs
 marking-at l i fs b e = ap (λ (x : Bool). set fs i x) e
 
 module _ (l : Layout) (t : Table) (d : Describes l t) where
-  marked-as : marked l ≡ padded false (map (λ j. isHidden (columnAt t j)) (doc.numbers t))
+  marked-as : marked l ≡ asArray false (map (λ j. isHidden (columnAt t j)) (doc.numbers t))
   unfolding doc.numbers
   marked-as =
       let one = map-below (λ j. isHidden (column l j)) (λ j. isHidden (columnAt t j)) 0 (l .count) (l .count) (omega arith) (hidden-as l t d) in
       let all = ap (λ (n : ℕ). map (λ j. isHidden (columnAt t j)) (upFrom 0 n)) (d .count) in
-      flags-padded (λ j. isHidden (column l j)) (l .count) (d .few) ∙ ap (padded false) (one ∙ all)
+      flags-padded (λ j. isHidden (column l j)) (l .count) (d .few) ∙ ap (asArray false) (one ∙ all)
 
   -- what is answered
   pub widths-at : (s : State) (fs : List Bool) → s ≡ arranged (longestPart t) l → fs ≡ marked l
-      → _≡_ {A = Widths} (record { count = l .count; content = s .widths; hidden = fs }) (widthsOf t)
-  unfolding widthsOf
+      → _≡_ {A = Widths} (record { count = l .count; content = s .widths; hidden = fs }) (arrangedWidths t)
+  unfolding arrangedWidths
   widths-at s fs e f =
-      let w : s .widths ≡ padded 0 (contents t) = ap (λ (z : State). z .widths) e ∙ arranged-contents l t d (longestPart t) (λ j a h. refl) in
+      let w : s .widths ≡ asArray 0 (contents t) = ap (λ (z : State). z .widths) e ∙ arranged-contents l t d (longestPart t) (λ j a h. refl) in
       rw (w, f, marked-as, d .count)

@@ -16,7 +16,7 @@ use Rattle.rules.specs.Widths as doc
 use Rattle.rules.specs.Widths.{contentOf, percentOf, widthOf, valueOf, lowerWidth, upperWidth, absoluteWidth, covering, evaluate, aboveAverage}
 use Rattle.rules.specs.Widths.{fittingAverage, splitAtAverage, longestPart}
 use Rattle.rules.proofs.Lists.{keep-yes, keep-no}
-use Rattle.rules.proofs.Text.{cond-one}
+use Rattle.rules.proofs.Cases.{oneIf-cond}
 use Rattle.constraint.specs.declared.Layout.{Layout}
 use Rattle.constraint.specs.declared.State.{State}
 use Rattle.constraint.specs.Widths.{choose, inOrder, column, longest, counting, visible, borders, percent, value, valued, lower, upper, average, Rule}
@@ -54,8 +54,8 @@ module _ (l : Layout) (t : Table) (d : Describes l t) where
   borders-as : (v : ℕ) → borders l v ≡ bordersOf (t .style) v
   unfolding bordersOf
   borders-as v =
-      let a = choose-cond (l .left) (anyLeft (t .style)) 1 (d .left) ∙ cond-one (anyLeft (t .style)) in
-      let b = choose-cond (l .right) (anyRight (t .style)) 1 (d .right) ∙ cond-one (anyRight (t .style)) in
+      let a = choose-cond (l .left) (anyLeft (t .style)) 1 (d .left) ∙ oneIf-cond (anyLeft (t .style)) in
+      let b = choose-cond (l .right) (anyRight (t .style)) 1 (d .right) ∙ oneIf-cond (anyRight (t .style)) in
       let c = choose-cond (l .junction) (anyJunction (t .style)) (v - 1) (d .junction) in
       cc
 

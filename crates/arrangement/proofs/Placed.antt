@@ -7,7 +7,7 @@ use native.Mathlib.Omega.{arith}
 use lib.ListN.{length, getD, take, drop, set, replicate, length-set, length-take, length-drop, length-map, getD-replicate, take-append-drop, length-replicate}
 use lib.Seq.{getD-set-same, getD-set-other, getD-take, getD-drop, ext-getD}
 use Rattle.rules.specs.Text.{upFrom}
-use Rattle.rules.specs.Calls.{padded}
+use Rattle.rules.specs.Calls.{asArray}
 use Rattle.rules.specs.Sheet.{mostColumns}
 use Rattle.rules.proofs.Lists.{getD-map, getD-upFrom, length-upFrom, upFrom-last, map-append}
 use Rattle.arrangement.proofs.Cases.{by-place}
@@ -52,8 +52,8 @@ module _ (f : ℕ → ℕ → ℕ) (ws : List ℕ) where
       getD-take n (placed f n ws) j 0 q ∙ placed-below n j l q ∙ sym (there ∙ ap (λ (x : ℕ). f x (getD ws x 0)) number)))
 
 -- as many widths as there can be columns, of which those past the columns are 0
-pub padded-as : (n : ℕ) (ws cs : List ℕ) → length ws ≡ mostColumns → n ≤ mostColumns → take n ws ≡ cs → ((j : ℕ) → n ≤ j → getD ws j 0 ≡ 0) → ws ≡ padded 0 cs
-unfolding padded
+pub padded-as : (n : ℕ) (ws cs : List ℕ) → length ws ≡ mostColumns → n ≤ mostColumns → take n ws ≡ cs → ((j : ℕ) → n ≤ j → getD ws j 0 ≡ 0) → ws ≡ asArray 0 cs
+unfolding asArray
 padded-as n ws cs l h e p =
     let k : length cs ≡ n = ap length (sym e) ∙ length-take n ws ∙ omega arith in
     let a : drop n ws ≡ replicate (mostColumns - length cs) 0 =

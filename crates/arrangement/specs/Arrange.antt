@@ -7,7 +7,7 @@ use lib.Dec.{eqb, leb, ltb}
 use Rattle.rules.specs.declared.Column.{Column}
 use Rattle.constraint.specs.declared.Layout.{Layout}
 use Rattle.constraint.specs.declared.State.{State}
-use Rattle.constraint.specs.Widths.{choose, inOrder, column, longest, visible, borders, lower, upper, average, setWidth, bit, decided, fixed, Rule, pass}
+use Rattle.constraint.specs.Widths.{choose, inOrder, column, longest, visible, borders, lower, upper, average, setWidth, bit, decided, Rule, pass}
 use Rattle.constraint.specs.Widths.{evaluated}
 use Rattle.sharing.specs.Share.{finished}
 use Rattle.rules.specs.Sheet.{mostColumns, padding, isHidden}

@@ -5,7 +5,7 @@ use mathlib.Core.Bool.{Bool, false}
 use lib.ListN.{length, set, replicate}
 use Rattle.rules.specs.Sheet.{Table, mostColumns, columnAt, isHidden}
 use Rattle.rules.specs.Style.{glyphAt, topBorder, headerLines, headerRule, contentLines, rowRule, bottomBorder}
-use Rattle.rules.specs.Calls.{padded}
+use Rattle.rules.specs.Calls.{asArray}
 use Rattle.rules.specs.Widths.{contents, numbers}
 use Rattle.style.specs.declared.table_style.LineStyle.{LineStyle}
 use Rattle.style.specs.declared.table_style.ContentLineStyle.{ContentLineStyle}
@@ -40,5 +40,5 @@ abbrev pub marked : Layout → List Bool
 marked l = inOrder (marking l) (l .count) (replicate mostColumns false)
 
 -- each column's content width and whether it is hidden; 0 and not hidden past the columns
-unfoldable pub widthsOf : Table → Widths
-widthsOf t = record { count = length (t .columns); content = padded 0 (contents t); hidden = padded false (map (λ j. isHidden (columnAt t j)) (numbers t)) }
+unfoldable pub arrangedWidths : Table → Widths
+arrangedWidths t = record { count = length (t .columns); content = asArray 0 (contents t); hidden = asArray false (map (λ j. isHidden (columnAt t j)) (numbers t)) }

@@ -7,7 +7,7 @@ ghost use Rattle.arrangement.specs.Arrange.{dynamic, started};
 ghost use Rattle.arrangement.specs.Describes.{Describes};
 ghost use Rattle.rules.specs.Sheet.{mostColumns};
 ghost use Rattle.rules.specs.Widths.{withinAverage, shorterBy3, longestPart};
-ghost use Rattle.table.specs.Held.{Passes, tableOf};
+ghost use Rattle.table.specs.Held.{IsAccepted, tableOf};
 use constraint::Bound;
 use constraint::Layout;
 use constraint::Offer;
@@ -206,7 +206,7 @@ fn split_offer(a: u16, n: ContentWidth) -> Offer
 }
 
 fn split_step(sheet: &[u8], t: Layout, i: usize, s: State, a: u16) -> State
-    requires { ⌜ Passes (now sheet) × Describes t (tableOf (now sheet)) × (i < t .count) × (a ≡ average s) ⌝ }
+    requires { ⌜ IsAccepted (now sheet) × Describes t (tableOf (now sheet)) × (i < t .count) × (a ≡ average s) ⌝ }
     ensures { λ r. ⌜ r ≡ step (splitRule (longestPart (tableOf (now (sheet .entry))))) t i s ⌝ }
 {
     if constraint::is_decided(t, i, s) {
@@ -218,7 +218,7 @@ fn split_step(sheet: &[u8], t: Layout, i: usize, s: State, a: u16) -> State
 }
 
 fn split_pass(sheet: &[u8], t: Layout, s: State) -> State
-    requires { ⌜ Passes (now sheet) × Describes t (tableOf (now sheet)) ⌝ }
+    requires { ⌜ IsAccepted (now sheet) × Describes t (tableOf (now sheet)) ⌝ }
     ensures { λ r. ⌜ r ≡ pass (splitRule (longestPart (tableOf (now (sheet .entry))))) t s ⌝ }
 {
     let n = t.count as usize;
@@ -231,7 +231,7 @@ fn split_pass(sheet: &[u8], t: Layout, s: State) -> State
 
 // Step 3. A column that needs less than the average once its lines are split leaves the others more.
 fn optimize_space_after_split(sheet: &[u8], t: Layout, s: State) -> State
-    requires { ⌜ Passes (now sheet) × Describes t (tableOf (now sheet)) ⌝ }
+    requires { ⌜ IsAccepted (now sheet) × Describes t (tableOf (now sheet)) ⌝ }
     ensures { λ r. ⌜ r ≡ step3 (longestPart (tableOf (now (sheet .entry)))) t s ⌝ }
 {
     let mut r = s;
@@ -246,7 +246,7 @@ fn optimize_space_after_split(sheet: &[u8], t: Layout, s: State) -> State
 
 // The widths from the first step on, which must make up the target as well as they can.
 pub fn arrange(sheet: &[u8], t: Layout, s: State) -> State
-    requires { ⌜ Passes (now sheet) × Describes t (tableOf (now sheet)) × (s ≡ started t) ⌝ }
+    requires { ⌜ IsAccepted (now sheet) × Describes t (tableOf (now sheet)) × (s ≡ started t) ⌝ }
     ensures { λ r. ⌜ r ≡ dynamic (longestPart (tableOf (now (sheet .entry)))) t s ⌝ }
 {
     let a = target(t, s);

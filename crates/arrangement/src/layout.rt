@@ -2,7 +2,7 @@
 ghost use mathlib.Core.Path.{_≡_};
 ghost use Prim.Native.Nat.{_+_, _<_};
 ghost use Rattle.rules.specs.Style.{styleCharacters};
-ghost use Rattle.table.specs.Held.{Passes, tableOf};
+ghost use Rattle.table.specs.Held.{IsAccepted, tableOf};
 ghost use Rattle.arrangement.specs.Describes.{Describes};
 ghost use Rattle.arrangement.specs.Widths.{lineFrom, contentFrom, styleFrom};
 use constraint::Layout;
@@ -13,11 +13,11 @@ use rules::HEADER_RULE;
 use rules::ROW_RULE;
 use rules::STYLE_CHARACTERS;
 use rules::TOP_BORDER;
-use table::longest;
-use table::settings;
 use style::table_style::ContentLineStyle;
 use style::table_style::LineStyle;
 use style::table_style::TableStyle;
+use table::longest;
+use table::settings;
 
 fn line_from(b: [u8; STYLE_CHARACTERS], k: usize) -> LineStyle
     requires { ⌜ k + 3 < styleCharacters ⌝ }
@@ -64,7 +64,7 @@ pub fn style_from(b: [u8; STYLE_CHARACTERS]) -> TableStyle
 
 // The settings and columns by value, so that a changed copy of them can be arranged as well.
 pub fn layout(sheet: &[u8]) -> Layout
-    requires { ⌜ Passes (now sheet) ⌝ }
+    requires { ⌜ IsAccepted (now sheet) ⌝ }
     ensures { λ r. ⌜ Describes r (tableOf (now (sheet .entry))) ⌝ }
 {
     let head = settings::settings(sheet);

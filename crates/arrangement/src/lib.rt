@@ -7,10 +7,10 @@ ghost use mathlib.Core.Path.{_≡_};
 ghost use Prim.Native.Nat.{_≤_};
 ghost use Rattle.rules.specs.Sheet.{mostColumns};
 ghost use Rattle.rules.specs.Widths.{longestPart};
-ghost use Rattle.table.specs.Held.{Passes, tableOf};
+ghost use Rattle.table.specs.Held.{IsAccepted, tableOf};
 ghost use Rattle.arrangement.specs.Arrange.{started, arranged};
 ghost use Rattle.arrangement.specs.Describes.{Describes};
-ghost use Rattle.arrangement.specs.Widths.{marked, widthsOf};
+ghost use Rattle.arrangement.specs.Widths.{marked, arrangedWidths};
 use constraint::Layout;
 use constraint::State;
 use rules::MOST_COLUMNS;
@@ -42,7 +42,7 @@ fn start(t: Layout) -> State
 
 // A target is made up only where there is one and the arrangement isn't `Disabled`.
 fn arrange(sheet: &[u8], t: Layout) -> State
-    requires { ⌜ Passes (now sheet) × Describes t (tableOf (now sheet)) ⌝ }
+    requires { ⌜ IsAccepted (now sheet) × Describes t (tableOf (now sheet)) ⌝ }
     ensures { λ r. ⌜ r ≡ arranged (longestPart (tableOf (now (sheet .entry)))) t ⌝ }
 {
     let s = start(t);
@@ -70,8 +70,8 @@ fn hidden_columns(t: Layout) -> [bool; MOST_COLUMNS]
 
 // The content width of each column of an accepted sheet, by the layout that was read from it.
 pub fn arrange_content(sheet: &[u8], t: Layout) -> Widths
-    requires { ⌜ Passes (now sheet) × Describes t (tableOf (now sheet)) ⌝ }
-    ensures { λ r. ⌜ r ≡ widthsOf (tableOf (now (sheet .entry))) ⌝ }
+    requires { ⌜ IsAccepted (now sheet) × Describes t (tableOf (now sheet)) ⌝ }
+    ensures { λ r. ⌜ r ≡ arrangedWidths (tableOf (now (sheet .entry))) ⌝ }
 {
     let state = arrange(sheet, t);
     let content = state.widths;

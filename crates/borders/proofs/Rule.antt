@@ -10,7 +10,7 @@ use Rattle.rules.specs.Text.{upFrom}
 use Rattle.rules.specs.Style.{glyphAt, glyph, anyLeft, anyRight, anyJunction}
 use Rattle.rules.specs.Widths.{visible}
 use Rattle.rules.specs.Page.{joined, lineOf, ruled, visibleWidth, visibleWidths}
-use Rattle.buffer.specs.Put.{over, putAt, build, edge, lead}
+use Rattle.buffer.specs.Put.{over, putAt, build, byteIf, lead}
 use Rattle.buffer.proofs.Laws.{put-nil, put-one, over-put-zero, build-room, build-more, two}
 use Rattle.row.specs.View.{View, visibleAt, shownOf, numberOf, Views}
 use Rattle.row.specs.Packed.{columnFrom, viewOf}
@@ -21,8 +21,8 @@ use Rattle.borders.specs.Rule.{ruleArea, rulePiece, ruleText, ruleBytes,
 use Rattle.borders.specs.declared.RuleStyle.{RuleStyle}
 
 module _ (view : View) (style : RuleStyle) where
-  pub rule-is : ruleBytes view style ≡ edge (style .opens) (style .left) ++
-      (build (rulePiece view style) (view .count) ++ (edge (style .closes) (style .right) ++ (10 ∷ [])))
+  pub rule-is : ruleBytes view style ≡ byteIf (style .opens) (style .left) ++
+      (build (rulePiece view style) (view .count) ++ (byteIf (style .closes) (style .right) ++ (10 ∷ [])))
   unfolding ruleBytes
   rule-is = refl
 
@@ -31,25 +31,25 @@ module _ (view : View) (style : RuleStyle) where
   rule-text = simp append-assoc
 
   pub rule-length : length (ruleBytes view style)
-      ≡ length (edge (style .opens) (style .left)) + length (build (rulePiece view style) (view .count)) + length
-      (edge (style .closes) (style .right)) + 1
+      ≡ length (byteIf (style .opens) (style .left)) + length (build (rulePiece view style) (view .count)) + length
+      (byteIf (style .closes) (style .right)) + 1
   unfolding ruleBytes
   rule-length =
-      let l = edge (style .opens) (style .left) in
+      let l = byteIf (style .opens) (style .left) in
       let b = build (rulePiece view style) (view .count) in
-      let r = edge (style .closes) (style .right) in
+      let r = byteIf (style .closes) (style .right) in
       omega (arith, length-append l (b ++ (r ++ (10 ∷ []))), length-append b (r ++ (10 ∷ [])), length-append r (10 ∷ []))
 
   -- the whole, once its last byte is stored
-  pub rule-whole : (d d₁ d₂ d₃ : List ℕ) (p q e : ℕ) → d₁ ≡ putAt d 0 (edge (style .opens) (style .left)) → d₂ ≡ putAt d₁ p
+  pub rule-whole : (d d₁ d₂ d₃ : List ℕ) (p q e : ℕ) → d₁ ≡ putAt d 0 (byteIf (style .opens) (style .left)) → d₂ ≡ putAt d₁ p
       (build (rulePiece view style) (view .count))
-      → d₃ ≡ putAt d₂ q (edge (style .closes) (style .right)) → length (edge (style .opens) (style .left)) ≡ p → p + length
+      → d₃ ≡ putAt d₂ q (byteIf (style .closes) (style .right)) → length (byteIf (style .opens) (style .left)) ≡ p → p + length
       (build (rulePiece view style) (view .count)) ≡ q
-      → q + length (edge (style .closes) (style .right)) ≡ e → e < length d₃ → set d₃ e 10 ≡ over (ruleBytes view style) d
+      → q + length (byteIf (style .closes) (style .right)) ≡ e → e < length d₃ → set d₃ e 10 ≡ over (ruleBytes view style) d
   rule-whole d d₁ d₂ d₃ p q e e₁ e₂ e₃ x y z h =
-      let l = edge (style .opens) (style .left) in
+      let l = byteIf (style .opens) (style .left) in
       let b = build (rulePiece view style) (view .count) in
-      let r = edge (style .closes) (style .right) in
+      let r = byteIf (style .closes) (style .right) in
       let f : d₂ ≡ putAt d 0 (l ++ b) = two d 0 l b d₁ d₂ p e₁ e₂ (omega arith) (omega arith) in
       let g : d₃ ≡ putAt d 0 ((l ++ b) ++ r) = two d 0 (l ++ b) r d₂ d₃ q f e₃ (omega (arith, length-append l b)) (omega arith) in
       let i : set d₃ e 10 ≡ putAt d 0 (((l ++ b) ++ r) ++ (10 ∷ [])) =
@@ -69,23 +69,23 @@ module _ (view : View) (style : RuleStyle) (page₀ : List ℕ) (at₀ : ℕ) wh
   ruling-begins = record { within = omega arith; place = omega arith; text = sym (put-nil page₀ at₀); size = refl }
 
   module _ (page : List ℕ) (at i : ℕ) (D : Ruling view style page₀ at₀ page at i) (h : i < view .count) where
-    here-length : length (rulePiece view style i) ≡ length (edge (lead i (style .joined)) (style .junction)) +
+    here-length : length (rulePiece view style i) ≡ length (byteIf (lead i (style .joined)) (style .junction)) +
         (visibleAt view i .left + (visibleAt view i .width + visibleAt view i .right))
     unfolding rulePiece
     here-length =
-        length-append (edge (lead i (style .joined)) (style .junction)) (ruleArea (visibleAt view i) (style .fill))
-        ∙ ap (λ n. length (edge (lead i (style .joined)) (style .junction)) + n)
+        length-append (byteIf (lead i (style .joined)) (style .junction)) (ruleArea (visibleAt view i) (style .fill))
+        ∙ ap (λ n. length (byteIf (lead i (style .joined)) (style .junction)) + n)
         (length-replicate (visibleAt view i .left + (visibleAt view i .width + visibleAt view i .right)) (style .fill))
 
     pub ruling-room : at₀ + length (build (rulePiece view style) (view .count)) ≤ length page₀
-        → at + (length (edge (lead i (style .joined)) (style .junction)) +
+        → at + (length (byteIf (lead i (style .joined)) (style .junction)) +
         (visibleAt view i .left + (visibleAt view i .width + visibleAt view i .right))) ≤ length page
     ruling-room r = omega (arith, D .place, D .size, here-length, build-room (rulePiece view style) i (view .count) h)
 
     pub ruling-on : (page₁ : List ℕ) (at₁ : ℕ) → at₀ + length (build (rulePiece view style) (view .count)) ≤ length page₀
-        → at₁ ≡ at + (length (edge (lead i (style .joined)) (style .junction)) +
+        → at₁ ≡ at + (length (byteIf (lead i (style .joined)) (style .junction)) +
         (visibleAt view i .left + (visibleAt view i .width + visibleAt view i .right)))
-        → page₁ ≡ putAt page at (edge (lead i (style .joined)) (style .junction) ++ ruleArea (visibleAt view i) (style .fill))
+        → page₁ ≡ putAt page at (byteIf (lead i (style .joined)) (style .junction) ++ ruleArea (visibleAt view i) (style .fill))
         → length page₁ ≡ length page → Ruling view style page₀ at₀ page₁ at₁ (i + 1)
     unfolding rulePiece
     ruling-on page₁ at₁ r e w l =
@@ -117,11 +117,11 @@ module _ (cols : List (List ℕ)) (n : ℕ) (style : RuleStyle) (page₀ : List 
   pub fill-narrow : NarrowAll (viewOf cols n) → v .left + (v .width + v .right) < 65536
   fill-narrow N = rw rv (N .each i h)
 
-  pub fill-room : at + (length (edge j (style .junction)) + (v .left + (v .width + v .right))) ≤ length page
+  pub fill-room : at + (length (byteIf j (style .junction)) + (v .left + (v .width + v .right))) ≤ length page
   fill-room = rw (rv, ej) (ruling-room (viewOf cols n) style page₀ at₀ page at i D h room)
 
-  pub fill-on : (page₁ : List ℕ) (at₁ : ℕ) → at₁ ≡ at + (length (edge j (style .junction)) + (v .left + (v .width + v .right)))
-      → page₁ ≡ putAt page at (edge j (style .junction) ++ ruleArea v (style .fill)) → length page₁ ≡ length page → Ruling (viewOf cols n) style page₀
+  pub fill-on : (page₁ : List ℕ) (at₁ : ℕ) → at₁ ≡ at + (length (byteIf j (style .junction)) + (v .left + (v .width + v .right)))
+      → page₁ ≡ putAt page at (byteIf j (style .junction) ++ ruleArea v (style .fill)) → length page₁ ≡ length page → Ruling (viewOf cols n) style page₀
       at₀ page₁ at₁ (i + 1)
   fill-on page₁ at₁ e w l = ruling-on (viewOf cols n) style page₀ at₀ page at i D h page₁ at₁ room (rw (rv, ej) at e) (rw (rv, ej) at w) l
 
@@ -140,9 +140,9 @@ rule-drawn t ws view W S always k =
     let b = always || anyJunction S in
     let f = glyph (glyphAt S (k + 1)) in
     let g : ℕ → List ℕ = λ i. replicate (visibleWidth t ws (numberOf t i)) f in
-    let p : build (λ i. edge (lead i b) (glyph (glyphAt S (k + 2))) ++ ruleArea (visibleAt view i) f) (view .count) ≡ build
-    (λ i. edge (lead i b) (glyph (glyphAt S (k + 2))) ++ g i) (view .count) =
-    build-same _ _ (view .count) (λ i h. ap (λ l. edge (lead i b) (glyph (glyphAt S (k + 2))) ++ l)
+    let p : build (λ i. byteIf (lead i b) (glyph (glyphAt S (k + 2))) ++ ruleArea (visibleAt view i) f) (view .count) ≡ build
+    (λ i. byteIf (lead i b) (glyph (glyphAt S (k + 2))) ++ g i) (view .count) =
+    build-same _ _ (view .count) (λ i h. ap (λ l. byteIf (lead i b) (glyph (glyphAt S (k + 2))) ++ l)
     (area-fill t ws (numberOf t i) f (visibleAt view i) (W .each i h))) in
     let q : map (λ v. replicate v f) (map (visibleWidth t ws) (visible t)) ≡ map g (upFrom 0 (view .count)) =
     map-map (visibleWidth t ws) (λ v. replicate v f) (visible t) ∙ map-numbered (λ j. replicate (visibleWidth t ws j) f) 0 (visible t) ∙ ap

@@ -5,7 +5,7 @@ use lib.ListN.{replicate}
 use mathlib.Core.Bool.{Bool}
 use Rattle.rules.specs.Sheet.{mostColumns}
 use Rattle.rules.specs.Style.{glyphAt, glyph, anyLeft, anyRight}
-use Rattle.buffer.specs.Put.{build, edge, lead}
+use Rattle.buffer.specs.Put.{build, byteIf, lead}
 use Rattle.row.specs.View.{View, visibleAt}
 use Rattle.row.specs.declared.VisibleColumn.{VisibleColumn}
 use Rattle.borders.specs.declared.RuleStyle.{RuleStyle}
@@ -16,15 +16,15 @@ ruleArea v f = replicate (v .left + (v .width + v .right)) f
 
 -- what visible column i adds
 unfoldable pub rulePiece : View → RuleStyle → ℕ → List ℕ
-rulePiece view style i = edge (lead i (style .joined)) (style .junction) ++ ruleArea (visibleAt view i) (style .fill)
+rulePiece view style i = byteIf (lead i (style .joined)) (style .junction) ++ ruleArea (visibleAt view i) (style .fill)
 
 -- the line
 unfoldable pub ruleText : View → RuleStyle → List ℕ
-ruleText view style = edge (style .opens) (style .left) ++ (build (rulePiece view style) (view .count) ++ edge (style .closes) (style .right))
+ruleText view style = byteIf (style .opens) (style .left) ++ (build (rulePiece view style) (view .count) ++ byteIf (style .closes) (style .right))
 
 -- the line with its 0A
 unfoldable pub ruleBytes : View → RuleStyle → List ℕ
-ruleBytes view style = edge (style .opens) (style .left) ++ (build (rulePiece view style) (view .count) ++ (edge (style .closes) (style .right) ++ (10 ∷ [])))
+ruleBytes view style = byteIf (style .opens) (style .left) ++ (build (rulePiece view style) (view .count) ++ (byteIf (style .closes) (style .right) ++ (10 ∷ [])))
 
 -- visible widths are small
 pub record NarrowAll (view : View) : Type 0 where

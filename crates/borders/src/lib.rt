@@ -1,9 +1,9 @@
 // Borders and rules, comfy-table's `borders.rs`: one way of drawing for all four, whose characters differ.
 ghost use mathlib.Core.Path.{_≡_};
 ghost use mathlib.Core.List.{_++_};
-ghost use Prim.Native.Nat.{ℕ, _+_, _≤_, _<_};
-ghost use lib.ListN.{length, replicate};
-ghost use Rattle.buffer.specs.Put.{over, putAt, edge};
+ghost use Prim.Native.Nat.{_+_, _≤_, _<_};
+ghost use lib.ListN.{length};
+ghost use Rattle.buffer.specs.Put.{over, putAt, byteIf};
 ghost use Rattle.row.specs.Packed.{viewOf};
 ghost use Rattle.borders.specs.Rule.{ruleBytes, NarrowAll, ruleArea};
 use row::VisibleColumn;
@@ -31,9 +31,9 @@ fn draw_fill(
     fill: u8,
 ) -> usize
     requires { ⌜ v .left + (v .width + v .right) < 65536 ⌝ }
-    requires { ⌜ at + (length (edge joins junction) + (v .left + (v .width + v .right))) ≤ length (now page) ⌝ }
-    ensures { λ r. ⌜ r ≡ at + (length (edge joins junction) + (v .left + (v .width + v .right))) ⌝ }
-    ensures { λ _. ⌜ now (page .exit) ≡ putAt (now (page .entry)) at (edge joins junction ++ ruleArea v fill) ⌝ }
+    requires { ⌜ at + (length (byteIf joins junction) + (v .left + (v .width + v .right))) ≤ length (now page) ⌝ }
+    ensures { λ r. ⌜ r ≡ at + (length (byteIf joins junction) + (v .left + (v .width + v .right))) ⌝ }
+    ensures { λ _. ⌜ now (page .exit) ≡ putAt (now (page .entry)) at (byteIf joins junction ++ ruleArea v fill) ⌝ }
 {
     let p = buffer::draw_edge(page, at, joins, junction);
     buffer::fill(page, p, v.left + (v.width + v.right), fill)

@@ -10,7 +10,7 @@ use borrow.Rule.Slice.PartMut.{putMid}
 use mathlib.Core.Logic.{⊎-elim}
 use native.Mathlib.Nat.{eq-or-lt-of-le, not-suc-le-zero, le-of-suc-le-suc}
 use mathlib.Core.Bool.{Bool, true, false}
-use Rattle.buffer.specs.Put.{over, putAt, build, edge, lead}
+use Rattle.buffer.specs.Put.{over, putAt, build, byteIf, lead}
 
 pub length-over : (l d : List ℕ) → length l ≤ length d → length (over l d) ≡ length d
 unfolding over
@@ -59,11 +59,6 @@ put-store d at l v n e h =
     ∙ store (take at d ++ l) d n v (length-append (take at d) l ∙ ap (λ (k : ℕ). k + length l) (length-take-le at d (omega arith)) ∙ e) h
     ∙ ap (λ (t : List ℕ). over t d) (append-assoc (take at d) l (v ∷ []))
     ∙ sym (put-over d at (l ++ (v ∷ [])) (omega arith))
-
-pub length-put : (d : List ℕ) (at : ℕ) (l : List ℕ) → at + length l ≤ length d → length (putAt d at l) ≡ length d
-length-put d at l h =
-    ap length (put-over d at l (omega arith))
-    ∙ length-over (take at d ++ l) d (simp length-append (omega (arith, length-take-le at d (omega arith))))
 
 -- a put just past a put
 pub put-put : (d : List ℕ) (at : ℕ) (a b : List ℕ) (n : ℕ) → at + length a ≡ n → at ≤ length d → putAt (putAt d at a) n b ≡ putAt d at (a ++ b)
@@ -114,16 +109,16 @@ lent-back p a l ys h e =
     ∙ ap (λ (t : List ℕ). take a p ++ t) (append-nil ys ∙ e ∙ ap (λ (t : List ℕ). l ++ drop (length l) t) (lent p a))
 
 -- a byte where it is drawn
-pub edge-put : (d : List ℕ) (at b : ℕ) (drawn : Bool) → drawn ≡ true → at < length d → set d at b ≡ putAt d at (edge drawn b)
+pub edge-put : (d : List ℕ) (at b : ℕ) (drawn : Bool) → drawn ≡ true → at < length d → set d at b ≡ putAt d at (byteIf drawn b)
 edge-put d at b drawn e h = rw e (put-one d at b h)
 
-pub edge-one : (b : ℕ) (drawn : Bool) → drawn ≡ true → length (edge drawn b) ≡ 1
+pub edge-one : (b : ℕ) (drawn : Bool) → drawn ≡ true → length (byteIf drawn b) ≡ 1
 edge-one b drawn e = rw e
 
-pub edge-none : (b : ℕ) (drawn : Bool) → drawn ≡ false → edge drawn b ≡ []
+pub edge-none : (b : ℕ) (drawn : Bool) → drawn ≡ false → byteIf drawn b ≡ []
 edge-none b drawn e = rw e
 
-pub edge-skip : (d : List ℕ) (at b : ℕ) (drawn : Bool) → drawn ≡ false → d ≡ putAt d at (edge drawn b)
+pub edge-skip : (d : List ℕ) (at b : ℕ) (drawn : Bool) → drawn ≡ false → d ≡ putAt d at (byteIf drawn b)
 edge-skip d at b drawn e = rw e (sym (put-nil d at))
 
 -- two pieces, one after the other

@@ -19,9 +19,9 @@ build g zero = []
 build g (suc n) = build g n ++ g n
 
 -- a byte where it is drawn
-abbrev pub edge : Bool → ℕ → List ℕ
-edge true b = b ∷ []
-edge false b = []
+abbrev pub byteIf : Bool → ℕ → List ℕ
+byteIf true b = b ∷ []
+byteIf false b = []
 
 -- a junction stands before every visible column but the first
 abbrev pub lead : ℕ → Bool → Bool

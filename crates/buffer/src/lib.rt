@@ -1,8 +1,8 @@
 // Writers into a lent buffer, from a place on: what stands before and after is kept.
 ghost use mathlib.Core.Path.{_≡_};
-ghost use Prim.Native.Nat.{ℕ, _+_, _≤_};
+ghost use Prim.Native.Nat.{_+_, _≤_};
 ghost use lib.ListN.{length, replicate};
-ghost use Rattle.buffer.specs.Put.{putAt, edge, lead};
+ghost use Rattle.buffer.specs.Put.{putAt, byteIf, lead};
 
 // Writes a byte n times; gives the place after. One byte, as most paddings are, is stored by itself: the loop is compiled to a call.
 pub fn fill(dst: &mut [u8], at: usize, n: usize, b: u8) -> usize
@@ -38,9 +38,9 @@ pub fn copy(dst: &mut [u8], at: usize, src: &[u8]) -> usize
 
 // Writes a byte where it is drawn; gives the place after.
 pub fn draw_edge(dst: &mut [u8], at: usize, drawn: bool, b: u8) -> usize
-    requires { ⌜ at + length (edge drawn b) ≤ length (now dst) ⌝ }
-    ensures { λ r. ⌜ r ≡ at + length (edge drawn b) ⌝ }
-    ensures { λ _. ⌜ now (dst .exit) ≡ putAt (now (dst .entry)) at (edge drawn b) ⌝ }
+    requires { ⌜ at + length (byteIf drawn b) ≤ length (now dst) ⌝ }
+    ensures { λ r. ⌜ r ≡ at + length (byteIf drawn b) ⌝ }
+    ensures { λ _. ⌜ now (dst .exit) ≡ putAt (now (dst .entry)) at (byteIf drawn b) ⌝ }
 {
     if drawn {
         dst[at] = b;

@@ -1,10 +1,10 @@
 -- A cell's first line, case by case. Assumes nothing.
-use Prim.Native.Nat.{ℕ, zero, suc, _+_, _-_, _≤_, _<_}
+use Prim.Native.Nat.{ℕ, suc, _+_, _-_, _≤_, _<_}
 use mathlib.Core.Path.{_≡_, refl, sym, ap, subst, _∙_}
 use mathlib.Core.List.{List, [], _∷_, _++_}
-use mathlib.Core.Bool.{Bool, true, false, false≢true}
+use mathlib.Core.Bool.{true, false, false≢true}
 use native.Mathlib.Omega.{arith}
-use lib.ListN.{length, take, drop, getD}
+use lib.ListN.{length, drop, getD}
 use lib.Seq.{slice, length-slice, take-all, drop-nil, drop-drop}
 use lib.Dec.{ltb}
 use borrow.Author.Tests.{lt-ltb}
@@ -16,11 +16,11 @@ use Rattle.rules.specs.Places.{parts}
 use Rattle.table.specs.Walk.{linesIn, linesEnd, firstLine, LinesNext}
 use Rattle.table.specs.declared.records.Lines.{Lines}
 use Rattle.table.proofs.Walks.{lines-number}
-use Rattle.content_split.specs.Parts.{LineIs, PartIs}
+use Rattle.content_split.specs.Parts.{PartIs}
 use Rattle.content_split.specs.declared.Part.{Part}
 use Rattle.content_split.specs.declared.Part.the-variants.{Line, Nothing}
 use Rattle.content_split.proofs.Steps.{none-at-end}
-use Rattle.cells.specs.Cell.{rest, Inside, textOf, Head, HeadIs, noLine, taken, FirstOf, Further}
+use Rattle.cells.specs.Cell.{rest, Inside, Head, HeadIs, noLine, taken, FirstOf, Further}
 use Rattle.cells.specs.declared.CellCursor.{CellCursor}
 use Rattle.cells.specs.declared.Next.{Next}
 

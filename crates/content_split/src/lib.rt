@@ -2,8 +2,8 @@
 // whose own delimiters stand in it. A byte is a column.
 
 ghost use mathlib.Core.Path.{_≡_};
-ghost use Prim.Native.Nat.{ℕ, _+_, _-_, _≤_, _<_};
-ghost use lib.ListN.{length, drop};
+ghost use Prim.Native.Nat.{_+_, _-_, _≤_, _<_};
+ghost use lib.ListN.{length};
 ghost use mathlib.Core.List.{map};
 ghost use Rattle.rules.specs.Text.{textWidth, greatest};
 ghost use Rattle.rules.specs.Wrap.{split};

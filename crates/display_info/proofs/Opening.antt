@@ -14,7 +14,7 @@ use Rattle.rules.specs.Text.{orElse}
 use Rattle.rules.specs.Sheet.{Table, mostColumns, noColumn, columnAt, isHidden}
 use Rattle.rules.specs.Limits.{TableLimits, ColumnLimits}
 use Rattle.rules.specs.Style.{topBorder, headerLines, headerRule, contentLines, rowRule, bottomBorder, glyphAt, glyph, anyLeft, anyRight, anyJunction, isVisible}
-use Rattle.rules.specs.Calls.{padded}
+use Rattle.rules.specs.Calls.{asArray}
 use Rattle.rules.specs.Widths.{visible, contents}
 use Rattle.rules.proofs.Accepted.{accepted-limits, checked-reading}
 use Rattle.rules.proofs.Areas.{content-some}
@@ -25,16 +25,16 @@ use Rattle.rules.proofs.Lists.{all-getD}
 use Rattle.rules.specs.Places.{rowsPlace}
 use Rattle.style.specs.Bytes.{bytesOf}
 use Rattle.style.specs.declared.table_style.TableStyle.{TableStyle}
-use Rattle.table.specs.Held.{Passes, tableOf, settingsOf, indicatorOf, columnsOf}
+use Rattle.table.specs.Held.{IsAccepted, tableOf, settingsOf, indicatorOf, columnsOf}
 use Rattle.table.specs.Walk.{rowsIn, rowsEnd}
 use Rattle.table.specs.declared.records.Rows.{Rows}
 use Rattle.table.specs.declared.records.Settings.{Settings}
 use Rattle.table.specs.declared.records.Indicator.{Indicator}
 use Rattle.table.specs.declared.records.Columns.{Columns}
-use Rattle.table.proofs.Held.{held, room}
+use Rattle.table.proofs.Held.{room}
 use Rattle.table.proofs.Walks.{rows-number}
 use Rattle.arrangement.specs.declared.Widths.{Widths}
-use Rattle.arrangement.specs.Widths.{styleFrom, widthsOf}
+use Rattle.arrangement.specs.Widths.{styleFrom, arrangedWidths}
 use Rattle.row.specs.View.{View, noColumn as noVisible, visibleAt, shownOf, numberOf, Views}
 use Rattle.row.specs.Open.{Rising, WideAll}
 use Rattle.row.specs.Packed.{columnFrom, viewOf}
@@ -50,7 +50,7 @@ use Rattle.display_info.specs.Opened.{stylesOf, RowsAt}
 use Rattle.display_info.specs.Opening.{shownFrom, behind, showing}
 
 -- the table of a sheet that passes keeps every limit
-pub limits-of : (s : List ℕ) → Passes s → TableLimits (tableOf s)
+pub limits-of : (s : List ℕ) → IsAccepted s → TableLimits (tableOf s)
 unfolding tableOf
 limits-of s h = let r = checked-reading s h in let e = r .reads in rw e (accepted-limits s (r .table) (r .end) e)
 
@@ -196,8 +196,8 @@ pub columns-count : (t : Table) (x : Columns) → x ≡ columnsOf t → x .count
 unfolding columnsOf
 columns-count t x e = rw e
 
-pub width-is : (t : Table) (x : Widths) (j : ℕ) → x ≡ widthsOf t → j < length (t .columns) → getD (x .content) j 0 ≡ getD (contents t) j 0
-unfolding widthsOf padded
+pub width-is : (t : Table) (x : Widths) (j : ℕ) → x ≡ arrangedWidths t → j < length (t .columns) → getD (x .content) j 0 ≡ getD (contents t) j 0
+unfolding arrangedWidths asArray
 width-is t x j e h = rw e (List·getD-append (contents t) (replicate (mostColumns - length (contents t)) 0) 0 j (omega (arith, length-contents t)))
 
 pub delimiter-is : (t : Table) (x : Settings) (d : ℕ) → x ≡ settingsOf t → d ≡ orElse (x .delimiter) 32 → d ≡ orElse (t .delimiter) 32
@@ -254,7 +254,7 @@ module _ (t : Table) (view : View) (T : TableLimits t) (W : Views t (contents t)
 
 -- ---- header and rows
 
-module _ (s : List ℕ) (passes : Passes s) (c : Rows) where
+module _ (s : List ℕ) (passes : IsAccepted s) (c : Rows) where
   pub header-at : rowsIn s c ≡ tableOf s .header → rowsEnd s c ≡ rowsPlace s → RowsAt s c
   header-at e f = let m = room s passes in record { ends = omega (arith, f); sound = rw e (limits-of s passes .header-row) }
 

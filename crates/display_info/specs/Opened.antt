@@ -8,7 +8,7 @@ use Rattle.rules.specs.Text.{All}
 use Rattle.rules.specs.Limits.{RowLimits}
 use Rattle.rules.specs.Style.{topBorder, headerLines, headerRule, contentLines, rowRule, bottomBorder, anyJunction, isVisible}
 use Rattle.rules.specs.Widths.{contents}
-use Rattle.table.specs.Held.{Passes, tableOf}
+use Rattle.table.specs.Held.{IsAccepted, tableOf}
 use Rattle.table.specs.Walk.{rowsIn, rowsEnd}
 use Rattle.table.specs.declared.records.Rows.{Rows}
 use Rattle.row.specs.Open.{Rising, WideAll}
@@ -42,7 +42,7 @@ pub record RowsAt (s : List ℕ) (c : Rows) : Type 0 where
 
 -- a page over some rows is drawn from the sheet's columns, indicator, style and header
 pub record Opened (s : List ℕ) (columns : List (List ℕ)) (p : Page) : Type 0 where
-  pub passes : Passes s
+  pub passes : IsAccepted s
   pub views : Views (tableOf s) (widthsIn s) (viewOf columns (p .count))
   pub rising : Rising (viewOf columns (p .count))
   pub wide : WideAll (viewOf columns (p .count))

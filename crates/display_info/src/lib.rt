@@ -4,11 +4,11 @@ ghost use Prim.Native.Nat.{_+_, _<_};
 ghost use lib.ListN.{length};
 ghost use Rattle.rules.specs.Sheet.{mostColumns};
 ghost use Rattle.rules.specs.Style as characters;
-ghost use Rattle.rules.specs.Style.{anyLeft, anyRight, anyJunction};
+ghost use Rattle.rules.specs.Style.{styleCharacters, anyLeft, anyRight, anyJunction};
 ghost use Rattle.rules.specs.Widths.{contents};
-ghost use Rattle.table.specs.Held.{Passes, tableOf};
+ghost use Rattle.table.specs.Held.{IsAccepted, tableOf};
 ghost use Rattle.table.specs.Walk.{rowsIn};
-ghost use Rattle.arrangement.specs.Widths.{styleFrom, widthsOf};
+ghost use Rattle.arrangement.specs.Widths.{styleFrom, arrangedWidths};
 ghost use Rattle.row.specs.View.{Views};
 ghost use Rattle.formatting.specs.Stand.{textStyleOf};
 ghost use Rattle.borders.specs.Rule.{ruleStyleOf, NarrowAll};
@@ -22,13 +22,20 @@ use borders::RuleStyle;
 use formatting::content_format::TextStyle;
 use row::VisibleColumn;
 use row::packed;
+use rules::BOTTOM_BORDER;
+use rules::CONTENT_LINES;
 use rules::Column;
+use rules::HEADER_LINES;
+use rules::HEADER_RULE;
 use rules::MOST_COLUMNS;
+use rules::ROW_RULE;
+use rules::STYLE_CHARACTERS;
+use rules::TOP_BORDER;
+use style::table_style::TableStyle;
 use table::records::Indicator;
 use table::records::Rows;
 use table::settings;
 use table::walk;
-use style::table_style::TableStyle;
 
 // How the lines of a row look: its text lines, the rule after it, and whether that rule is visible.
 pub struct RowStyle {
@@ -64,8 +71,14 @@ fn glyph(c: u8) -> u8
 }
 
 // A border or a rule, whose four characters begin at k.
-fn rule_style(b: [u8; 22], k: usize, opens: bool, joined: bool, closes: bool) -> RuleStyle
-    requires { ⌜ (k + 3 < 22) × ((opens ≡ anyLeft b) × (closes ≡ anyRight b)) ⌝ }
+fn rule_style(
+    b: [u8; STYLE_CHARACTERS],
+    k: usize,
+    opens: bool,
+    joined: bool,
+    closes: bool,
+) -> RuleStyle
+    requires { ⌜ (k + 3 < styleCharacters) × ((opens ≡ anyLeft b) × (closes ≡ anyRight b)) ⌝ }
     ensures { λ r. ⌜ r ≡ ruleStyleOf b joined k ⌝ }
 {
     RuleStyle {
@@ -80,8 +93,14 @@ fn rule_style(b: [u8; 22], k: usize, opens: bool, joined: bool, closes: bool) ->
 }
 
 // Text lines, whose three characters begin at k.
-fn text_style(b: [u8; 22], k: usize, opens: bool, joined: bool, closes: bool) -> TextStyle
-    requires { ⌜ (k + 2 < 22) × ((opens ≡ anyLeft b) × ((joined ≡ anyJunction b) × (closes ≡ anyRight b))) ⌝ }
+fn text_style(
+    b: [u8; STYLE_CHARACTERS],
+    k: usize,
+    opens: bool,
+    joined: bool,
+    closes: bool,
+) -> TextStyle
+    requires { ⌜ (k + 2 < styleCharacters) × ((opens ≡ anyLeft b) × ((joined ≡ anyJunction b) × (closes ≡ anyRight b))) ⌝ }
     ensures { λ r. ⌜ r ≡ textStyleOf b k ⌝ }
 {
     TextStyle {
@@ -95,16 +114,22 @@ fn text_style(b: [u8; 22], k: usize, opens: bool, joined: bool, closes: bool) ->
 }
 
 // The six kinds of line, once it is known which edges are drawn. Borders put a junction between columns even where no junction is set.
-fn styles_by(b: [u8; 22], style: TableStyle, opens: bool, joined: bool, closes: bool) -> LineStyles
+fn styles_by(
+    b: [u8; STYLE_CHARACTERS],
+    style: TableStyle,
+    opens: bool,
+    joined: bool,
+    closes: bool,
+) -> LineStyles
     requires { ⌜ (style ≡ styleFrom b) × ((opens ≡ anyLeft b) × ((joined ≡ anyJunction b) × (closes ≡ anyRight b))) ⌝ }
     ensures { λ r. ⌜ r ≡ stylesOf b ⌝ }
 {
-    let top = rule_style(b, 0, opens, true, closes);
-    let header_lines = text_style(b, 4, opens, joined, closes);
-    let header_rule = rule_style(b, 7, opens, joined, closes);
-    let content_lines = text_style(b, 11, opens, joined, closes);
-    let row_rule = rule_style(b, 14, opens, joined, closes);
-    let bottom = rule_style(b, 18, opens, true, closes);
+    let top = rule_style(b, TOP_BORDER, opens, true, closes);
+    let header_lines = text_style(b, HEADER_LINES, opens, joined, closes);
+    let header_rule = rule_style(b, HEADER_RULE, opens, joined, closes);
+    let content_lines = text_style(b, CONTENT_LINES, opens, joined, closes);
+    let row_rule = rule_style(b, ROW_RULE, opens, joined, closes);
+    let bottom = rule_style(b, BOTTOM_BORDER, opens, true, closes);
     let header = RowStyle {
         lines: header_lines,
         rule: header_rule,
@@ -126,7 +151,7 @@ fn styles_by(b: [u8; 22], style: TableStyle, opens: bool, joined: bool, closes: 
 }
 
 // How the lines of a page look, by the style's characters.
-fn styles(b: [u8; 22]) -> LineStyles
+fn styles(b: [u8; STYLE_CHARACTERS]) -> LineStyles
     ensures { λ r. ⌜ r ≡ stylesOf b ⌝ }
 {
     let style = layout::style_from(b);
@@ -166,7 +191,7 @@ fn show_column(
 
 // The visible columns, from left to right; gives their count.
 fn show_columns(sheet: &[u8], widths: Widths, columns: &mut [[usize; 6]; MOST_COLUMNS]) -> usize
-    requires { ⌜ Passes (now sheet) × ((widths ≡ widthsOf (tableOf (now sheet))) × (length (now columns) ≡ mostColumns)) ⌝ }
+    requires { ⌜ IsAccepted (now sheet) × ((widths ≡ arrangedWidths (tableOf (now sheet))) × (length (now columns) ≡ mostColumns)) ⌝ }
     ensures { λ r. ⌜ Views (tableOf (now (sheet .entry))) (contents (tableOf (now (sheet .entry)))) (viewOf (now (columns .exit)) r) × (Rising (viewOf (now (columns .exit)) r) × (WideAll (viewOf (now (columns .exit)) r) × NarrowAll (viewOf (now (columns .exit)) r))) ⌝ }
 {
     let head = settings::settings(sheet);
@@ -185,8 +210,8 @@ fn show_columns(sheet: &[u8], widths: Widths, columns: &mut [[usize; 6]; MOST_CO
 
 // The content widths of an accepted sheet.
 pub fn content_widths(sheet: &[u8]) -> Widths
-    requires { ⌜ Passes (now sheet) ⌝ }
-    ensures { λ r. ⌜ r ≡ widthsOf (tableOf (now (sheet .entry))) ⌝ }
+    requires { ⌜ IsAccepted (now sheet) ⌝ }
+    ensures { λ r. ⌜ r ≡ arrangedWidths (tableOf (now (sheet .entry))) ⌝ }
 {
     let t = layout::layout(sheet);
     arrangement::arrange_content(sheet, t)
@@ -194,7 +219,7 @@ pub fn content_widths(sheet: &[u8]) -> Widths
 
 // The page over all rows of the sheet.
 pub fn open(sheet: &[u8], columns: &mut [[usize; 6]; MOST_COLUMNS]) -> Page
-    requires { ⌜ Passes (now sheet) × (length (now columns) ≡ mostColumns) ⌝ }
+    requires { ⌜ IsAccepted (now sheet) × (length (now columns) ≡ mostColumns) ⌝ }
     ensures { λ r. ⌜ Opened (now (sheet .entry)) (now (columns .exit)) r × (rowsIn (now (sheet .entry)) (r .rows) ≡ tableOf (now (sheet .entry)) .rows) ⌝ }
 {
     let widths = content_widths(sheet);

@@ -10,7 +10,7 @@ use lib.Seq.{slice, length-slice, take-all, take-length, length-take-le, take-ta
 use lib.Dec.{leb}
 use borrow.Author.Tests.{le-leb, lt-leb}
 use Rattle.rules.specs.Text.{textWidth, firstOf, blank}
-use Rattle.rules.specs.Wrap.{fitting, cutLine}
+use Rattle.rules.specs.Wrap.{shownIndicator, cutLine}
 use Rattle.rules.specs.Page.{before}
 use Rattle.rules.proofs.Text.{width-length, width-append}
 use Rattle.rules.proofs.Sizes.{before-le}
@@ -74,13 +74,13 @@ take-min a b l =
     (λ (h : b < a). let z : min b a ≡ b = omega arith in rw (z, take-all a (take b l) (omega (arith, length-take b l))))
     (le-or-lt a b)
 
-fitting-whole : (w : ℕ) (ind : List ℕ) → leb (length ind) w ≡ true → fitting w ind ≡ ind
-unfolding fitting
-fitting-whole w ind e = rw (width-length ind, e, fitting)
+fitting-whole : (w : ℕ) (ind : List ℕ) → leb (length ind) w ≡ true → shownIndicator w ind ≡ ind
+unfolding shownIndicator
+fitting-whole w ind e = rw (width-length ind, e, shownIndicator)
 
-fitting-none : (w : ℕ) (ind : List ℕ) → leb (length ind) w ≡ false → fitting w ind ≡ []
-unfolding fitting
-fitting-none w ind e = rw (width-length ind, e, fitting)
+fitting-none : (w : ℕ) (ind : List ℕ) → leb (length ind) w ≡ false → shownIndicator w ind ≡ []
+unfolding shownIndicator
+fitting-none w ind e = rw (width-length ind, e, shownIndicator)
 
 -- a cut line: its first bytes, and the indicator's
 cut-line : (b : Bool) (w : ℕ) (ind l : List ℕ) → leb (length ind) w ≡ b
@@ -97,9 +97,6 @@ lent-slice (suc a) zero (x ∷ l) = let z : 0 - suc a ≡ 0 = omega arith in rw 
 lent-slice (suc a) (suc e) (x ∷ l) = let z : suc e - suc a ≡ e - a = omega arith in rw z (lent-slice a e l)
 
 module _ (s : List ℕ) (w : ℕ) (t : Pending) (I : InSheet s w t) where
-  line : List ℕ
-  line = firstLine s (t .line .cursor .lines)
-
   pending-length : length (pendingText s t) ≡ t .line .end - t .line .start
   pending-length = length-slice (t .line .start) (t .line .end) (firstLine s (t .line .cursor .lines)) (I .within)
 

@@ -5,9 +5,9 @@ use mathlib.Core.List.{List, [], _++_}
 use mathlib.Core.Bool.{Bool, _||_}
 use lib.ListN.{length, take, set, getD}
 use Rattle.table.specs.declared.records.Indicator.{Indicator}
-use Rattle.buffer.specs.Put.{putAt, build, edge, lead}
+use Rattle.buffer.specs.Put.{putAt, build, byteIf, lead}
 use Rattle.cells.specs.Cell.{Inside}
-use Rattle.row.specs.Pending.{InSheet, pendingAt, Ready}
+use Rattle.row.specs.Pending.{InSheet, pendingAt}
 use Rattle.row.specs.View.{visibleAt}
 use Rattle.row.specs.Packed.{columnFrom, pendingFrom, viewOf, pendingsOf}
 use Rattle.row.specs.declared.VisibleColumn.{VisibleColumn}
@@ -45,14 +45,14 @@ module _ (s : List ℕ) (cols : List (List ℕ)) (n : ℕ) (ind : Indicator) (st
       at i D h in
       rw (fv, ft) (r .line, (r .inside, (r .wide, k)))
 
-  pub column-room : at + (length (edge j (style .junction)) + (v .left + (v .width + v .right))) ≤ length page
+  pub column-room : at + (length (byteIf j (style .junction)) + (v .left + (v .width + v .right))) ≤ length page
   column-room =
       rw (fv, ej) (drawing-room s (viewOf cols n) (take (ind .count) (ind .characters)) style (pendingsOf st₀) last page₀ at₀ R page (pendingsOf st)
       more at i D h room)
 
   pub column-drawn : (page₁ : List ℕ) (u : Pending) (at₁ : ℕ) (m : Bool) (z : List ℕ)
-      → at₁ ≡ at + (length (edge j (style .junction)) + (v .left + (v .width + v .right))) → After s (v .width) t u
-      → page₁ ≡ putAt page at (edge j (style .junction) ++ columnPiece s v t (take (ind .count) (ind .characters)) last)
+      → at₁ ≡ at + (length (byteIf j (style .junction)) + (v .left + (v .width + v .right))) → After s (v .width) t u
+      → page₁ ≡ putAt page at (byteIf j (style .junction) ++ columnPiece s v t (take (ind .count) (ind .characters)) last)
       → length page₁ ≡ length page → m ≡ (more || u .line .found) → u ≡ pendingFrom z
       → Drawing s (viewOf cols n) (take (ind .count) (ind .characters)) style (pendingsOf st₀) last page₀ at₀ page₁ (pendingsOf (set st i z)) m at₁
       (i + 1)

@@ -13,7 +13,7 @@ use lib.Dec.{ltb}
 use Rattle.rules.specs.Text.{textWidth}
 use Rattle.rules.specs.Sheet.{mostColumns}
 use Rattle.rules.proofs.Fits.{short-cutLine}
-use Rattle.buffer.specs.Put.{over, putAt, build, edge, lead}
+use Rattle.buffer.specs.Put.{over, putAt, build, byteIf, lead}
 use Rattle.buffer.proofs.Laws.{put-nil, put-one, over-put-zero, build-room, build-more, two}
 use Rattle.row.specs.Pending.{InSheet, pendingText, following, noPending, pendingAt, Ready, anyFound}
 use Rattle.row.specs.View.{View, visibleAt}
@@ -78,31 +78,31 @@ unfolding columnPiece
 piece-length s v t ind last h = area-length v (t .alignment) _ (shown-length s (v .width) ind (last && ltb 0 (length (following s (v .width) t))) t h)
 
 module _ (s : List ℕ) (view : View) (ind : List ℕ) (style : TextStyle) (ts : List Pending) (last : Bool) where
-  pub line-is : lineBytes s view ind style ts last ≡ edge (style .opens) (style .left) ++
-      (build (linePiece s view ind style ts last) (view .count) ++ (edge (style .closes) (style .right) ++ (10 ∷ [])))
+  pub line-is : lineBytes s view ind style ts last ≡ byteIf (style .opens) (style .left) ++
+      (build (linePiece s view ind style ts last) (view .count) ++ (byteIf (style .closes) (style .right) ++ (10 ∷ [])))
   unfolding lineBytes
   line-is = refl
 
   pub line-length : length (lineBytes s view ind style ts last)
-      ≡ length (edge (style .opens) (style .left)) + length (build (linePiece s view ind style ts last) (view .count)) + length
-      (edge (style .closes) (style .right)) + 1
+      ≡ length (byteIf (style .opens) (style .left)) + length (build (linePiece s view ind style ts last) (view .count)) + length
+      (byteIf (style .closes) (style .right)) + 1
   unfolding lineBytes
   line-length =
-      let l = edge (style .opens) (style .left) in
+      let l = byteIf (style .opens) (style .left) in
       let b = build (linePiece s view ind style ts last) (view .count) in
-      let r = edge (style .closes) (style .right) in
+      let r = byteIf (style .closes) (style .right) in
       omega (arith, length-append l (b ++ (r ++ (10 ∷ []))), length-append b (r ++ (10 ∷ [])), length-append r (10 ∷ []))
 
   -- the whole, once its last byte is stored
-  pub line-whole : (d d₁ d₂ d₃ : List ℕ) (p q e : ℕ) → d₁ ≡ putAt d 0 (edge (style .opens) (style .left)) → d₂ ≡ putAt d₁ p
+  pub line-whole : (d d₁ d₂ d₃ : List ℕ) (p q e : ℕ) → d₁ ≡ putAt d 0 (byteIf (style .opens) (style .left)) → d₂ ≡ putAt d₁ p
       (build (linePiece s view ind style ts last) (view .count))
-      → d₃ ≡ putAt d₂ q (edge (style .closes) (style .right)) → length (edge (style .opens) (style .left)) ≡ p → p + length
+      → d₃ ≡ putAt d₂ q (byteIf (style .closes) (style .right)) → length (byteIf (style .opens) (style .left)) ≡ p → p + length
       (build (linePiece s view ind style ts last) (view .count)) ≡ q
-      → q + length (edge (style .closes) (style .right)) ≡ e → e < length d₃ → set d₃ e 10 ≡ over (lineBytes s view ind style ts last) d
+      → q + length (byteIf (style .closes) (style .right)) ≡ e → e < length d₃ → set d₃ e 10 ≡ over (lineBytes s view ind style ts last) d
   line-whole d d₁ d₂ d₃ p q e e₁ e₂ e₃ x y z h =
-      let l = edge (style .opens) (style .left) in
+      let l = byteIf (style .opens) (style .left) in
       let b = build (linePiece s view ind style ts last) (view .count) in
-      let r = edge (style .closes) (style .right) in
+      let r = byteIf (style .closes) (style .right) in
       let f : d₂ ≡ putAt d 0 (l ++ b) = two d 0 l b d₁ d₂ p e₁ e₂ (omega arith) (omega arith) in
       let g : d₃ ≡ putAt d 0 ((l ++ b) ++ r) = two d 0 (l ++ b) r d₂ d₃ q f e₃ (omega (arith, length-append l b)) (omega arith) in
       let i : set d₃ e 10 ≡ putAt d 0 (((l ++ b) ++ r) ++ (10 ∷ [])) =
@@ -132,30 +132,30 @@ module _ (s : List ℕ) (view : View) (ind : List ℕ) (style : TextStyle) (ts�
     pub column-ready : Ready s (visibleAt view i) (pendingAt ts i)
     column-ready = ready
 
-    piece-at : edge (lead i (style .joined)) (style .junction) ++ columnPiece s (visibleAt view i) (pendingAt ts i) ind last ≡ linePiece s view ind
+    piece-at : byteIf (lead i (style .joined)) (style .junction) ++ columnPiece s (visibleAt view i) (pendingAt ts i) ind last ≡ linePiece s view ind
         style ts₀ last i
     unfolding linePiece
     piece-at = rw (D .passing .todo i (omega arith))
 
-    here-length : length (linePiece s view ind style ts₀ last i) ≡ length (edge (lead i (style .joined)) (style .junction)) +
+    here-length : length (linePiece s view ind style ts₀ last i) ≡ length (byteIf (lead i (style .joined)) (style .junction)) +
         (visibleAt view i .left + (visibleAt view i .width + visibleAt view i .right))
     here-length =
         sym (ap length piece-at)
-        ∙ length-append (edge (lead i (style .joined)) (style .junction)) (columnPiece s (visibleAt view i) (pendingAt ts i) ind last)
-        ∙ ap (λ n. length (edge (lead i (style .joined)) (style .junction)) + n)
+        ∙ length-append (byteIf (lead i (style .joined)) (style .junction)) (columnPiece s (visibleAt view i) (pendingAt ts i) ind last)
+        ∙ ap (λ n. length (byteIf (lead i (style .joined)) (style .junction)) + n)
         (piece-length s (visibleAt view i) (pendingAt ts i) ind last (ready .line))
 
     pub drawing-room : at₀ + length (build (linePiece s view ind style ts₀ last) (view .count)) ≤ length page₀
-        → at + (length (edge (lead i (style .joined)) (style .junction)) +
+        → at + (length (byteIf (lead i (style .joined)) (style .junction)) +
         (visibleAt view i .left + (visibleAt view i .width + visibleAt view i .right))) ≤ length page
     drawing-room r = omega (arith, D .place, D .size, here-length, build-room (linePiece s view ind style ts₀ last) i (view .count) h)
 
     pub drawing-on : (page₁ : List ℕ) (u : Pending) (at₁ : ℕ) (m : Bool) → at₀ + length (build (linePiece s view ind style ts₀ last) (view .count)) ≤
         length page₀
-        → at₁ ≡ at + (length (edge (lead i (style .joined)) (style .junction)) +
+        → at₁ ≡ at + (length (byteIf (lead i (style .joined)) (style .junction)) +
         (visibleAt view i .left + (visibleAt view i .width + visibleAt view i .right)))
         → After s (visibleAt view i .width) (pendingAt ts i) u
-        → page₁ ≡ putAt page at (edge (lead i (style .joined)) (style .junction) ++ columnPiece s (visibleAt view i) (pendingAt ts i) ind last)
+        → page₁ ≡ putAt page at (byteIf (lead i (style .joined)) (style .junction) ++ columnPiece s (visibleAt view i) (pendingAt ts i) ind last)
         → length page₁ ≡ length page → m ≡ (more || u .line .found) → Drawing s view ind style ts₀ last page₀ at₀ page₁ (set ts i u) m at₁ (i + 1)
     drawing-on page₁ u at₁ m r e a w l x =
         let g = linePiece s view ind style ts₀ last in

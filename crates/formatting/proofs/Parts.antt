@@ -8,7 +8,7 @@ use lib.ListN.{length, take, drop, length-append, length-drop}
 use lib.Dec.{leb}
 use borrow.Author.Tests.{leb-true, leb-false, le-leb, lt-leb}
 use borrow.Rule.Slice.PartMut.{putMid}
-use Rattle.rules.specs.Page.{closed, fitting}
+use Rattle.rules.specs.Page.{closed, wholeLines}
 use Rattle.rules.proofs.Fitting.{fitting-none, fitting-more, fitting-stops, fitted, fitting-few, fitting-past, fitting-within}
 use Rattle.rules.proofs.Sizes.{closed-none, closed-one, closed-append}
 use Rattle.buffer.specs.Put.{over, putAt}
@@ -31,7 +31,7 @@ part-none b =
 pub part-line : (l b a : List ℕ) → length l + 1 ≤ length b → a ≡ over (l ++ (10 ∷ [])) b → PartIs (l ∷ []) b a
     (record { lines = 1; bytes = length l + 1; whole = true })
 part-line l b a h e =
-    let f : fitting (length b) (l ∷ []) ≡ l ∷ [] = fitting-more (length b) l [] h ∙ ap (λ ls. l ∷ ls) (fitting-none (length b - (length l + 1))) in
+    let f : wholeLines (length b) (l ∷ []) ≡ l ∷ [] = fitting-more (length b) l [] h ∙ ap (λ ls. l ∷ ls) (fitting-none (length b - (length l + 1))) in
     record {
       lines = rw f;
       bytes = rw (f, closed-one l) (sym (length-append l (10 ∷ [])));
@@ -53,13 +53,13 @@ part-full l ls b h =
 
 -- a part keeps the buffer's length
 pub part-length : (ls : List (List ℕ)) (b a : List ℕ) (r : Part) → PartIs ls b a r → length a ≡ length b
-part-length ls b a r P = ap length (P .page) ∙ length-over (closed (fitting (length b) ls)) b (fitted (length b) ls)
+part-length ls b a r P = ap length (P .page) ∙ length-over (closed (wholeLines (length b) ls)) b (fitted (length b) ls)
 
 pub part-room : (ls : List (List ℕ)) (b a : List ℕ) (r : Part) → PartIs ls b a r → r .bytes ≤ length a
 part-room ls b a r P = omega (arith, P .bytes, fitted (length b) ls, part-length ls b a r P)
 
 -- all of it was written
-pub part-whole : (ls : List (List ℕ)) (b a : List ℕ) (r : Part) → PartIs ls b a r → r .whole ≡ true → length (fitting (length b) ls) ≡ length ls
+pub part-whole : (ls : List (List ℕ)) (b a : List ℕ) (r : Part) → PartIs ls b a r → r .whole ≡ true → length (wholeLines (length b) ls) ≡ length ls
 part-whole ls b a r P w = omega (arith, P .lines, fitting-few (length b) ls, leb-true (length ls) (r .lines) (sym (P .whole) ∙ w))
 
 leb-add : (a b c : ℕ) → leb b c ≡ leb (a + b) (a + c)
@@ -82,15 +82,15 @@ part-join ls ms b a c ys r q P w Q e =
     let room = part-room ls b a r P in
     let size : length (take (length a - r .bytes) (drop (r .bytes) a)) ≡ length b - length (closed ls) =
     ap length (lent a (r .bytes)) ∙ length-drop (r .bytes) a ∙ omega (arith, at, part-length ls b a r P) in
-    let rest = fitting (length b - length (closed ls)) ms in
-    let lines : q .lines ≡ length (fitting (length b - length (closed ls)) ms) = Q .lines ∙ ap (λ k. length (fitting k ms)) size in
-    let bytes : q .bytes ≡ length (closed (fitting (length b - length (closed ls)) ms)) = Q .bytes ∙ ap (λ k. length (closed (fitting k ms))) size in
-    let text : ys ≡ over (closed (fitting (length b - length (closed ls)) ms)) (take (length a - r .bytes) (drop (r .bytes) a)) =
-    Q .page ∙ ap (λ k. over (closed (fitting k ms)) (take (length a - r .bytes) (drop (r .bytes) a))) size in
-    let both = closed-append ls (fitting (length b - length (closed ls)) ms) in
+    let rest = wholeLines (length b - length (closed ls)) ms in
+    let lines : q .lines ≡ length (wholeLines (length b - length (closed ls)) ms) = Q .lines ∙ ap (λ k. length (wholeLines k ms)) size in
+    let bytes : q .bytes ≡ length (closed (wholeLines (length b - length (closed ls)) ms)) = Q .bytes ∙ ap (λ k. length (closed (wholeLines k ms))) size in
+    let text : ys ≡ over (closed (wholeLines (length b - length (closed ls)) ms)) (take (length a - r .bytes) (drop (r .bytes) a)) =
+    Q .page ∙ ap (λ k. over (closed (wholeLines k ms)) (take (length a - r .bytes) (drop (r .bytes) a))) size in
+    let both = closed-append ls (wholeLines (length b - length (closed ls)) ms) in
     let over-ls : a ≡ over (closed ls) b = P .page ∙ ap (λ l. over (closed l) b) (past .0) in
     record {
-      lines = omega (arith, lines, P .lines, all, ap length (past .1), length-append ls (fitting (length b - length (closed ls)) ms));
+      lines = omega (arith, lines, P .lines, all, ap length (past .1), length-append ls (wholeLines (length b - length (closed ls)) ms));
       bytes = omega (
         arith,
         bytes,
@@ -98,11 +98,11 @@ part-join ls ms b a c ys r q P w Q e =
         ap (λ l. length (closed l)) (past .1),
         ap length both,
         length-append (closed ls)
-            (closed (fitting (length b - length (closed ls)) ms)),
+            (closed (wholeLines (length b - length (closed ls)) ms)),
       );
-      page = e ∙ lent-back a (r .bytes) (closed (fitting (length b - length (closed ls)) ms)) ys room text
-          ∙ ap (λ d. putAt d (r .bytes) (closed (fitting (length b - length (closed ls)) ms))) over-ls
-          ∙ over-put (closed ls) b (closed (fitting (length b - length (closed ls)) ms)) (r .bytes) (sym at)
+      page = e ∙ lent-back a (r .bytes) (closed (wholeLines (length b - length (closed ls)) ms)) ys room text
+          ∙ ap (λ d. putAt d (r .bytes) (closed (wholeLines (length b - length (closed ls)) ms))) over-ls
+          ∙ over-put (closed ls) b (closed (wholeLines (length b - length (closed ls)) ms)) (r .bytes) (sym at)
           ∙ ap (λ l. over l b) (sym both ∙ ap closed (sym (past .1)));
       whole = Q .whole ∙ leb-add (length ls) (length ms) (q .lines)
           ∙ rw (← length-append ls ms) (ap (λ k. leb (length (ls ++ ms)) (k + q .lines)) (omega (arith, P .lines, all)));

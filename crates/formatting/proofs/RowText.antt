@@ -1,13 +1,13 @@
 -- Lines of a row drawn one after another. Assumes nothing.
-use Prim.Native.Nat.{ℕ, zero, suc, _+_, _-_, _≤_, _<_}
+use Prim.Native.Nat.{ℕ, suc, _+_, _-_, _≤_, _<_}
 use mathlib.Core.Path.{_≡_, refl, sym, ap, subst, _∙_}
 use mathlib.Core.List.{List, [], _∷_, _++_, map}
 use mathlib.Core.Bool.{Bool, true, false, not, _&&_}
 use native.Mathlib.Omega.{arith}
 use lib.ListN.{length, take, drop, getD, length-append, length-map, length-drop, take-append-drop}
 use lib.Seq.{take-suc, take-all, getD-drop, drop-cons}
-use lib.Dec.{ltb, leb}
-use borrow.Author.Tests.{ltb-true, ltb-false, lt-ltb, le-ltb, leb-true, leb-false}
+use lib.Dec.{leb}
+use borrow.Author.Tests.{ltb-true, ltb-false, leb-true, leb-false}
 use borrow.Rule.Slice.PartMut.{putMid}
 use Rattle.rules.specs.Sheet.{Row}
 use Rattle.rules.specs.Widths.{visible, contents}
@@ -23,9 +23,8 @@ use Rattle.formatting.specs.Line.{lineBytes, AfterAll, ReadyAll}
 use Rattle.row.specs.Pending.{anyFound}
 use Rattle.formatting.specs.Part.{PartIs}
 use Rattle.formatting.specs.RowText.{styled, rowLines, rowHeight, Marks, Sized, StandsAt}
-use Rattle.formatting.specs.Stand.{StandsRow, inLimit, lastOf}
+use Rattle.formatting.specs.Stand.{inLimit, lastOf}
 use Rattle.row.specs.Open.{OpenedRow}
-use Rattle.formatting.specs.declared.content_format.Part.{Part}
 use Rattle.row.specs.declared.Pending.{Pending}
 use Rattle.formatting.specs.declared.content_format.TextStyle.{TextStyle}
 use Rattle.formatting.proofs.Parts.{part-none, part-line, part-full, part-length, part-room, part-join}

@@ -13,7 +13,7 @@ use Rattle.rules.specs.Style.{glyphAt, anyLeft, anyRight, anyJunction}
 use Rattle.rules.specs.Widths.{visible}
 use Rattle.rules.specs.Page.{areaAt, cellLines, wrapped, height, joined, lineOf, textLine}
 use Rattle.rules.proofs.Lists.{upFrom-last}
-use Rattle.buffer.specs.Put.{build, edge, lead}
+use Rattle.buffer.specs.Put.{build, byteIf, lead}
 use Rattle.row.specs.View.{View, visibleAt, shownOf, numberOf, Views}
 use Rattle.row.specs.Pending.{pendingAt, anyFound}
 use Rattle.row.specs.Open.{OpenedAt, OpenedRow}
@@ -46,18 +46,14 @@ module _ (s : List ℕ) (t : Table) (ws : List ℕ) (r : Row) (view : View) (W :
   unfolding lineBytes linePiece styled lineOf
   line-styled y e =
       let g : ℕ → List ℕ = λ i. areaAt t ws r j (numberOf t i) in
-      let p : build (λ i. edge (lead i (y .joined)) (y .junction) ++ columnPiece s (visibleAt view i) (pendingAt ts i) (t .indicator)
+      let p : build (λ i. byteIf (lead i (y .joined)) (y .junction) ++ columnPiece s (visibleAt view i) (pendingAt ts i) (t .indicator)
       (lastOf (r .limit) j)) (view .count)
-      ≡ build (λ i. edge (lead i (y .joined)) (y .junction) ++ g i) (view .count) =
-      build-same _ _ (view .count) (λ i h. ap (λ l. edge (lead i (y .joined)) (y .junction) ++ l)
+      ≡ build (λ i. byteIf (lead i (y .joined)) (y .junction) ++ g i) (view .count) =
+      build-same _ _ (view .count) (λ i h. ap (λ l. byteIf (lead i (y .joined)) (y .junction) ++ l)
       (piece-area s t ws r view W j i (pendingAt ts i) h (R .each i h) e)) in
       let q : map (areaAt t ws r j) (visible t) ≡ map g (upFrom 0 (view .count)) = map-numbered (areaAt t ws r j) 0 (visible t) ∙ ap
       (λ n. map g (upFrom 0 n)) (sym (W .count)) in
       rw (p, build-joined (y .joined) (y .junction) g (view .count), q) (simp append-assoc)
-
-  pub line-drawn : (S : List ℕ) (k : ℕ) → inLimit (r .limit) j ≡ true
-      → lineBytes s view (t .indicator) (textStyleOf S k) ts (lastOf (r .limit) j) ≡ textLine S k (map (areaAt t ws r j) (visible t)) ++ (10 ∷ [])
-  line-drawn S k e = line-styled (textStyleOf S k) e ∙ ap (λ l. l ++ (10 ∷ [])) (styled-text S k (map (areaAt t ws r j) (visible t)))
 
 -- ---- a row's height
 

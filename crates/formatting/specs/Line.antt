@@ -5,7 +5,7 @@ use mathlib.Core.List.{List, [], _∷_, _++_}
 use mathlib.Core.Bool.{Bool}
 use lib.ListN.{length}
 use Rattle.rules.specs.Sheet.{mostColumns}
-use Rattle.buffer.specs.Put.{build, edge, lead}
+use Rattle.buffer.specs.Put.{build, byteIf, lead}
 use Rattle.row.specs.declared.Pending.{Pending}
 use Rattle.row.specs.View.{View, visibleAt}
 use Rattle.row.specs.Pending.{pendingAt, Ready}
@@ -14,12 +14,12 @@ use Rattle.formatting.specs.declared.content_format.TextStyle.{TextStyle
 
 -- what visible column i adds, ind being the indicator
 unfoldable pub linePiece : List ℕ → View → List ℕ → TextStyle → List Pending → Bool → ℕ → List ℕ
-linePiece s view ind style ts last i = edge (lead i (style .joined)) (style .junction) ++ columnPiece s (visibleAt view i) (pendingAt ts i) ind last
+linePiece s view ind style ts last i = byteIf (lead i (style .joined)) (style .junction) ++ columnPiece s (visibleAt view i) (pendingAt ts i) ind last
 
 -- the line with its 0A
 unfoldable pub lineBytes : List ℕ → View → List ℕ → TextStyle → List Pending → Bool → List ℕ
 lineBytes s view ind style ts last =
-    edge (style .opens) (style .left) ++ (build (linePiece s view ind style ts last) (view .count) ++ (edge (style .closes) (style .right) ++ (10 ∷ [])))
+    byteIf (style .opens) (style .left) ++ (build (linePiece s view ind style ts last) (view .count) ++ (byteIf (style .closes) (style .right) ++ (10 ∷ [])))
 
 -- every visible column has a width, and its cell stands in the sheet
 pub record ReadyAll (s : List ℕ) (view : View) (ts : List Pending) : Type 0 where

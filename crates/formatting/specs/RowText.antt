@@ -6,14 +6,14 @@ use mathlib.Core.Bool.{Bool, true}
 use lib.ListN.{length, take, getD}
 use lib.Dec.{ltb}
 use Rattle.rules.specs.Limits.{mostLines}
-use Rattle.rules.specs.Sheet.{Row, mostColumns}
+use Rattle.rules.specs.Sheet.{Row}
 use Rattle.rules.specs.Widths.{contents}
 use Rattle.rules.specs.Page.{lineOf, areas, height}
 use Rattle.table.specs.Held.{tableOf}
 use Rattle.table.specs.Walk.{rowsEnd}
 use Rattle.table.specs.declared.records.Rows.{Rows}
 use Rattle.table.specs.declared.records.Indicator.{Indicator}
-use Rattle.buffer.specs.Put.{edge}
+use Rattle.buffer.specs.Put.{byteIf}
 use Rattle.row.specs.View.{View, Views}
 use Rattle.row.specs.Open.{Rising, WideAll}
 use Rattle.row.specs.declared.Pending.{Pending}
@@ -23,7 +23,7 @@ use Rattle.formatting.specs.declared.content_format.Entered.{Entered}
 
 -- a text line of these parts
 unfoldable pub styled : TextStyle → List (List ℕ) → List ℕ
-styled y ps = lineOf (edge (y .opens) (y .left)) (edge (y .joined) (y .junction)) (edge (y .closes) (y .right)) ps
+styled y ps = lineOf (byteIf (y .opens) (y .left)) (byteIf (y .joined) (y .junction)) (byteIf (y .closes) (y .right)) ps
 
 -- a row's lines, and how many they are
 unfoldable pub rowLines : List ℕ → TextStyle → Row → List (List ℕ)

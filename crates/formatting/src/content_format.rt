@@ -10,7 +10,7 @@ ghost use Rattle.rules.specs.Text.{textWidth};
 ghost use Rattle.rules.specs.Sheet.{mostColumns};
 ghost use Rattle.rules.specs.Page.{before};
 ghost use Rattle.table.specs.Walk.{firstRow};
-ghost use Rattle.buffer.specs.Put.{over, putAt, edge};
+ghost use Rattle.buffer.specs.Put.{over, putAt, byteIf};
 ghost use Rattle.cells.specs.Cell.{Inside};
 ghost use Rattle.formatting.specs.Area.{areaIn, marksShown, shownText, After, columnPiece};
 ghost use Rattle.row.specs.Pending.{InSheet, anyFound};
@@ -18,7 +18,7 @@ ghost use Rattle.formatting.specs.Line.{lineBytes, ReadyAll, AfterAll};
 ghost use Rattle.formatting.specs.Stand.{inLimit, lastOf};
 ghost use Rattle.row.specs.Packed.{viewOf, pendingsOf};
 ghost use Rattle.formatting.specs.Part.{PartIs};
-ghost use Rattle.formatting.specs.RowText.{Drawable, rowLines, StandsAt, EnteredIs, Sized, Marks};
+ghost use Rattle.formatting.specs.RowText.{Drawable, rowLines, EnteredIs, Sized, Marks};
 use row::Pending;
 use row::VisibleColumn;
 use row::packed;
@@ -149,9 +149,9 @@ fn draw_column(
     junction: u8,
 ) -> Drawn
     requires { ⌜ InSheet (now sheet) (v .width) t × (Inside (now sheet) (t .line .cursor) × ((0 < v .width) × (indicator .count ≤ length (indicator .characters)))) ⌝ }
-    requires { ⌜ at + (length (edge joins junction) + (v .left + (v .width + v .right))) ≤ length (now page) ⌝ }
-    ensures { λ r. ⌜ (r .at ≡ at + (length (edge joins junction) + (v .left + (v .width + v .right)))) × After (now (sheet .entry)) (v .width) t (r .pending) ⌝ }
-    ensures { λ _. ⌜ now (page .exit) ≡ putAt (now (page .entry)) at (edge joins junction ++ columnPiece (now (sheet .entry)) v t (take (indicator .count) (indicator .characters)) last) ⌝ }
+    requires { ⌜ at + (length (byteIf joins junction) + (v .left + (v .width + v .right))) ≤ length (now page) ⌝ }
+    ensures { λ r. ⌜ (r .at ≡ at + (length (byteIf joins junction) + (v .left + (v .width + v .right)))) × After (now (sheet .entry)) (v .width) t (r .pending) ⌝ }
+    ensures { λ _. ⌜ now (page .exit) ≡ putAt (now (page .entry)) at (byteIf joins junction ++ columnPiece (now (sheet .entry)) v t (take (indicator .count) (indicator .characters)) last) ⌝ }
 {
     let next = advance(sheet, v.width, t);
     let line = next.line;

@@ -1,10 +1,10 @@
 -- The parts of a page one after another. Assumes nothing.
-use Prim.Native.Nat.{ℕ, zero, suc, _+_, _-_, _*_, _≤_, _<_}
-use mathlib.Core.Path.{_≡_, refl, sym, ap, subst, _∙_}
+use Prim.Native.Nat.{ℕ, zero, suc, _+_, _-_, _≤_, _<_}
+use mathlib.Core.Path.{_≡_, refl, sym, ap, _∙_}
 use mathlib.Core.List.{List, [], _∷_, _++_, map, append-assoc, append-nil}
 use mathlib.Core.Bool.{Bool, true, false, cond, _&&_}
 use native.Mathlib.Omega.{arith}
-use lib.ListN.{length, drop, getD, length-append, length-map, length-drop}
+use lib.ListN.{length, drop, getD, length-append}
 use lib.Dec.{ltb}
 use borrow.Author.Tests.{lt-ltb, le-ltb}
 use Rattle.rules.specs.Text.{All, upFrom}
@@ -12,7 +12,7 @@ use Rattle.rules.specs.Sheet.{Row, noRow}
 use Rattle.rules.specs.Limits.{RowLimits}
 use Rattle.rules.specs.Style.{topBorder, headerLines, headerRule, contentLines, rowRule, bottomBorder, anyJunction, isVisible}
 use Rattle.rules.specs.Widths.{visible}
-use Rattle.rules.specs.Page.{height, areas, areaAt, textLine, rowText, visibleWidths, lineLength, ruled, shown, headed, ruledRows, ruledMore, framed, closed}
+use Rattle.rules.specs.Page.{height, areas, areaAt, textLine, rowText, visibleWidths, lineLength, ruled, shown, headed, ruledRows, ruledMore, framed}
 use Rattle.rules.proofs.Areas.{length-areas, line-at}
 use Rattle.rules.proofs.Counts.{height-bound}
 use Rattle.rules.proofs.Lines.{text-length, rule-length, border-length}
@@ -22,26 +22,23 @@ use Rattle.table.specs.Held.{tableOf}
 use Rattle.table.specs.Walk.{rowsIn, firstRow, RowsNext}
 use Rattle.table.specs.declared.records.Rows.{Rows}
 use Rattle.table.proofs.Walks.{rows-number}
-use Rattle.row.specs.View.{View}
 use Rattle.row.specs.Packed.{viewOf}
-use Rattle.formatting.specs.RowText.{styled, rowLines, rowHeight, Sized, Drawable}
+use Rattle.formatting.specs.RowText.{styled, rowLines, rowHeight, Sized}
 use Rattle.borders.specs.Rule.{ruleText, ruleStyleOf}
 use Rattle.formatting.specs.Stand.{textStyleOf}
 use Rattle.formatting.proofs.RowText.{lines-count}
 use Rattle.formatting.proofs.Whole.{styled-text}
 use Rattle.borders.proofs.Rule.{rule-drawn}
 use Rattle.display_info.specs.Opened.{widthsIn, stylesOf, RowsAt, Opened}
-use Rattle.lines.specs.Ahead.{ruleLines, textLines, firstRuled, headerLinesOf, rowLinesOf, bodyLines, partBy, partLines, restBy, restLines, ahead, linesOf, isEnd, firstCursor, furtherOn, At, Next, AfterRow}
+use Rattle.lines.specs.Ahead.{ruleLines, textLines, firstRuled, headerLinesOf, rowLinesOf, bodyLines, partBy, partLines, restBy, restLines, ahead, linesOf, isEnd, firstCursor, At, Next, AfterRow}
 use Rattle.lines.specs.Lengths.{LengthsAre, SizeIs}
 use Rattle.lines.specs.Band.{bandLines, bandCount, bodyStyle, SizedBand}
-use Rattle.display_info.specs.declared.LineStyles.{LineStyles}
 use Rattle.display_info.specs.declared.RowStyle.{RowStyle}
 use Rattle.display_info.specs.declared.Page.{Page}
 use Rattle.lines.specs.declared.cursor.Cursor.{Cursor}
 use Rattle.lines.specs.declared.cursor.Stage.{Stage}
 use Rattle.lines.specs.declared.cursor.Stage.the-variants.{Top, Header, Body, Bottom, End}
 use Rattle.lines.specs.declared.lengths.Lengths.{Lengths}
-use Rattle.display_info.proofs.Opening.{limits-of}
 
 -- ---- rows
 
@@ -66,14 +63,6 @@ first-then text rule (r ∷ []) = refl
 first-then text rule (r ∷ q ∷ rs) = sym (append-assoc (text r) rule (text q ++ ruledMore text rule rs))
 
 -- ---- cursors
-
-part-of : (s : List ℕ) (p : Page) (c : Cursor) (g : Stage) → c .stage ≡ g → partLines s p c ≡ partBy s p (c .here) g
-unfolding partLines
-part-of s p c g e = rw e
-
-rest-of : (s : List ℕ) (p : Page) (c : Cursor) (g : Stage) → c .stage ≡ g → restLines s p c ≡ restBy s p (c .here) g
-unfolding restLines
-rest-of s p c g e = rw e
 
 -- a cursor before a part's first line
 pub ahead-start : (s : List ℕ) (p : Page) (c : Cursor) → c .line ≡ 0 → ahead s p c ≡ partLines s p c ++ restLines s p c
@@ -157,7 +146,7 @@ module _ (s : List ℕ) (p : Page) (c : Cursor) (A : RowsAt s (c .here)) where
         let z : _≡_ {A = ℕ} 0 1 = cc in absurd (omega arith);
   }
 
--- the end has no line before it
+-- at the end no line is left
 pub end-ahead : (s : List ℕ) (p : Page) (c : Cursor) → isEnd (c .stage) ≡ true → ahead s p c ≡ []
 unfolding ahead partLines restLines
 end-ahead s p c e = go (c .stage) e

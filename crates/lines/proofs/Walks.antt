@@ -1,6 +1,6 @@
 -- A page counted, sought and written part after part. Assumes nothing.
 use Prim.Native.Nat.{ℕ, zero, suc, _+_, _-_, _*_, _≤_, _<_, min}
-use mathlib.Core.Path.{_≡_, refl, sym, ap, subst, _∙_}
+use mathlib.Core.Path.{_≡_, refl, sym, ap, _∙_}
 use mathlib.Core.List.{List, [], _∷_, _++_, append-assoc}
 use mathlib.Core.Bool.{Bool, true, false, cond, not, _&&_, true≢false}
 use native.Mathlib.Omega.{arith}
@@ -13,7 +13,7 @@ use borrow.Rule.Slice.PartMut.{putMid}
 use Rattle.rules.specs.Text.{All}
 use Rattle.rules.specs.Sheet.{Row, noRow}
 use Rattle.rules.specs.Style.{topBorder, bottomBorder}
-use Rattle.rules.specs.Page.{closed, fitting}
+use Rattle.rules.specs.Page.{closed}
 use Rattle.rules.specs.Limits.{longestLine, RowLimits, mostLines}
 use Rattle.rules.proofs.Counts.{height-bound, framed-count, framed-byte-bound}
 use Rattle.rules.proofs.Fitting.{fitting-few}
@@ -143,9 +143,6 @@ band-sized s view y here n B h = B .text (omega (arith, rows-number s here))
 
 module _ (s : List ℕ) (view : View) (y : RowStyle) (here : Rows) (first : ℕ) (some : 0 < here .left)
     (within : first ≤ length (bandLines s view y (rowsIn s here)) - 1) where
-  rule : List (List ℕ)
-  rule = cond (y .ruled) (ruleText view (y .rule) ∷ []) []
-
   band-is : bandLines s view y (rowsIn s here) ≡ rowLines s (y .lines) (firstRow s here) ++ cond (y .ruled) (ruleText view (y .rule) ∷ []) []
   unfolding bandLines
   band-is = go (rowsIn s here) (rows-number s here)

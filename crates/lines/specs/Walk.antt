@@ -4,7 +4,7 @@ use mathlib.Core.Path.{_≡_}
 use mathlib.Core.List.{List, []}
 use mathlib.Core.Bool.{false}
 use lib.ListN.{length, drop, getD}
-use Rattle.rules.specs.Page.{closed, fitting}
+use Rattle.rules.specs.Page.{closed, wholeLines}
 use Rattle.buffer.specs.Put.{over}
 use Rattle.lines.specs.Ahead.{isEnd, At, partLines, linesOf, ahead}
 use Rattle.display_info.specs.declared.Page.{Page}
@@ -42,9 +42,9 @@ pub record FoundIs (s : List ℕ) (p : Page) (k room : ℕ) (r : Found) : Type 0
 
 -- of the lines before the cursor as many as fit are written over b, which is then a; the others come next
 pub record WroteIs (s : List ℕ) (p : Page) (c : Cursor) (b a : List ℕ) (r : Written) : Type 0 where
-  pub lines : r .lines ≡ length (fitting (length b) (ahead s p c))
-  pub bytes : r .bytes ≡ length (closed (fitting (length b) (ahead s p c)))
-  pub page : a ≡ over (closed (fitting (length b) (ahead s p c))) b
+  pub lines : r .lines ≡ length (wholeLines (length b) (ahead s p c))
+  pub bytes : r .bytes ≡ length (closed (wholeLines (length b) (ahead s p c)))
+  pub page : a ≡ over (closed (wholeLines (length b) (ahead s p c))) b
   pub next : ahead s p (r .next) ≡ drop (r .lines) (ahead s p c)
   pub at : At s p (r .next)
   pub left : isEnd (r .next .stage) ≡ false → r .lines < length (ahead s p c)

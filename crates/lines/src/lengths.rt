@@ -1,7 +1,7 @@
 // How long a page's lines are.
 ghost use mathlib.Core.Path.{_≡_};
 ghost use mathlib.Core.Bool.{cond};
-ghost use Prim.Native.Nat.{ℕ, _-_, _*_, _≤_};
+ghost use Prim.Native.Nat.{_-_, _*_, _≤_};
 ghost use Rattle.row.specs.Packed.{viewOf};
 ghost use Rattle.borders.specs.Rule.{NarrowAll};
 ghost use Rattle.display_info.specs.Opened.{Opened};

@@ -3,13 +3,11 @@ pub mod cursor;
 pub mod lengths;
 pub mod part;
 
-ghost use mathlib.Core.Path.{_≡_};
-ghost use Prim.Native.Nat.{ℕ, _≤_};
+ghost use Prim.Native.Nat.{_≤_};
 ghost use Rattle.rules.specs.Limits.{mostLines};
 ghost use lib.ListN.{length};
-ghost use Rattle.rules.specs.Page.{closed};
 ghost use Rattle.display_info.specs.Opened.{Opened};
-ghost use Rattle.lines.specs.Ahead.{At, linesOf, ahead};
+ghost use Rattle.lines.specs.Ahead.{At, ahead};
 ghost use Rattle.lines.specs.Walk.{TotalsAre, SoughtIs, FoundIs, WroteIs};
 use crate::cursor::Cursor;
 use display_info::Page;

@@ -14,13 +14,13 @@ use Rattle.rules.specs.declared.Counted.{Counted}
 use Rattle.rules.specs.Sheet.{Table}
 use Rattle.rules.specs.Field.{Read, got, refused}
 use Rattle.rules.specs.Format.{sheet}
-use Rattle.rules.specs.Page.{closed, lineAt, lineCount, byteCount, page as pageOf, pageLines, fitting}
+use Rattle.rules.specs.Page.{closed, lineAt, lineCount, byteCount, page as pageOf, pageLines, wholeLines}
 use Rattle.rules.specs.Calls as calls
-use Rattle.rules.specs.Calls.{check, checkOf, count, countOf, put, turned, printPage, printOf, printLine, printLineOf}
+use Rattle.rules.specs.Calls.{check, checkOf, count, countOf, put, notPrinted, printPage, printOf, printLine, printLineOf}
 use Rattle.rules.proofs.Counts.{line-count-bound}
 use Rattle.rules.proofs.Fitting.{fitting-few, fitting-none, fitting-more, fitting-stops, fitting-all}
 use Rattle.rules.proofs.Sizes.{closed-one, byte-count-closed}
-use Rattle.table.specs.Held.{Passes, tableOf}
+use Rattle.table.specs.Held.{IsAccepted, tableOf}
 use Rattle.table.specs.Walk.{rowsIn}
 use Rattle.table.proofs.Held.{held}
 use Rattle.buffer.specs.Put.{over}
@@ -67,7 +67,7 @@ passed-over true a b e = cc
 passed-over false a b e = refl
 
 -- no line fits into nothing
-fitting-nothing : (ls : List (List ℕ)) → fitting 0 ls ≡ []
+fitting-nothing : (ls : List (List ℕ)) → wholeLines 0 ls ≡ []
 fitting-nothing [] = fitting-none 0
 fitting-nothing (l ∷ ls) = fitting-stops 0 l ls (omega arith)
 
@@ -93,21 +93,21 @@ module _ (s : List ℕ) (c : Checked) (checked : c ≡ check s) (h : c .number �
   unfolding count countOf
   count-refused = rw refused-as
 
-  pub page-refused : (b : List ℕ) → printPage s b ≡ turned (c .number) (c .place) b
+  pub page-refused : (b : List ℕ) → printPage s b ≡ notPrinted (c .number) (c .place) b
   unfolding printPage printOf
   page-refused b = rw refused-as
 
-  pub line-refused : (k : ℕ) (b : List ℕ) → printLine s k b ≡ turned (c .number) (c .place) b
+  pub line-refused : (k : ℕ) (b : List ℕ) → printLine s k b ≡ notPrinted (c .number) (c .place) b
   unfolding printLine printLineOf
   line-refused k b = rw refused-as
 
-  pub lines-refused : (k : ℕ) (b : List ℕ) → several.printLines s k b ≡ several.turned (c .number) (c .place) b
+  pub lines-refused : (k : ℕ) (b : List ℕ) → several.printLines s k b ≡ several.noLines (c .number) (c .place) b
   unfolding several.printLines several.printLinesOf
   lines-refused k b = rw refused-as
 
 -- ---- an accepted one
 
-module _ (s : List ℕ) (h : Passes s) where
+module _ (s : List ℕ) (h : IsAccepted s) where
   pub count-accepted : (r : Totals) → r .lines ≡ lineCount (tableOf s) → r .bytes ≡ byteCount (tableOf s)
       → _≡_ {A = Counted} (record { number = 0; place = 0; lines = r .lines; bytes = r .bytes }) (count s)
   unfolding count countOf
@@ -116,15 +116,15 @@ module _ (s : List ℕ) (h : Passes s) where
   abbrev wrote-all : List ℕ → List ℕ → calls.Written
   wrote-all l b = record { answer = record { number = 0; place = 0; written = length l }; buffer = l ++ drop (length l) b }
 
-  put-short : (l b : List ℕ) (n : ℕ) → n ≡ length l → length b < n → put l b ≡ turned 20 n b
+  put-short : (l b : List ℕ) (n : ℕ) → n ≡ length l → length b < n → put l b ≡ notPrinted 20 n b
   unfolding put
-  put-short l b n e k = passed-over (leb (length l) (length b)) (wrote-all l b) (turned 20 (length l) b)
-      (le-false (length l) (length b) (omega arith)) ∙ ap (λ m. turned 20 m b) (sym e)
+  put-short l b n e k = passed-over (leb (length l) (length b)) (wrote-all l b) (notPrinted 20 (length l) b)
+      (le-false (length l) (length b) (omega arith)) ∙ ap (λ m. notPrinted 20 m b) (sym e)
 
   put-whole : (l b : List ℕ) (n : ℕ) → n ≡ length l → n ≤ length b → put l b ≡ record
       { answer = record { number = 0; place = 0; written = n }; buffer = over l b }
   unfolding put over
-  put-whole l b n e k = chosen (leb (length l) (length b)) (wrote-all l b) (turned 20 (length l) b) (le-true (length l) (length b) (omega arith)) ∙ ap
+  put-whole l b n e k = chosen (leb (length l) (length b)) (wrote-all l b) (notPrinted 20 (length l) b) (le-true (length l) (length b) (omega arith)) ∙ ap
       (λ m. record { answer = record { number = 0; place = 0; written = m }; buffer = over l b }) (sym e)
 
   bytes-of : length (pageOf (tableOf s)) ≡ byteCount (tableOf s)
@@ -135,32 +135,32 @@ module _ (s : List ℕ) (h : Passes s) where
   unfolding printPage printOf
   page-put b = let g = held s h .reads in rw g
 
-  pub page-short : (b : List ℕ) (n : ℕ) → n ≡ byteCount (tableOf s) → length b < n → printPage s b ≡ turned 20 n b
+  pub page-short : (b : List ℕ) (n : ℕ) → n ≡ byteCount (tableOf s) → length b < n → printPage s b ≡ notPrinted 20 n b
   page-short b n e k = page-put b ∙ put-short (pageOf (tableOf s)) b n (e ∙ sym bytes-of) k
 
   pub page-whole : (b : List ℕ) (n : ℕ) → n ≡ byteCount (tableOf s) → n ≤ length b → printPage s b ≡ record
       { answer = record { number = 0; place = 0; written = n }; buffer = over (pageOf (tableOf s)) b }
   page-whole b n e k = page-put b ∙ put-whole (pageOf (tableOf s)) b n (e ∙ sym bytes-of) k
 
-  line-past-count : (k : ℕ) (b : List ℕ) → lineCount (tableOf s) ≤ k → printLine s k b ≡ turned 21 (lineCount (tableOf s)) b
+  line-past-count : (k : ℕ) (b : List ℕ) → lineCount (tableOf s) ≤ k → printLine s k b ≡ notPrinted 21 (lineCount (tableOf s)) b
   unfolding printLine printLineOf
   line-past-count k b e = let H = held s h in ap (λ x. printLineOf x k b) (H .reads) ∙ passed-over (ltb k (lineCount (tableOf s)))
-      (put (lineAt (tableOf s) k) b) (turned 21 (lineCount (tableOf s)) b) (lt-false k (lineCount (tableOf s)) e)
+      (put (lineAt (tableOf s) k) b) (notPrinted 21 (lineCount (tableOf s)) b) (lt-false k (lineCount (tableOf s)) e)
 
   line-put : (k : ℕ) (b : List ℕ) → k < lineCount (tableOf s) → printLine s k b ≡ put (lineAt (tableOf s) k) b
   unfolding printLine printLineOf
   line-put k b e = let H = held s h in ap (λ x. printLineOf x k b) (H .reads) ∙ chosen (ltb k (lineCount (tableOf s))) (put (lineAt (tableOf s) k) b)
-      (turned 21 (lineCount (tableOf s)) b) (lt-true k (lineCount (tableOf s)) e)
+      (notPrinted 21 (lineCount (tableOf s)) b) (lt-true k (lineCount (tableOf s)) e)
 
-  lines-past-count : (k : ℕ) (b : List ℕ) → lineCount (tableOf s) ≤ k → several.printLines s k b ≡ several.turned 21 (lineCount (tableOf s)) b
+  lines-past-count : (k : ℕ) (b : List ℕ) → lineCount (tableOf s) ≤ k → several.printLines s k b ≡ several.noLines 21 (lineCount (tableOf s)) b
   unfolding several.printLines several.printLinesOf
   lines-past-count k b e = let H = held s h in ap (λ x. several.printLinesOf x k b) (H .reads) ∙ passed-over (ltb k (lineCount (tableOf s)))
-      (several.putLines (tableOf s) k b) (several.turned 21 (lineCount (tableOf s)) b) (lt-false k (lineCount (tableOf s)) e)
+      (several.putLines (tableOf s) k b) (several.noLines 21 (lineCount (tableOf s)) b) (lt-false k (lineCount (tableOf s)) e)
 
   lines-put : (k : ℕ) (b : List ℕ) → k < lineCount (tableOf s) → several.printLines s k b ≡ several.putLines (tableOf s) k b
   unfolding several.printLines several.printLinesOf
   lines-put k b e = let H = held s h in ap (λ x. several.printLinesOf x k b) (H .reads) ∙ chosen (ltb k (lineCount (tableOf s)))
-      (several.putLines (tableOf s) k b) (several.turned 21 (lineCount (tableOf s)) b) (lt-true k (lineCount (tableOf s)) e)
+      (several.putLines (tableOf s) k b) (several.noLines 21 (lineCount (tableOf s)) b) (lt-true k (lineCount (tableOf s)) e)
 
   -- the page is opened over all rows
   module _ (p : Page) (rows : rowsIn s (p .rows) ≡ tableOf s .rows) where
@@ -192,8 +192,8 @@ module _ (s : List ℕ) (h : Passes s) where
         → printPage s b ≡ record { answer = record { number = 0; place = 0; written = r .bytes }; buffer = a }
     page-written b a r e W room =
         let bytes = byte-count-closed (tableOf s) in
-        let all : fitting (length b) (ahead s p (firstCursor p)) ≡ pageLines (tableOf s) =
-        ap (fitting (length b)) (e ∙ lines-all) ∙ fitting-all (length b) (pageLines (tableOf s)) (omega arith) in
+        let all : wholeLines (length b) (ahead s p (firstCursor p)) ≡ pageLines (tableOf s) =
+        ap (wholeLines (length b)) (e ∙ lines-all) ∙ fitting-all (length b) (pageLines (tableOf s)) (omega arith) in
         let n : r .bytes ≡ byteCount (tableOf s) = W .bytes ∙ ap (λ ls. length (closed ls)) all ∙ sym bytes in
         let text : over (pageOf (tableOf s)) b ≡ a = sym (W .page ∙ ap (λ ls. over (closed ls) b) all ∙ closed-page b) in
         page-whole b (r .bytes) n (omega arith) ∙ ap (λ x. record { answer = record { number = 0; place = 0; written = r .bytes }; buffer = x }) text
@@ -217,7 +217,7 @@ module _ (s : List ℕ) (h : Passes s) where
           go true e false f = found (ltb-true k (length (linesOf s p)) e) (ltb-false (length b) (sizeOf s p k) f)
           go false e y f = past (ltb-false k (length (linesOf s p)) e)
 
-      pub line-turned : (r .number ≡ 0 → ⊥) → printLine s k b ≡ turned (r .number) (r .place) b
+      pub line-turned : (r .number ≡ 0 → ⊥) → printLine s k b ≡ notPrinted (r .number) (r .place) b
       line-turned n =
           by
           (λ e. let q = F .past e in line-past-count k b (omega (arith, count-lines)) ∙ rw (q .0, q .1, count-lines))
@@ -225,17 +225,17 @@ module _ (s : List ℕ) (h : Passes s) where
           line-put k b (omega (arith, count-lines)) ∙ put-short (lineAt (tableOf s) k) b (sizeOf s p k) (size-all k) f ∙ rw (q .0, q .1))
           (λ e f. absurd (n (F .found e f .0)))
 
-      pub lines-turned : (r .number ≡ 0 → ⊥) → several.printLines s k b ≡ several.turned (r .number) (r .place) b
+      pub lines-turned : (r .number ≡ 0 → ⊥) → several.printLines s k b ≡ several.noLines (r .number) (r .place) b
       unfolding several.putLines
       lines-turned n =
-          let told = several.given k (fitting (length b) (drop k (pageLines (tableOf s)))) b in
+          let told = several.linesGiven k (wholeLines (length b) (drop k (pageLines (tableOf s)))) b in
           let m = length (lineAt (tableOf s) k) in
           by
           (λ e. let q = F .past e in lines-past-count k b (omega (arith, count-lines)) ∙ rw (q .0, q .1, count-lines))
           (λ e f. let q = F .short e f in
           lines-put k b (omega (arith, count-lines))
-          ∙ passed-over (leb (length (lineAt (tableOf s) k)) (length b)) (several.given k (fitting (length b) (drop k (pageLines (tableOf s)))) b)
-          (several.turned 20 (length (lineAt (tableOf s) k)) b)
+          ∙ passed-over (leb (length (lineAt (tableOf s) k)) (length b)) (several.linesGiven k (wholeLines (length b) (drop k (pageLines (tableOf s)))) b)
+          (several.noLines 20 (length (lineAt (tableOf s) k)) b)
           (le-false (length (lineAt (tableOf s) k)) (length b) (omega (arith, size-all k))) ∙ rw (q .0, q .1, size-all k))
           (λ e f. absurd (n (F .found e f .0)))
 
@@ -262,12 +262,12 @@ module _ (s : List ℕ) (h : Passes s) where
             (length-append (getD (pageLines (tableOf s)) k []) (10 ∷ [])) in
             let m : length y ≡ length (getD (pageLines (tableOf s)) k []) + 1 = e ∙ found-here .1 .0 ∙ sym size in
             let z : length y - (length (getD (pageLines (tableOf s)) k []) + 1) ≡ 0 = omega arith in
-            let only : fitting (length y) (ahead s p (r .cursor)) ≡ getD (pageLines (tableOf s)) k [] ∷ [] =
-            ap (fitting (length y)) first-line ∙ fitting-more (length y) (getD (pageLines (tableOf s)) k []) (drop (suc k) (pageLines (tableOf s)))
+            let only : wholeLines (length y) (ahead s p (r .cursor)) ≡ getD (pageLines (tableOf s)) k [] ∷ [] =
+            ap (wholeLines (length y)) first-line ∙ fitting-more (length y) (getD (pageLines (tableOf s)) k []) (drop (suc k) (pageLines (tableOf s)))
             (omega arith)
-            ∙ ap (λ ls. getD (pageLines (tableOf s)) k [] ∷ ls) (ap (λ i. fitting i (drop (suc k) (pageLines (tableOf s)))) z ∙ fitting-nothing
+            ∙ ap (λ ls. getD (pageLines (tableOf s)) k [] ∷ ls) (ap (λ i. wholeLines i (drop (suc k) (pageLines (tableOf s)))) z ∙ fitting-nothing
             (drop (suc k) (pageLines (tableOf s)))) in
-            let closed-is : closed (fitting (length y) (ahead s p (r .cursor))) ≡ lineAt (tableOf s) k = ap closed only ∙ closed-one
+            let closed-is : closed (wholeLines (length y) (ahead s p (r .cursor))) ≡ lineAt (tableOf s) k = ap closed only ∙ closed-one
             (getD (pageLines (tableOf s)) k []) in
             (W .bytes ∙ ap length closed-is, W .page ∙ ap (λ t. over t y) closed-is)
 
@@ -286,8 +286,8 @@ module _ (s : List ℕ) (h : Passes s) where
             let h = found-here in
             let from : ahead s p (r .cursor) ≡ drop k (pageLines (tableOf s)) = F .lines n ∙ ap (drop k) lines-all in
             lines-put k b (h .0)
-            ∙ chosen (leb (length (lineAt (tableOf s) k)) (length b)) (several.given k (fitting (length b) (drop k (pageLines (tableOf s)))) b)
-            (several.turned 20 (length (lineAt (tableOf s) k)) b)
+            ∙ chosen (leb (length (lineAt (tableOf s) k)) (length b)) (several.linesGiven k (wholeLines (length b) (drop k (pageLines (tableOf s)))) b)
+            (several.noLines 20 (length (lineAt (tableOf s) k)) b)
             (le-true (length (lineAt (tableOf s) k)) (length b) (omega (arith, h .1 .0, h .1 .1)))
             ∙ rw (W .bytes, W .lines, W .page, from)
 

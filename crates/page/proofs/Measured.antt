@@ -1,6 +1,6 @@
 -- What the call for widths answers. Assumes nothing.
 use Prim.Native.Nat.{ℕ}
-use mathlib.Core.Path.{_≡_, refl, sym, ap, _∙_}
+use mathlib.Core.Path.{_≡_, refl, ap, _∙_}
 use mathlib.Core.List.{List}
 use mathlib.Core.Bool.{false}
 use lib.ListN.{replicate}
@@ -10,10 +10,10 @@ use Rattle.rules.specs.Sheet.{Table, mostColumns}
 use Rattle.rules.specs.Field.{Read, got, refused}
 use Rattle.rules.specs.Format.{sheet}
 use Rattle.rules.specs.Calls.{check, checkOf, measure, measureOf}
-use Rattle.table.specs.Held.{Passes, tableOf}
+use Rattle.table.specs.Held.{IsAccepted, tableOf}
 use Rattle.table.proofs.Held.{held}
 use Rattle.arrangement.specs.declared.Widths.{Widths}
-use Rattle.arrangement.specs.Widths.{widthsOf}
+use Rattle.arrangement.specs.Widths.{arrangedWidths}
 
 module _ (s : List ℕ) (c : Checked) (checked : c ≡ check s) where
   -- a refused sheet: number and place of the check
@@ -42,7 +42,7 @@ module _ (s : List ℕ) (c : Checked) (checked : c ≡ check s) where
       go (refused n p) e = let k : c ≡ record { number = n; place = p } = checked ∙ rw e in rw (e, k)
 
 -- an accepted one: its widths
-pub measure-accepted : (s : List ℕ) (w : Widths) → Passes s → w ≡ widthsOf (tableOf s)
+pub measure-accepted : (s : List ℕ) (w : Widths) → IsAccepted s → w ≡ arrangedWidths (tableOf s)
     → _≡_ {A = Measured} (record { number = 0; place = 0; columns = w .count; content = w .content; hidden = w .hidden }) (measure s)
-unfolding measure measureOf widthsOf
+unfolding measure measureOf arrangedWidths
 measure-accepted s w h e = let r = held s h .reads in rw (e, r)

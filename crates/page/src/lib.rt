@@ -2,7 +2,7 @@
 ghost use mathlib.Core.Path.{_≡_};
 ghost use mathlib.Core.List.{[]};
 ghost use Rattle.rules.specs.Calls as calls;
-ghost use Rattle.page.specs.Several.{printLines, turned};
+ghost use Rattle.page.specs.Several.{printLines, noLines};
 use lines::cursor;
 use rules::Checked;
 use rules::Counted;
@@ -69,7 +69,7 @@ pub fn count(sheet: &[u8]) -> Counted
 
 // An answer that writes nothing.
 fn turned_down(number: u64, place: u64) -> Printed
-    ensures { λ r. ⌜ r ≡ calls.turned number place [] .answer ⌝ }
+    ensures { λ r. ⌜ r ≡ calls.notPrinted number place [] .answer ⌝ }
 {
     Printed {
         number,
@@ -136,7 +136,7 @@ pub struct PrintedLines {
 }
 
 fn no_lines(number: u64, place: u64) -> PrintedLines
-    ensures { λ r. ⌜ r ≡ turned number place [] .answer ⌝ }
+    ensures { λ r. ⌜ r ≡ noLines number place [] .answer ⌝ }
 {
     PrintedLines {
         number,

@@ -1,13 +1,13 @@
 -- A page written part after part: each part leaves less. Assumes nothing.
-use Prim.Native.Nat.{ℕ, suc, _+_, _-_, _≤_, _<_}
-use mathlib.Core.Path.{_≡_, refl, sym, ap, _∙_}
+use Prim.Native.Nat.{ℕ, _+_, _-_, _≤_, _<_}
+use mathlib.Core.Path.{_≡_, refl, ap, _∙_}
 use mathlib.Core.List.{List, [], _∷_}
 use mathlib.Core.Bool.{Bool, true, false}
 use native.Mathlib.Omega.{arith}
-use lib.ListN.{length, drop, getD, length-drop}
-use lib.Seq.{drop-drop, getD-drop}
+use lib.ListN.{length, drop, length-drop}
+use lib.Seq.{drop-drop}
 use Rattle.rules.specs.Text.{All}
-use Rattle.rules.specs.Page.{closed, fitting}
+use Rattle.rules.specs.Page.{wholeLines}
 use Rattle.rules.proofs.Counts.{framed-line-bound}
 use Rattle.rules.proofs.Fitting.{fitting-more, fitted}
 use Rattle.rules.proofs.Lists.{all-drop}
@@ -58,12 +58,12 @@ module _ (s : List ℕ) (cols : List (List ℕ)) (p : Page) (O : Opened s cols p
   }
 
   -- the space holds any line, so that a part that leaves some has some
-  some : longestLine + 1 ≤ length b → 0 < length (ahead s p c) → 0 < length (fitting (length b) (ahead s p c))
+  some : longestLine + 1 ≤ length b → 0 < length (ahead s p c) → 0 < length (wholeLines (length b) (ahead s p c))
   unfolding linesOf
   some h k = go (ahead s p c) k (rw (S .lines) (all-drop (λ l. length l ≤ longestLine) (S .passed) (linesOf s p)
       (framed-line-bound (tableOf s) (limits-of s (O .passes)) (rowsIn s (p .rows)))))
     where
-      go : (ls : List (List ℕ)) → 0 < length ls → All (λ l. length l ≤ longestLine) ls → 0 < length (fitting (length b) ls)
+      go : (ls : List (List ℕ)) → 0 < length ls → All (λ l. length l ≤ longestLine) ls → 0 < length (wholeLines (length b) ls)
       go [] f g = absurd (omega arith)
       go (l ∷ ls) f g = rw (fitting-more (length b) l ls (omega (arith, g .0))) (omega arith)
 

@@ -10,18 +10,18 @@ use Rattle.rules.specs.Style.{glyph}
 use Rattle.rules.specs.Page as page
 use Rattle.rules.specs.Page.{joined, joinedMore}
 use Rattle.rules.proofs.Lists.{upFrom-last, length-upFrom}
-use Rattle.buffer.specs.Put.{build, edge, lead}
+use Rattle.buffer.specs.Put.{build, byteIf, lead}
 
 more-snoc : (j : List ℕ) (ps : List (List ℕ)) (p : List ℕ) → joinedMore j (ps ++ (p ∷ [])) ≡ joinedMore j ps ++ (j ++ p)
 unfolding joinedMore
 more-snoc j [] p = rw append-nil
 more-snoc j (q ∷ ps) p = rw (more-snoc j ps p) (simp append-assoc)
 
-joined-snoc : (b : Bool) (c : ℕ) (ps : List (List ℕ)) (p : List ℕ) → joined (edge b c) (ps ++ (p ∷ [])) ≡ joined (edge b c) ps ++
-    (edge (lead (length ps) b) c ++ p)
+joined-snoc : (b : Bool) (c : ℕ) (ps : List (List ℕ)) (p : List ℕ) → joined (byteIf b c) (ps ++ (p ∷ [])) ≡ joined (byteIf b c) ps ++
+    (byteIf (lead (length ps) b) c ++ p)
 unfolding joined joinedMore
 joined-snoc b c [] p = rw append-nil
-joined-snoc b c (q ∷ ps) p = rw (more-snoc (edge b c) ps p) (simp append-assoc)
+joined-snoc b c (q ∷ ps) p = rw (more-snoc (byteIf b c) ps p) (simp append-assoc)
 
 pub map-snoc : {A B : Type 0} (f : A → B) (xs : List A) (x : A) → map f (xs ++ (x ∷ [])) ≡ map f xs ++ (f x ∷ [])
 map-snoc f [] x = refl
@@ -30,20 +30,20 @@ map-snoc f (y ∷ xs) x = ap (λ l. f y ∷ l) (map-snoc f xs x)
 length-up : (n : ℕ) (f : ℕ → List ℕ) → length (map f (upFrom 0 n)) ≡ n
 length-up n f = length-map (upFrom 0 n) f ∙ length-upFrom 0 n
 
-none-joined : (b : Bool) (c : ℕ) (f : ℕ → List ℕ) → [] ≡ joined (edge b c) (map f (upFrom 0 0))
+none-joined : (b : Bool) (c : ℕ) (f : ℕ → List ℕ) → [] ≡ joined (byteIf b c) (map f (upFrom 0 0))
 unfolding joined upFrom
 none-joined b c f = refl
 
-pub build-joined : (b : Bool) (c : ℕ) (f : ℕ → List ℕ) (n : ℕ) → build (λ i. edge (lead i b) c ++ f i) n ≡ joined (edge b c) (map f (upFrom 0 n))
+pub build-joined : (b : Bool) (c : ℕ) (f : ℕ → List ℕ) (n : ℕ) → build (λ i. byteIf (lead i b) c ++ f i) n ≡ joined (byteIf b c) (map f (upFrom 0 n))
 build-joined b c f zero = none-joined b c f
 build-joined b c f (suc n) =
     let z : 0 + n ≡ n = omega arith in
     let e : map f (upFrom 0 (suc n)) ≡ map f (upFrom 0 n) ++ (f n ∷ []) = ap (map f) (upFrom-last 0 n ∙ ap (λ m. upFrom 0 n ++ (m ∷ [])) z) ∙ map-snoc
     f (upFrom 0 n) n in
-    ap (λ l. l ++ (edge (lead n b) c ++ f n)) (build-joined b c f n)
-    ∙ sym (joined-snoc b c (map f (upFrom 0 n)) (f n) ∙ ap (λ m. joined (edge b c) (map f (upFrom 0 n)) ++ (edge (lead m b) c ++ f n))
+    ap (λ l. l ++ (byteIf (lead n b) c ++ f n)) (build-joined b c f n)
+    ∙ sym (joined-snoc b c (map f (upFrom 0 n)) (f n) ∙ ap (λ m. joined (byteIf b c) (map f (upFrom 0 n)) ++ (byteIf (lead m b) c ++ f n))
     (length-up n f))
-    ∙ ap (joined (edge b c)) (sym e)
+    ∙ ap (joined (byteIf b c)) (sym e)
 
 pub map-map : {A B C : Type 0} (f : A → B) (g : B → C) (xs : List A) → map g (map f xs) ≡ map (λ x. g (f x)) xs
 map-map f g [] = refl
@@ -67,6 +67,6 @@ pub build-same : (f g : ℕ → List ℕ) (n : ℕ) → ((i : ℕ) → i < n →
 build-same f g zero h = refl
 build-same f g (suc n) h = let a = build-same f g n (λ i l. h i (omega arith)) in let b = h n (omega arith) in cc
 
-pub edge-same : (b : Bool) (c : ℕ) → edge b (glyph c) ≡ page.edge b c
+pub edge-same : (b : Bool) (c : ℕ) → byteIf b (glyph c) ≡ page.edge b c
 edge-same true c = refl
 edge-same false c = refl

@@ -20,7 +20,7 @@ use Rattle.rules.specs.Places.{past, parts}
 use Rattle.cells.specs.Cell.{rest, FirstOf, Further}
 use Rattle.cells.specs.declared.Next.{Next}
 use Rattle.cells.proofs.Laws.{rest-none, wrap-more, wrap-none}
-use Rattle.table.specs.Walk.{cellsIn, cellsEnd, linesIn, linesEnd, firstCell, CellIs, CellsNext}
+use Rattle.table.specs.Walk.{cellsIn, cellsEnd, linesIn, linesEnd, firstCell, CellIs}
 use Rattle.table.specs.declared.records.Cells.{Cells}
 use Rattle.table.specs.declared.records.Cell as records
 use Rattle.row.specs.View.{View, visibleAt}

@@ -2,8 +2,8 @@
 pub mod packed;
 
 ghost use mathlib.Core.Path.{_≡_};
-ghost use Prim.Native.Nat.{ℕ, _≤_, _<_};
-ghost use lib.ListN.{length, drop, getD};
+ghost use Prim.Native.Nat.{_≤_, _<_};
+ghost use lib.ListN.{length};
 ghost use Rattle.rules.specs.Sheet.{mostColumns};
 ghost use Rattle.table.specs.Walk.{cellsIn, cellsEnd, firstCell};
 ghost use Rattle.row.specs.Height.{cellHeight, heightUpTo};

@@ -1,7 +1,7 @@
 // Visible columns and pending lines as arrays of numbers. Arrays of these are lent from line to line and from row to row; a reference to a struct
 // would leave each proof to be done by hand, and structs by value would be copied for each line.
 ghost use mathlib.Core.Path.{_≡_};
-ghost use Prim.Native.Nat.{ℕ, _%_};
+ghost use Prim.Native.Nat.{_%_};
 ghost use lib.Dec.{eqb};
 ghost use Rattle.row.specs.Packed.{columnFrom, pendingFrom};
 use crate::Pending;

@@ -10,7 +10,7 @@ use native.Mathlib.Omega.{arith}
 use lib.ListN.{length, getD, take, set}
 use lib.Dec.{eqb, ltb, leb}
 use borrow.Author.Tests.{eqb-true, leb-true}
-use Rattle.rules.specs.Text.{textWidth, greatest, orElse, oneIf, keep, All}
+use Rattle.rules.specs.Text.{textWidth, greatest, orElse, keep, All}
 use Rattle.rules.specs.Sheet.{Width, Column, Cell, Row, Table, columnAt, cellAt, noCell, noColumn, allRows, padding, isHidden}
 use Rattle.rules.specs.Limits.{WidthLimits, ColumnLimits, LineLimits, CellLimits, RowLimits, TableLimits}
 use Rattle.rules.specs.Widths.{State, Rule, cellsOf, cellLongest, longest, numbers, visible, borders, percentOf, widthOf, valueOf, lowerWidth, upperWidth, absoluteWidth, lower, upper, absolute, covering, evaluate, noted, first, untargeted, zeros, undecided, average, averageIsSome, isUndecided, start, fix, fixAt, visit, pass, passes, aboveAverage, withinAverage, fittingAverage, longestPart, shorterBy3, splitAtAverage, step1, step2, step3, share, shared, widened, step4, contents, lifted, contentOf}
@@ -95,11 +95,6 @@ module _ (t : Table) (T : TableLimits t) where
           [ true ↦ some (w .value) | false ↦ percentOf t (w .value) ])
       go true e = h .fixed (eqb-true (w .unit) 0 e)
       go false e = percent-400 (w .value)
-
-  none-400 : (w : Option Width) → ((v : Width) → w ≡ some v → Offered (Most 400) (widthOf t v)) → Offered (Most 400) (valueOf t w)
-  unfolding valueOf
-  none-400 none h = tt
-  none-400 (some v) h = h v refl
 
   column-limits : (j : ℕ) → ColumnLimits (columnAt t j)
   column-limits j = all-default ColumnLimits (t .columns) j noColumn no-limits (T .each-column)

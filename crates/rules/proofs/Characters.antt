@@ -11,7 +11,7 @@ use Rattle.rules.specs.Text.{textWidth, firstOf, orElse, upFrom, All}
 use Rattle.rules.specs.Sheet.{Column, Cell, Row, Table, noCell, noColumn, columnAt, cellAt}
 use Rattle.rules.specs.Limits.{Printable, Optional, ColumnLimits, LineLimits, CellLimits, RowLimits, TableLimits}
 use Rattle.rules.specs.Style.{glyphAt, glyph, isVisible}
-use Rattle.rules.specs.Wrap.{delimiterOf, fitting, cutLine}
+use Rattle.rules.specs.Wrap.{delimiterOf, shownIndicator, cutLine}
 use Rattle.rules.specs.Widths.{visible, contents}
 use Rattle.rules.specs.Page.{alignmentOf, area, wrapped, cellLines, height, areaAt, areas, joinedMore, joined, lineOf, edge, ruled, textLine, shown, rowText, framed, pageLines}
 use Rattle.rules.proofs.Lists.{all-imp, all-append, all-map, all-map-imp, all-replicate, all-default}
@@ -83,9 +83,9 @@ unfolding area
 printable-area c w a l h = let space : Printable 32 = omega arith in search (all-append, all-replicate)
 
 printable-cutLine : (w : ℕ) (i l : List ℕ) → All Printable i → All Printable l → All Printable (cutLine w i l)
-unfolding cutLine fitting
-printable-cutLine w i l h k = all-append Printable (firstOf (w - textWidth (fitting w i)) l) (fitting w i)
-    (all-first Printable (w - textWidth (fitting w i)) l k) (go (leb (textWidth i) w))
+unfolding cutLine shownIndicator
+printable-cutLine w i l h k = all-append Printable (firstOf (w - textWidth (shownIndicator w i)) l) (shownIndicator w i)
+    (all-first Printable (w - textWidth (shownIndicator w i)) l k) (go (leb (textWidth i) w))
   where
     go : (b : Bool) → All Printable (elim b as (λ x. List ℕ) [ true ↦ i | false ↦ [] ])
     go true = h

@@ -1,15 +1,15 @@
 -- There are as many content widths as columns, and each is at least 1. Assumes nothing.
-use Prim.Native.Nat.{ℕ, zero, suc, _+_, _-_, _*_, _/_, _%_, _≤_, _<_, max}
-use mathlib.Core.Path.{_≡_, refl, ap, sym, _∙_}
+use Prim.Native.Nat.{ℕ, zero, suc, _+_, _-_, _*_, _/_, _≤_, max}
+use mathlib.Core.Path.{_≡_, refl, _∙_}
 use mathlib.Core.List.{List, [], _∷_, map}
-use mathlib.Core.Bool.{Bool, true, false, not, _||_}
+use mathlib.Core.Bool.{Bool, true, false, _||_}
 use mathlib.Core.Option.{Option, none, some}
 use native.Mathlib.Nat.{le-div-iff-mul-le}
 use native.Mathlib.Omega.{arith}
-use lib.ListN.{length, getD, take, set, length-set, length-map}
+use lib.ListN.{length, getD, take, length-set, length-map}
 use lib.Dec.{eqb, ltb}
 use borrow.Author.Tests.{eqb-true, eqb-false}
-use Rattle.rules.specs.Text.{upFrom, orElse, oneIf, keep, All}
+use Rattle.rules.specs.Text.{orElse, keep, All}
 use Rattle.rules.specs.Sheet.{Table, columnAt, isHidden}
 use Rattle.rules.specs.Widths.{State, Rule, numbers, first, untargeted, contents, zeros, undecided, average, averageIsSome, start, fix, fixAt, visit, pass, passes, aboveAverage, fittingAverage, splitAtAverage, share, shared, widened, step1, step2, step3, step4, visible, lifted, contentOf, upper, longest, isUndecided}
 use Rattle.rules.proofs.Lists.{all-map, all-getD, length-upFrom, all-upFrom}

@@ -7,21 +7,21 @@ use mathlib.Core.Bool.{Bool, true, false, not, cond}
 use native.Mathlib.Omega.{arith}
 use lib.ListN.{length, getD, take, length-append, length-take, length-map}
 use lib.Dec.{ltb, eqb}
-use borrow.Author.Tests.{ltb-true, ltb-false, not-true}
-use Rattle.rules.specs.Text.{textWidth, restOf, sum, oneIf, upFrom, keep, flat, All}
+use borrow.Author.Tests.{ltb-true, ltb-false}
+use Rattle.rules.specs.Text.{textWidth, restOf, sum, upFrom, keep, flat, All}
 use Rattle.rules.specs.Sheet.{Cell, Row, Table, noCell, noColumn, columnAt, cellAt, padding, isHidden}
 use Rattle.rules.specs.Limits.{longestLine, ColumnLimits, LineLimits, CellLimits, RowLimits, TableLimits, mostLines}
 use Rattle.rules.specs.Style.{topBorder, headerLines, headerRule, contentLines, rowRule, bottomBorder, anyLeft, anyRight, anyJunction, isVisible, bordersOf}
 use Rattle.rules.specs.Wrap.{Act, join, retry, fill, begin, onto, pieces, glue, room, full, act, last, place, weight, split, wrapLine, wrapLines, exceeds, cutLine, cut, delimiterOf}
 use Rattle.rules.specs.Widths.{numbers, visible, borders, contents}
-use Rattle.rules.specs.Page.{visibleWidth, visibleWidths, wrapped, cellLines, height, areaAt, areas, ruled, textLine, lineLength, borderLength, shown, headed, ruledMore, ruledRows, rowText, framed, pageLines, closed, lineAt, lineCount, byteCount}
+use Rattle.rules.specs.Page.{visibleWidth, visibleWidths, wrapped, cellLines, height, areaAt, areas, ruled, textLine, lineLength, borderLength, shown, headed, ruledMore, ruledRows, rowText, framed, pageLines, closed, lineCount}
 use Rattle.rules.proofs.Cases.{oneIf-le}
 use Rattle.rules.proofs.Lists.{all-map, all-map-imp, all-imp, all-append, all-default, all-getD, all-keep, length-upFrom, keep-yes, keep-no}
 use Rattle.rules.proofs.Bounds.{Most, greatest-le, contents-801}
 use Rattle.rules.proofs.Areas.{visible-below, length-widths, length-areas}
 use Rattle.rules.proofs.Rows.{all-headed, all-ruledRows}
 use Rattle.rules.proofs.Lines.{text-length, rule-length, border-length}
-use Rattle.rules.proofs.Sizes.{length-closed, byte-count-closed}
+use Rattle.rules.proofs.Sizes.{length-closed}
 
 -- ---- lines of a cell
 
@@ -221,16 +221,6 @@ length-keep {A} p (x ∷ xs) = go (p x) (length-keep p xs)
     go true h = omega arith
     go false h = omega arith
 
-kept-pass : {A : Type 0} (p : A → Bool) (xs : List A) → All (λ x. p x ≡ true) (keep p xs)
-unfolding keep
-kept-pass p [] = tt
-kept-pass {A} p (x ∷ xs) = go (p x) refl (kept-pass p xs)
-  where
-    go : (b : Bool) → p x ≡ b → All (λ x. p x ≡ true) (keep p xs) → All (λ x. p x ≡ true)
-        (elim b as (λ c. List A) [ true ↦ x ∷ keep p xs | false ↦ keep p xs ])
-    go true e h = (e, h)
-    go false e h = h
-
 from-upFrom : (m i n : ℕ) → m ≤ i → All (λ j. m ≤ j) (upFrom i n)
 unfolding upFrom
 from-upFrom m i zero h = tt
@@ -280,12 +270,6 @@ module _ (t : Table) where
   -- each a column
   pub visible-number : (i : ℕ) → i < length (visible t) → getD (visible t) i 0 < length (t .columns)
   visible-number i h = all-getD (λ j. j < length (t .columns)) (visible t) i 0 h (visible-below t)
-
-  -- that isn't hidden
-  pub visible-shown : (i : ℕ) → i < length (visible t) → isHidden (columnAt t (getD (visible t) i 0)) ≡ false
-  unfolding visible
-  visible-shown i h = not-true (isHidden (columnAt t (getD (visible t) i 0)))
-      (all-getD (λ j. not (isHidden (columnAt t j)) ≡ true) (visible t) i 0 h (kept-pass (λ j. not (isHidden (columnAt t j))) (numbers t)))
 
 -- ---- how long lines are
 
@@ -362,11 +346,6 @@ module _ (t : Table) (ws : List ℕ) where
   unfolding framed
   framed-line-lengths rs = search (all-append, all-headed, all-ruledRows, shown-lengths, text-lengths)
 
--- the whole page
-pub page-line-lengths : (t : Table) → All (λ l. (length l ≡ lineLength t (contents t)) ⊎ (length l ≡ borderLength t (contents t))) (pageLines t)
-unfolding pageLines
-page-line-lengths t = framed-line-lengths t (contents t) (t .rows)
-
 bytes-longest : (ls : List (List ℕ)) → All (λ l. length l ≤ longestLine) ls → sum (map (λ l. length l + 1) ls) ≤ (longestLine + 1) * length ls
 unfolding sum
 bytes-longest [] h = omega arith
@@ -382,15 +361,6 @@ module _ (t : Table) (T : TableLimits t) where
       go l (inl e) = omega (arith, line-length-bound t T)
       go l (inr e) = omega (arith, border-length-bound t T)
 
-  -- line k of the page, its 0A included
-  pub line-at-bound : (k : ℕ) → length (lineAt t k) ≤ longestLine + 1
-  unfolding lineAt pageLines
-  line-at-bound k = simp length-append (omega (
-    arith,
-    all-default (λ l. length l ≤ longestLine) (pageLines t) k [] (omega arith)
-        (framed-line-bound (t .rows)),
-  ))
-
   -- the bytes of lines over some of the rows
   pub framed-byte-bound : (rs : List Row) → length rs ≤ 100 → All (RowLimits (length (t .columns))) rs → length (closed (framed t (contents t) rs)) ≤
       mostLines * (longestLine + 1)
@@ -402,8 +372,3 @@ module _ (t : Table) (T : TableLimits t) where
         framed-count t T
             (contents t) rs n h,
       )
-
-  -- and those of the page
-  pub byte-count-bound : byteCount t ≤ mostLines * (longestLine + 1)
-  unfolding pageLines
-  byte-count-bound = omega (arith, byte-count-closed t, framed-byte-bound (t .rows) (T .rows) (T .each-row))

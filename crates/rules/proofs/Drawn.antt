@@ -8,7 +8,7 @@ use native.Mathlib.Nat.{not-suc-le-zero}
 use lib.ListN.{length}
 use Rattle.rules.specs.Text.{upFrom, All}
 use Rattle.rules.specs.Sheet.{Row, Table}
-use Rattle.rules.specs.Style.{topBorder, headerLines, headerRule, contentLines, rowRule, bottomBorder, glyphAt, given, glyph, anyLeft, anyRight, anyJunction, isVisible}
+use Rattle.rules.specs.Style.{topBorder, headerLines, headerRule, contentLines, rowRule, bottomBorder, glyphAt, isSet, glyph, anyLeft, anyRight, anyJunction, isVisible}
 use Rattle.rules.specs.Widths.{visible}
 use Rattle.rules.specs.Page.{visibleWidth, visibleWidths, height, areaAt, areas, lineOf, joined, edge, ruled, textLine, shown, headed, ruledRows, rowText, framed}
 use Rattle.rules.specs.Words.{Readable}
@@ -17,7 +17,7 @@ use Rattle.rules.proofs.Cancel.{line-cancel, border-cancel, runs}
 use Rattle.rules.proofs.Fits.{area-lengths}
 use Rattle.rules.proofs.Rows.{Tells, apart, headed-same, rows-same}
 
-given-set : (c : ℕ) → c ≢ 0 → given c ≡ true
+given-set : (c : ℕ) → c ≢ 0 → isSet c ≡ true
 given-set zero h = absurd (h refl)
 given-set (suc n) h = refl
 

@@ -9,7 +9,7 @@ use lib.Dec.{leb}
 use borrow.Author.Tests.{leb-true}
 use Rattle.rules.specs.Text.{textWidth, All}
 use Rattle.rules.specs.Sheet.{Row, Table, columnAt, cellAt}
-use Rattle.rules.specs.Wrap.{wrapLines, fitting, cutLine, cut, exceeds, delimiterOf}
+use Rattle.rules.specs.Wrap.{wrapLines, shownIndicator, cutLine, cut, exceeds, delimiterOf}
 use Rattle.rules.specs.Page.{areaAt, cellLines, wrapped, visibleWidth, alignmentOf}
 use Rattle.rules.proofs.Lists.{all-append, all-take, all-default}
 use Rattle.rules.proofs.Text.{width-nil, width-append, width-first}
@@ -27,8 +27,8 @@ all-cut P w i h ls n c k = go (exceeds h (length ls))
     go false = k
 
 -- an indicator that is kept fits
-fitting-le : (w : ℕ) (i : List ℕ) → textWidth (fitting w i) ≤ w
-unfolding fitting
+fitting-le : (w : ℕ) (i : List ℕ) → textWidth (shownIndicator w i) ≤ w
+unfolding shownIndicator
 fitting-le w i = go (leb (textWidth i) w) refl
   where
     go : (b : Bool) → leb (textWidth i) w ≡ b → textWidth (elim b as (λ x. List ℕ) [ true ↦ i | false ↦ [] ]) ≤ w

@@ -20,10 +20,6 @@ module _ (q : ℕ → Bool) (d : ℕ) (out : q d ≡ true) where
   rest-append : (l m : List ℕ) → rest (l ++ m) ≡ rest l ++ rest m
   rest-append l m = keep-append (λ c. not (q c)) l m
 
-  rest-nil : rest [] ≡ []
-  unfolding keep
-  rest-nil = refl
-
   rest-glue : (l p : List ℕ) → rest (glue d l p) ≡ rest l ++ rest p
   unfolding glue keep
   rest-glue [] p = refl

@@ -7,7 +7,6 @@ use mathlib.Core.Bool.{Bool, true, false, not, _||_}
 use native.Mathlib.Omega.{arith}
 use lib.ListN.{length, replicate}
 use lib.Dec.{eqb}
-use borrow.Author.Tests.{eqb-false, not-true}
 use Rattle.rules.specs.Opened.{rules}
 use Rattle.rules.specs.Quote.{ascii}
 use Rattle.rules.specs.Text.{flat}
@@ -17,7 +16,7 @@ use Rattle.rules.specs.Format.{sheet}
 use Rattle.rules.specs.Style.{topBorder, headerLines, headerRule, contentLines, rowRule, glyphAt, glyph, isVisible}
 use Rattle.rules.specs.Widths.{visible, first, contents}
 use Rattle.rules.specs.Page.{height, page}
-use Rattle.rules.specs.Words.{Readable, linesOf, characters, letters}
+use Rattle.rules.specs.Words.{linesOf, characters, letters}
 use Rattle.rules.specs.Demand3.{Comparable, Agree}
 use Rattle.rules.specs.Examples.{grid}
 use Rattle.rules.proofs.Wrote.{grid-readable}
@@ -85,26 +84,6 @@ conditions S =
     ∷ not (eqb (glyph (glyphAt S contentLines)) (glyph (glyphAt S headerRule)))
     ∷ not (eqb (glyph (glyphAt S contentLines)) (glyph (glyphAt S rowRule)))
     ∷ []
-
-unlike : (a b : ℕ) → not (eqb a b) ≡ true → a ≢ b
-unlike a b h = eqb-false a b (not-true (eqb a b) h)
-
--- a style that meets them all is readable
-pub conditions-readable : (S : List ℕ) → conditions S ≡ replicate 12 true → Readable S
-conditions-readable S e = record {
-  top-left = unlike (glyphAt S topBorder) 0 (cc);
-  top-fill = unlike (glyphAt S (topBorder + 1)) 0 (cc);
-  top-junction = unlike (glyphAt S (topBorder + 2)) 0 (cc);
-  top-right = unlike (glyphAt S (topBorder + 3)) 0 (cc);
-  top = unlike (glyph (glyphAt S (topBorder + 2))) (glyph (glyphAt S (topBorder + 1))) (cc);
-  header-rule = cc;
-  row-rule = cc;
-  fills = unlike (glyph (glyphAt S (headerRule + 1))) (glyph (glyphAt S (rowRule + 1))) (cc);
-  header-header = unlike (glyph (glyphAt S headerLines)) (glyph (glyphAt S headerRule)) (cc);
-  header-row = unlike (glyph (glyphAt S headerLines)) (glyph (glyphAt S rowRule)) (cc);
-  content-header = unlike (glyph (glyphAt S contentLines)) (glyph (glyphAt S headerRule)) (cc);
-  content-row = unlike (glyph (glyphAt S contentLines)) (glyph (glyphAt S rowRule)) (cc);
-}
 
 -- two accepted sheets with one style that meets the conditions cs, a visible column each, rows of hs and ks lines, and one page
 pub record Pair (t u : Table) (cs : List Bool) (hs ks : List ℕ) : Type 0 where

@@ -2,10 +2,9 @@
 use Prim.Native.Nat.{ℕ, suc, _+_, _-_, _<_, min}
 use mathlib.Core.Path.{_≡_, refl}
 use mathlib.Core.List.{List, [], _∷_, _++_}
-use mathlib.Core.Bool.{Bool, true, false, cond}
 use native.Mathlib.Omega.{arith}
-use lib.ListN.{length, length-append, length-take, length-drop, length-replicate, take-append-drop}
-use Rattle.rules.specs.Text.{textWidth, firstOf, restOf, blank, oneIf, All}
+use lib.ListN.{length, length-append, length-take, length-drop, take-append-drop}
+use Rattle.rules.specs.Text.{textWidth, firstOf, restOf, All}
 use Rattle.rules.proofs.Lists.{all-take, all-drop}
 
 -- a character is one byte and one column. What leans on this alone is what a wider alphabet changes
@@ -23,20 +22,10 @@ pub width-first : (n : ℕ) (l : List ℕ) → textWidth (firstOf n l) ≡ min n
 unfolding textWidth firstOf
 width-first n l = rw length-take
 
--- and leaves the others
-pub width-rest : (n : ℕ) (l : List ℕ) → textWidth (restOf n l) ≡ textWidth l - n
-unfolding textWidth restOf
-width-rest n l = length-drop n l
-
 -- and loses nothing
 pub first-rest : (n : ℕ) (l : List ℕ) → firstOf n l ++ restOf n l ≡ l
 unfolding firstOf restOf
 first-rest n l = take-append-drop n l
-
--- n spaces take n columns
-pub width-blank : (n : ℕ) → textWidth (blank n) ≡ n
-unfolding textWidth
-width-blank n = length-replicate n 32
 
 -- no text takes no column
 pub width-nil : textWidth [] ≡ 0
@@ -62,8 +51,3 @@ all-first P n l h = all-take P n l h
 pub all-rest : (P : ℕ → Type 0) (n : ℕ) (l : List ℕ) → All P l → All P (restOf n l)
 unfolding restOf
 all-rest P n l h = all-drop P n l h
-
--- a yes counted, as a choice of numbers
-pub cond-one : (b : Bool) → cond b 1 0 ≡ oneIf b
-cond-one true = refl
-cond-one false = refl

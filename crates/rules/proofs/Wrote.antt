@@ -9,7 +9,7 @@ use lib.Seq.{take-append-seam}
 use lib.Dec.{leb}
 use Rattle.rules.specs.Sheet.{Table}
 use Rattle.rules.specs.Page.{page}
-use Rattle.rules.specs.Calls.{put, printOf, printPage, over, turned, Written}
+use Rattle.rules.specs.Calls.{put, printOf, printPage, over, notPrinted, Written}
 use Rattle.rules.specs.Words.{Accepted, wrote, Answered, Readable}
 use Rattle.rules.specs.Examples.{grid}
 
@@ -20,7 +20,7 @@ put-wrote l b = go (leb (length l) (length b))
     done : Bool → Written
     done x = elim x [
       | true ↦ record { answer = record { number = 0; place = 0; written = length l }; buffer = over l b }
-      | false ↦ turned 20
+      | false ↦ notPrinted 20
           (length l) b
     ]
 

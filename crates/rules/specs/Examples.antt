@@ -2,8 +2,8 @@
 use Prim.Native.Nat.{ℕ}
 use mathlib.Core.Path.{_≡_, refl}
 use mathlib.Core.List.{List, [], _∷_, _++_, map}
-use mathlib.Core.Bool.{Bool, true, false}
-use mathlib.Core.Option.{Option, none, some}
+use mathlib.Core.Bool.{true}
+use mathlib.Core.Option.{none, some}
 use lib.ListN.{length, replicate}
 use Rattle.rules.specs.Opened.{rules}
 use Rattle.rules.specs.Quote.{ascii}
@@ -14,7 +14,7 @@ use Rattle.rules.specs.Wrap.{place, wrapLine, cutLine}
 use Rattle.rules.specs.Widths.{borders, widthOf, first, splitAtAverage, share, contents}
 use Rattle.rules.specs.Page.{ruled}
 use Rattle.rules.specs.Words.{widthsOf, linesOf, areaOf, characters, letters}
-use Rattle.rules.specs.Calls.{count, printPage, printLine, turned}
+use Rattle.rules.specs.Calls.{count, printPage, printLine, notPrinted}
 
 -- the house grid, the bare style, and the document's sheet of 81 bytes
 abbrev pub grid : List ℕ
@@ -95,7 +95,7 @@ pub record Examples : Type 0 where
   pub percent-50 : widthOf wide (record { unit = 1; value = 50 }) ≡ some 9
   pub percent-150 : widthOf wide (record { unit = 1; value = 150 }) ≡ some 18
   pub empty-page : count empty ≡ record { number = 0; place = 0; lines = 0; bytes = 0 }
-  pub empty-line : (b : List ℕ) → printLine empty 0 b ≡ turned 21 0 b
+  pub empty-line : (b : List ℕ) → printLine empty 0 b ≡ notPrinted 21 0 b
   pub house-bytes : length house ≡ 81
   pub house-page : printPage house (replicate 90 7)
       ≡ record {

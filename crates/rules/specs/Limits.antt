@@ -2,12 +2,13 @@
 use Prim.Native.Nat.{ℕ, _*_, _≤_}
 use mathlib.Core.Path.{_≡_}
 use mathlib.Core.Logic.{_⊎_}
-use mathlib.Core.List.{List, [], _∷_}
-use mathlib.Core.Bool.{Bool, true, false}
+use mathlib.Core.List.{List}
+use mathlib.Core.Bool.{Bool, false}
 use lib.ListN.{length}
 use lib.Dec.{leb, eqb}
 use Rattle.rules.specs.Text.{All}
 use Rattle.rules.specs.Sheet.{Width, Column, Cell, Row, Table, mostColumns}
+use Rattle.rules.specs.Style.{styleCharacters}
 
 -- no line of a page is longer, its 0A left aside: a column takes content of at most 801, paddings of 20 and 20, and a junction
 abbrev pub longestLine : ℕ
@@ -64,7 +65,7 @@ pub record TableLimits (t : Table) : Type 0 where
   pub delimiter : Optional (t .delimiter)
   pub indicator : length (t .indicator) ≤ 8
   pub indicator-characters : All Printable (t .indicator)
-  pub style : length (t .style) ≡ 22
+  pub style : length (t .style) ≡ styleCharacters
   pub style-characters : All Optional (t .style)
   pub columns : length (t .columns) ≤ mostColumns
   pub each-column : All ColumnLimits (t .columns)

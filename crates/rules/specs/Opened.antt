@@ -4,7 +4,7 @@ use Rattle.rules.specs.Field.{onward, byte, word, only, zeroWord, severa
 use Rattle.rules.specs.Description.{reads}
 use Rattle.rules.specs.Format.{width, column, line, cell, row, table, sheet}
 use Rattle.rules.specs.Style.{bordersOf}
-use Rattle.rules.specs.Wrap.{onto, pieces, glue, room, tight, full, act, last, place, weight, split, wrapLine, wrapLines, exceeds, fitting, cutLine, cut}
+use Rattle.rules.specs.Wrap.{onto, pieces, glue, room, tight, full, act, last, place, weight, split, wrapLine, wrapLines, exceeds, shownIndicator, cutLine, cut}
 use Rattle.rules.specs.Widths.{cellsOf, cellLongest, longest, numbers, visible, borders, percentOf, widthOf, valueOf, lowerWidth, upperWidth}
 use Rattle.rules.specs.Widths.{absoluteWidth, lower, upper, absolute, covering, evaluate, noted, first, untargeted, zeros, taken, start, fix}
 use Rattle.rules.specs.Widths.{fixAt, visit, pass, passes, aboveAverage, withinAverage, fittingAverage, trialParts, cellParts, longestPart}
@@ -22,7 +22,7 @@ unfolding onward byte word only zeroWord several reads ended width column line c
 reading = tt
 
 unfoldable wrapping : Unit {0}
-unfolding onto pieces glue room tight full act last place weight split wrapLine wrapLines exceeds fitting cutLine cut bordersOf
+unfolding onto pieces glue room tight full act last place weight split wrapLine wrapLines exceeds shownIndicator cutLine cut bordersOf
 wrapping = tt
 
 unfoldable constraining : Unit {0}

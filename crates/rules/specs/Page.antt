@@ -1,10 +1,10 @@
 -- Aligning and drawing: areas, lines, the page. ws: each column's content width. Assumes nothing.
-use Prim.Native.Nat.{ℕ, zero, suc, _+_, _-_, _/_}
+use Prim.Native.Nat.{ℕ, _+_, _-_, _/_}
 use mathlib.Core.List.{List, [], _∷_, _++_, map}
 use mathlib.Core.Bool.{Bool, true, false, _||_, cond}
 use lib.ListN.{length, getD, replicate}
 use lib.Dec.{eqb, leb}
-use Rattle.rules.specs.Text.{textWidth, blank, orElse, oneIf, greatest, sum, upFrom, flat}
+use Rattle.rules.specs.Text.{textWidth, blank, orElse, oneIf, greatest, sum, upFrom}
 use Rattle.rules.specs.Sheet.{Column, Cell, Row, Table, columnAt, cellAt, padding}
 use Rattle.rules.specs.Style.{topBorder, headerLines, headerRule, contentLines, rowRule, bottomBorder, glyphAt, glyph, anyLeft, anyRight, anyJunction, isVisible}
 use Rattle.rules.specs.Wrap.{delimiterOf, wrapLines, cut}
@@ -127,9 +127,9 @@ closed [] = []
 closed (l ∷ ls) = l ++ (10 ∷ closed ls)
 
 -- the first of some lines, as many as n bytes hold, each with its 0A
-unfoldable pub fitting : ℕ → List (List ℕ) → List (List ℕ)
-fitting n [] = []
-fitting n (l ∷ ls) = elim (leb (length l + 1) n) [ true ↦ l ∷ fitting (n - (length l + 1)) ls | false ↦ [] ]
+unfoldable pub wholeLines : ℕ → List (List ℕ) → List (List ℕ)
+wholeLines n [] = []
+wholeLines n (l ∷ ls) = elim (leb (length l + 1) n) [ true ↦ l ∷ wholeLines (n - (length l + 1)) ls | false ↦ [] ]
 
 -- the page
 unfoldable pub page : Table → List ℕ

@@ -1,20 +1,20 @@
 -- Readable style, and the words of demand 3. Assumes nothing.
-use Prim.Native.Nat.{ℕ, zero, suc, _+_, _≤_, _<_}
+use Prim.Native.Nat.{ℕ, _+_, _≤_}
 use mathlib.Core.Path.{_≡_}
 use mathlib.Core.Logic.{_≢_, _⊎_}
-use mathlib.Core.List.{List, [], _∷_, _++_, map}
+use mathlib.Core.List.{List}
 use mathlib.Core.Bool.{Bool, true, false, not, _||_}
 use lib.ListN.{length, getD, take}
 use lib.Dec.{eqb, ltb}
 use Rattle.rules.specs.Text.{flat, keep}
-use Rattle.rules.specs.Sheet.{Cell, Row, Table, columnAt, cellAt, noRow, allRows}
-use Rattle.rules.specs.Field.{Read, got, refused}
+use Rattle.rules.specs.Sheet.{Row, Table, columnAt, cellAt, noRow, allRows}
+use Rattle.rules.specs.Field.{got}
 use Rattle.rules.specs.Format.{sheet}
 use Rattle.rules.specs.Style.{topBorder, headerLines, headerRule, contentLines, rowRule, glyphAt, glyph, isVisible}
 use Rattle.rules.specs.Wrap.{delimiterOf}
 use Rattle.rules.specs.Widths.{visible, contents}
 use Rattle.rules.specs.Page.{visibleWidths, wrapped, height, areaAt}
-use Rattle.rules.specs.Calls.{Written, printPage}
+use Rattle.rules.specs.Calls.{printPage}
 
 -- "A readable style sets all four top characters, junction unlike fill. Both rules are visible and their fills differ. The left of header lines
 -- and of content lines differ from the left of both rules. An unset character counts as a space."

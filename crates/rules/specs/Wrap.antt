@@ -5,7 +5,7 @@ use mathlib.Core.Bool.{Bool, true, false}
 use lib.ListN.{length, take, getD}
 use lib.Dec.{ltb, leb, eqb}
 use Rattle.rules.specs.Text.{textWidth, firstOf, restOf, flat, orElse}
-use Rattle.rules.specs.Sheet.{Column, Cell, Row, Table}
+use Rattle.rules.specs.Sheet.{Column, Cell, Table}
 
 -- delimiter: the cell's, else column's, table's, a space
 abbrev pub delimiterOf : Table → Column → Cell → ℕ
@@ -93,12 +93,12 @@ exceeds zero n = false
 exceeds (suc h) n = ltb (suc h) n
 
 -- an indicator wider than the content is dropped
-unfoldable pub fitting : ℕ → List ℕ → List ℕ
-fitting w i = elim (leb (textWidth i) w) [ true ↦ i | false ↦ [] ]
+unfoldable pub shownIndicator : ℕ → List ℕ → List ℕ
+shownIndicator w i = elim (leb (textWidth i) w) [ true ↦ i | false ↦ [] ]
 
 -- the last line is shortened until it and the indicator fit
 unfoldable pub cutLine : ℕ → List ℕ → List ℕ → List ℕ
-cutLine w i l = firstOf (w - textWidth (fitting w i)) l ++ fitting w i
+cutLine w i l = firstOf (w - textWidth (shownIndicator w i)) l ++ shownIndicator w i
 
 -- a cell with more lines than the height limit keeps that many
 unfoldable pub cut : ℕ → List ℕ → ℕ → List (List ℕ) → List (List ℕ)

@@ -2,7 +2,7 @@
 ghost use mathlib.Core.Path.{_≡_};
 ghost use mathlib.Core.Bool.{_||_};
 ghost use Rattle.rules.specs.Examples.{grid, bare};
-ghost use Rattle.rules.specs.Style.{given, anyLeft, anyRight, anyJunction, isVisible, topBorder, headerRule, rowRule, bottomBorder};
+ghost use Rattle.rules.specs.Style.{isSet, anyLeft, anyRight, anyJunction, isVisible, topBorder, headerRule, rowRule, bottomBorder};
 ghost use Rattle.style.specs.Bytes.{bytesOf, lineBytes};
 
 // A border or a rule.
@@ -32,7 +32,7 @@ pub struct TableStyle {
 
 // One of four characters is set.
 fn any_of_four(a: u8, b: u8, c: u8, d: u8) -> bool
-    ensures { λ r. ⌜ r ≡ (given a || given b || given c || given d) ⌝ }
+    ensures { λ r. ⌜ r ≡ (isSet a || isSet b || isSet c || isSet d) ⌝ }
 {
     if a != 0 {
         return true;
@@ -48,7 +48,7 @@ fn any_of_four(a: u8, b: u8, c: u8, d: u8) -> bool
 
 // One of six characters is set: a style has six that stand at the same edge.
 fn any_of_six(a: u8, b: u8, c: u8, d: u8, e: u8, f: u8) -> bool
-    ensures { λ r. ⌜ r ≡ (given a || given b || given c || given d || given e || given f) ⌝ }
+    ensures { λ r. ⌜ r ≡ (isSet a || isSet b || isSet c || isSet d || isSet e || isSet f) ⌝ }
 {
     if any_of_four(a, b, c, d) {
         return true;

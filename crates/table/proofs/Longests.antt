@@ -11,7 +11,7 @@ use lib.Dec.{ltb, eqb}
 use borrow.Author.Tests.{lt-ltb, le-ltb, ltb-true, ltb-false, eqb-true, eqb-false}
 use Rattle.rules.specs.Text.{All, textWidth, greatest, upFrom}
 use Rattle.rules.specs.Sheet as sheet
-use Rattle.rules.specs.Sheet.{Table, mostColumns, noCell, noRow, cellAt, allRows}
+use Rattle.rules.specs.Sheet.{Table, mostColumns, noCell, cellAt, allRows}
 use Rattle.rules.specs.Widths as widths
 use Rattle.rules.specs.Widths.{cellsOf, cellLongest}
 use Rattle.rules.specs.Limits.{RowLimits}
@@ -20,7 +20,7 @@ use Rattle.rules.proofs.Text.{width-length}
 use Rattle.rules.proofs.Lists.{length-upFrom}
 use Rattle.rules.specs.Places.{byteAt, parts, textAt, lineStop, rowHere, rowStop, rowsPlace}
 use Rattle.rules.proofs.Stands.{text-length}
-use Rattle.table.specs.Held.{Passes, tableOf}
+use Rattle.table.specs.Held.{IsAccepted, tableOf}
 use Rattle.table.specs.Walk.{rowsIn, cellsIn, linesIn, rowsEnd, cellsEnd, linesEnd, firstRow, firstCell, RowIs, CellIs, RowsNext, LinesNext}
 use Rattle.table.specs.Longest.{longestIn, longestAt, Narrow, CellWalked, RowWalked, RowsWalked}
 use Rattle.table.specs.declared.records.Rows.{Rows}
@@ -267,7 +267,7 @@ all-narrow : (n : ℕ) (rs : List sheet.Row) → n ≤ mostColumns → All (RowL
 all-narrow n [] h a = tt
 all-narrow n (r ∷ rs) h a = (let c = a .0 .cells in omega arith, all-narrow n rs h (a .1))
 
-pub header-narrow : (s : List ℕ) (c : Rows) → Passes s → rowsIn s c ≡ tableOf s .header → rowsEnd s c ≡ rowsPlace s → Narrow (rowsIn s c) ×
+pub header-narrow : (s : List ℕ) (c : Rows) → IsAccepted s → rowsIn s c ≡ tableOf s .header → rowsEnd s c ≡ rowsPlace s → Narrow (rowsIn s c) ×
     (rowsEnd s c ≤ length s)
 header-narrow s c h e i =
     let r = held s h in
@@ -275,7 +275,7 @@ header-narrow s c h e i =
     let m = room s h in
     (rw e (all-narrow (length (tableOf s .columns)) (tableOf s .header) (l .columns) (l .header-row)), omega arith)
 
-pub rows-narrow : (s : List ℕ) (c : Rows) → Passes s → rowsIn s c ≡ tableOf s .rows → rowsEnd s c ≡ length s → Narrow (rowsIn s c) ×
+pub rows-narrow : (s : List ℕ) (c : Rows) → IsAccepted s → rowsIn s c ≡ tableOf s .rows → rowsEnd s c ≡ length s → Narrow (rowsIn s c) ×
     (rowsEnd s c ≤ length s)
 rows-narrow s c h e i =
     let r = held s h in

@@ -9,7 +9,7 @@ use Rattle.rules.specs.Sheet.{noRow, noCell}
 use Rattle.rules.specs.Places.{past, parts, byteAt, textAt, lineStop, cellHere, cellStop, rowHere, rowStop, headerPlace, rowsPlace}
 use Rattle.rules.proofs.Stands as stands
 use Rattle.rules.proofs.Stands.{Onward, past-onward, cell-here, cell-stop, row-here, row-stop, cell-onward, row-onward, lines-onward, cells-onward, rows-onward}
-use Rattle.table.specs.Held.{Passes, tableOf}
+use Rattle.table.specs.Held.{IsAccepted, tableOf}
 use Rattle.table.specs.Walk.{rowsIn, cellsIn, linesIn, rowsEnd, cellsEnd, linesEnd, firstRow, firstLine, RowIs, CellIs, RowsNext, CellsNext, CellsSkipped, LinesNext}
 use Rattle.table.specs.declared.records.Rows.{Rows}
 use Rattle.table.specs.declared.records.Cells.{Cells}
@@ -176,12 +176,12 @@ pub lines-inside : (s : List ℕ) (c : Cells) (x : Cell) → 0 < c .left → cel
 lines-inside s c x some h is = rw (is .ends) (cell-whole s c some h)
 
 -- where the walk over the header begins, and that over the rows
-pub header-is : (s : List ℕ) (p n : ℕ) → Passes s → p ≡ headerPlace s → n ≡ byteAt s p
+pub header-is : (s : List ℕ) (p n : ℕ) → IsAccepted s → p ≡ headerPlace s → n ≡ byteAt s p
     → (rowsIn s (record { at = p + 1; left = n }) ≡ tableOf s .header) × (rowsEnd s (record { at = p + 1; left = n }) ≡ rowsPlace s)
 unfolding rowsIn rowsEnd
 header-is s p n h e i = (rw (table-here s h, i, e) (sym (stands.header-here s)), rw (i, e) (sym (stands.rows-begin s)))
 
-pub rows-are : (s : List ℕ) (p n : ℕ) → Passes s → p ≡ rowsPlace s → n ≡ byteAt s p
+pub rows-are : (s : List ℕ) (p n : ℕ) → IsAccepted s → p ≡ rowsPlace s → n ≡ byteAt s p
     → (rowsIn s (record { at = p + 1; left = n }) ≡ tableOf s .rows) × (rowsEnd s (record { at = p + 1; left = n }) ≡ length s)
 unfolding rowsIn rowsEnd
 rows-are s p n h e i =
@@ -201,7 +201,7 @@ unfolding rowsEnd past
 rows-none s c h = let z : c .left ≡ 0 = omega arith in rw z
 
 -- behind the header there is a count
-pub rows-room : (s : List ℕ) (c : Rows) → Passes s → rowsEnd s c ≡ rowsPlace s → c .left ≤ 0 → c .at < length s
+pub rows-room : (s : List ℕ) (c : Rows) → IsAccepted s → rowsEnd s c ≡ rowsPlace s → c .left ≤ 0 → c .at < length s
 rows-room s c h e l = let r = room s h in let i = rows-none s c l in omega arith
 
 -- ---- cells passed over

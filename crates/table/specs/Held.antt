@@ -6,14 +6,14 @@ use lib.ListN.{length, replicate}
 use Rattle.rules.specs.Sheet.{Table, noColumn}
 use Rattle.rules.specs.Field.{Read, got, refused}
 use Rattle.rules.specs.Format.{sheet}
-use Rattle.rules.specs.Calls.{check, padded}
+use Rattle.rules.specs.Calls.{check, asArray}
 use Rattle.table.specs.declared.records.Settings.{Settings}
 use Rattle.table.specs.declared.records.Indicator.{Indicator}
 use Rattle.table.specs.declared.records.Columns.{Columns}
 
 -- the check answers 0
-abbrev pub Passes : List ℕ → Type 0
-Passes s = check s .number ≡ 0
+abbrev pub IsAccepted : List ℕ → Type 0
+IsAccepted s = check s .number ≡ 0
 
 abbrev noTable : Table
 noTable = record { edition = 0; arrangement = 0; target = 0; delimiter = 0; indicator = []; style = []; columns = []; header = []; rows = [] }
@@ -36,4 +36,4 @@ indicatorOf t = record { count = length (t .indicator); characters = t .indicato
 
 -- the columns, an empty one past them
 unfoldable pub columnsOf : Table → Columns
-columnsOf t = record { count = length (t .columns); each = padded noColumn (t .columns) }
+columnsOf t = record { count = length (t .columns); each = asArray noColumn (t .columns) }

@@ -6,7 +6,7 @@ ghost use lib.ListN.{length};
 ghost use Rattle.rules.specs.Text.{upFrom};
 ghost use Rattle.rules.specs.Sheet.{mostColumns};
 ghost use Rattle.rules.specs.Widths as widths;
-ghost use Rattle.table.specs.Held.{Passes, tableOf};
+ghost use Rattle.table.specs.Held.{IsAccepted, tableOf};
 ghost use Rattle.table.specs.Walk.{rowsIn, rowsEnd, cellsEnd, linesEnd};
 ghost use Rattle.table.specs.Longest.{Narrow, CellWalked, RowWalked, RowsWalked};
 use super::records::Cells;
@@ -86,7 +86,7 @@ fn of_rows(sheet: &[u8], rows: Rows, before: [u16; MOST_COLUMNS]) -> LongestLine
 
 // Each column's longest line over header and rows; 0 past the columns.
 pub fn longest(sheet: &[u8]) -> [u16; MOST_COLUMNS]
-    requires { ⌜ Passes (now sheet) ⌝ }
+    requires { ⌜ IsAccepted (now sheet) ⌝ }
     ensures { λ r. ⌜ r ≡ map (widths.longest (tableOf (now (sheet .entry)))) (upFrom 0 mostColumns) ⌝ }
 {
     let header = walk::header(sheet);

@@ -1,15 +1,16 @@
 // What an accepted sheet says of the whole table, by value.
 ghost use mathlib.Core.Path.{_≡_};
-ghost use Prim.Native.Nat.{_+_, _<_, _≤_};
+ghost use Prim.Native.Nat.{_+_, _<_};
 ghost use lib.ListN.{length};
 ghost use Rattle.rules.specs.Places.{wordAt, widthHere, columnHere};
-ghost use Rattle.table.specs.Held.{Passes, tableOf, settingsOf, indicatorOf, columnsOf};
+ghost use Rattle.table.specs.Held.{IsAccepted, tableOf, settingsOf, indicatorOf, columnsOf};
 use super::places;
 use super::records::Columns;
 use super::records::Indicator;
 use super::records::Settings;
 use rules::Column;
 use rules::MOST_COLUMNS;
+use rules::STYLE_CHARACTERS;
 use rules::Width;
 
 // Two bytes, low byte first.
@@ -24,7 +25,7 @@ fn word_at(sheet: &[u8], at: usize) -> u16
 
 // Arrangement, target and table delimiter stand at fixed places, so no byte before them is read.
 pub fn settings(sheet: &[u8]) -> Settings
-    requires { ⌜ Passes (now sheet) ⌝ }
+    requires { ⌜ IsAccepted (now sheet) ⌝ }
     ensures { λ r. ⌜ r ≡ settingsOf (tableOf (now (sheet .entry))) ⌝ }
 {
     Settings {
@@ -36,7 +37,7 @@ pub fn settings(sheet: &[u8]) -> Settings
 
 // The indicator is copied, since every cut cell is ended by it.
 pub fn indicator(sheet: &[u8]) -> Indicator
-    requires { ⌜ Passes (now sheet) ⌝ }
+    requires { ⌜ IsAccepted (now sheet) ⌝ }
     ensures { λ r. ⌜ r ≡ indicatorOf (tableOf (now (sheet .entry))) ⌝ }
 {
     let count = numbers::size(sheet[5]);
@@ -51,14 +52,14 @@ pub fn indicator(sheet: &[u8]) -> Indicator
 }
 
 // The style's characters, in the order of the record `TableStyle`.
-pub fn style(sheet: &[u8]) -> [u8; 22]
-    requires { ⌜ Passes (now sheet) ⌝ }
+pub fn style(sheet: &[u8]) -> [u8; STYLE_CHARACTERS]
+    requires { ⌜ IsAccepted (now sheet) ⌝ }
     ensures { λ r. ⌜ r ≡ tableOf (now (sheet .entry)) .style ⌝ }
 {
     let first = places::style_place(sheet) + 1;
-    let mut characters = [0u8; 22];
+    let mut characters = [0u8; STYLE_CHARACTERS];
     let mut i: usize = 0;
-    while i < 22 {
+    while i < STYLE_CHARACTERS {
         let at = first + i;
         characters[i] = sheet[at];
         i += 1;
@@ -106,7 +107,7 @@ const NONE: Column = Column {
 
 // The columns are copied once: widths and drawing ask for them again and again.
 pub fn columns(sheet: &[u8]) -> Columns
-    requires { ⌜ Passes (now sheet) ⌝ }
+    requires { ⌜ IsAccepted (now sheet) ⌝ }
     ensures { λ r. ⌜ r ≡ columnsOf (tableOf (now (sheet .entry))) ⌝ }
 {
     let place = places::columns_place(sheet);

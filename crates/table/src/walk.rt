@@ -3,7 +3,7 @@ ghost use mathlib.Core.Path.{_≡_};
 ghost use Prim.Native.Nat.{_<_, _≤_};
 ghost use lib.ListN.{length};
 ghost use Rattle.rules.specs.Places.{lineStop, cellStop, rowStop, rowsPlace};
-ghost use Rattle.table.specs.Held.{Passes, tableOf};
+ghost use Rattle.table.specs.Held.{IsAccepted, tableOf};
 ghost use Rattle.table.specs.Walk.{rowsIn, rowsEnd, cellsEnd, linesEnd, firstLine, RowIs, CellIs, RowsNext, CellsNext, CellsSkipped, LinesNext};
 use super::places;
 use super::records::Cell;
@@ -144,7 +144,7 @@ pub fn next_line(sheet: &[u8], c: Lines) -> Lines
 
 // The header: no row, or one.
 pub fn header(sheet: &[u8]) -> Rows
-    requires { ⌜ Passes (now sheet) ⌝ }
+    requires { ⌜ IsAccepted (now sheet) ⌝ }
     ensures { λ r. ⌜ (rowsIn (now (sheet .entry)) r ≡ tableOf (now (sheet .entry)) .header) × (rowsEnd (now (sheet .entry)) r ≡ rowsPlace (now (sheet .entry))) ⌝ }
 {
     let place = places::header_place(sheet);
@@ -157,7 +157,7 @@ pub fn header(sheet: &[u8]) -> Rows
 
 // The rows, which stand behind what is left of the header.
 pub fn rows(sheet: &[u8], header: Rows) -> Rows
-    requires { ⌜ Passes (now sheet) × (rowsEnd (now sheet) header ≡ rowsPlace (now sheet)) ⌝ }
+    requires { ⌜ IsAccepted (now sheet) × (rowsEnd (now sheet) header ≡ rowsPlace (now sheet)) ⌝ }
     ensures { λ r. ⌜ (rowsIn (now (sheet .entry)) r ≡ tableOf (now (sheet .entry)) .rows) × (rowsEnd (now (sheet .entry)) r ≡ length (now (sheet .entry))) ⌝ }
 {
     let mut c = header;

@@ -1,7 +1,7 @@
 use native.Mathlib.Omega.{arith}
 use mathlib.Core.Path.{sym}
 use denote.Ref.{now}
-use Rattle.buffer.specs.Put.{edge}
+use Rattle.buffer.specs.Put.{byteIf}
 use Rattle.borders.specs.Rule.{ruleArea}
 use Rattle.buffer.proofs.Laws.{two}
 use borrow.Author.Needs.{needs}
@@ -22,6 +22,6 @@ draw-fill-spec =
     let e = c .before .before .before .before .before .before .before .before .draw-edge in
     let f = c .before .before .fill in (
       omega (arith, e .ensures .0, f .ensures .0),
-      two (now (a .page)) (a .at) (edge (a .joins) (a .junction)) (ruleArea (a .v) (a .fill)) (e .last .0) (f .last .0) (e .result) (e .ensures .1)
+      two (now (a .page)) (a .at) (byteIf (a .joins) (a .junction)) (ruleArea (a .v) (a .fill)) (e .last .0) (f .last .0) (e .result) (e .ensures .1)
           (f .ensures .1) (sym (e .ensures .0)) (omega (arith, s .pre .1)),
     )))

@@ -1,7 +1,5 @@
-use borrow.Author.Needs.{needs}
 use native.Mathlib.Omega.{arith}
 use mathlib.Core.Path.{refl}
-use denote.Ref.{now}
 use Rattle.cells.proofs.Counts.{Counting, counting-begins, counting-room, counting-on, counting-done}
 use Rattle.cells.proofs.cell_height.Statement.{statement}
 use Rattle.cells.proofs.cell_height.Tie as tie

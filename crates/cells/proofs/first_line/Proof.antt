@@ -1,6 +1,5 @@
 use borrow.Author.Needs.{needs}
 use native.Mathlib.Omega.{arith}
-use denote.Ref.{now}
 use Rattle.cells.proofs.Laws.{Seeking, seeking-begins, seeking-found, seeking-on, seeking-done}
 use Rattle.cells.proofs.first_line.Statement.{statement}
 use Rattle.cells.proofs.first_line.Tie as tie

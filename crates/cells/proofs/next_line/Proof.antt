@@ -1,6 +1,4 @@
 use borrow.Author.Needs.{needs}
-use native.Mathlib.Omega.{arith}
-use denote.Ref.{now}
 use Rattle.cells.proofs.Laws.{next-ended, next-found, next-further}
 use Rattle.cells.proofs.next_line.Statement.{statement}
 use Rattle.cells.proofs.next_line.Tie as tie

@@ -1,5 +1,5 @@
 use borrow.Author.Needs.{needs}
-use mathlib.Core.Path.{_≡_, sym, ap, _∙_}
+use mathlib.Core.Path.{sym, ap, _∙_}
 use Rattle.cells.specs.Cell.{taken}
 use Rattle.cells.proofs.take_part.Statement.{statement}
 use Rattle.cells.proofs.take_part.Tie as tie

@@ -1,8 +1,7 @@
 use borrow.Author.Needs.{needs}
 use borrow.Author.Tests.{not-true, not-false}
 use native.Mathlib.Omega.{arith}
-use Prim.Native.Nat.{_≤_}
-use mathlib.Core.Path.{_≡_, sym, _∙_}
+use mathlib.Core.Path.{sym, _∙_}
 use denote.Ref.{now}
 use Rattle.lines.specs.Ahead.{stepsOf}
 use Rattle.lines.proofs.Walks.{total-lines, total-bytes, Counting, counting-begins, counting-room, counting-on, counting-done}

@@ -1,6 +1,5 @@
 use borrow.Author.Needs.{needs}
-use native.Mathlib.Omega.{arith}
-use mathlib.Core.Path.{_≡_, sym, _∙_}
+use mathlib.Core.Path.{sym, _∙_}
 use denote.Ref.{now}
 use Rattle.lines.proofs.Walks.{found-past, found-short, found-there}
 use Rattle.lines.proofs.find.Statement.{statement}

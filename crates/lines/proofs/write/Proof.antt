@@ -1,11 +1,10 @@
 use borrow.Author.Needs.{needs}
 use borrow.Author.Tests.{not-true, not-false}
 use native.Mathlib.Omega.{arith}
-use mathlib.Core.Path.{_≡_, refl, sym, _∙_}
+use mathlib.Core.Path.{refl, sym, _∙_}
 use denote.Ref.{now}
 use lib.ListN.{length-drop}
 use Rattle.lines.specs.Ahead.{partLines, stepsOf}
-use Rattle.formatting.proofs.Parts.{part-length}
 use Rattle.lines.proofs.Walks.{lines-few, part-few, Filling, filling-begins, filling-room, filling-size, filling-lines, filling-bytes, filling-kept, filling-on, filling-stops, filling-done}
 use Rattle.lines.proofs.write.Statement.{statement}
 use Rattle.lines.proofs.write.Tie as tie

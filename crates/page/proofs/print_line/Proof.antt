@@ -1,5 +1,4 @@
 use borrow.Author.Needs.{needs}
-use native.Mathlib.Omega.{arith}
 use mathlib.Core.Path.{refl, sym, ap, _∙_}
 use denote.Ref.{now}
 use lib.ListN.{take}
@@ -7,7 +6,7 @@ use lib.Seq.{length-take-le}
 use Rattle.rules.specs.Page.{lineAt}
 use Rattle.table.specs.Held.{tableOf}
 use Rattle.rules.specs.Calls.{Written}
-use Rattle.table.proofs.Held.{passes}
+use Rattle.table.proofs.Held.{is-accepted}
 use Rattle.page.proofs.Answers.{line-refused, line-turned, found-here, lines-bound, line-written, line-answer, prefix-back}
 use Rattle.page.proofs.print_line.Statement.{statement}
 use Rattle.page.proofs.print_line.Tie as tie
@@ -22,25 +21,25 @@ print-line-spec =
     let e = line-refused _ _ (c .before .before .before .check .ensures) (c .before .if1 .taken) _
     (now (c .before .before .before .before .before .before .args .page)) in
     (c .turned-down .ensures ∙ sym (ap (λ (w : Written). w .answer) e), sym (ap (λ (w : Written). w .buffer) e)))
-    (λ c κs. (passes _ _ (c .before .before .before .check .ensures) (c .before .if1 .left), refl))
+    (λ c κs. (is-accepted _ _ (c .before .before .before .check .ensures) (c .before .if1 .left), refl))
     (λ c κs. c .before .«open» .ensures .0)
     (λ c κs. search needs)
     (λ c.
-    let h = passes _ _ (c .before .before .before .before .before .before .before .before .before .check .ensures)
+    let h = is-accepted _ _ (c .before .before .before .before .before .before .before .before .before .check .ensures)
     (c .before .before .before .before .before .before .before .if1 .left) in
     let e = line-turned _ h _ (c .before .before .before .before .before .«open» .ensures .1) _
     (now (c .before .before .before .before .before .before .before .before .before .before .before .before .args .page)) _
     (c .before .before .before .find .ensures) (c .before .if2 .taken) in
     (c .turned-down2 .ensures ∙ sym (ap (λ (w : Written). w .answer) e), sym (ap (λ (w : Written). w .buffer) e)))
     (λ c.
-    let h = passes _ _ (c .before .before .before .before .before .before .before .before .before .check .ensures)
+    let h = is-accepted _ _ (c .before .before .before .before .before .before .before .before .before .check .ensures)
     (c .before .before .before .before .before .before .before .if1 .left) in
     found-here _ h _ (c .before .before .before .before .before .«open» .ensures .1)
     (c .before .before .before .before .before .before .before .before .before .before .before .before .args .line)
     (now (c .before .before .before .before .before .before .before .before .before .before .before .before .args .page)) _
     (c .before .before .before .find .ensures) (c .before .if2 .left) .1 .1)
     (λ c.
-    let h = passes _ _ (c .before .before .before .before .before .before .before .before .before .before .check .ensures)
+    let h = is-accepted _ _ (c .before .before .before .before .before .before .before .before .before .before .check .ensures)
     (c .before .before .before .before .before .before .before .before .if1 .left) in
     let b = now (c .before .before .before .before .before .before .before .before .before .before .before .before .before .args .page) in
     sym (length-take-le (c .before .before .before .before .find .result .place) b
@@ -48,7 +47,7 @@ print-line-spec =
     (c .before .before .before .before .before .before .before .before .before .before .before .before .before .args .line) b _
     (c .before .before .before .before .find .ensures) (c .before .before .if2 .left) .1 .1)))
     (λ c κs.
-    let h = passes _ _ (c .before .before .before .before .before .before .before .before .before .before .before .check .ensures)
+    let h = is-accepted _ _ (c .before .before .before .before .before .before .before .before .before .before .before .check .ensures)
     (c .before .before .before .before .before .before .before .before .before .if1 .left) in
     let o = c .before .before .before .before .before .before .before .«open» .ensures in
     let f = c .before .before .before .before .before .find .ensures in (
@@ -62,7 +61,7 @@ print-line-spec =
     ))
     (λ c. search needs)
     (λ c.
-    let h = passes _ _ (c .before .before .before .before .before .before .before .before .before .before .before .before .before .before .check
+    let h = is-accepted _ _ (c .before .before .before .before .before .before .before .before .before .before .before .before .before .before .check
     .ensures) (c .before .before .before .before .before .before .before .before .before .before .before .before .if1 .left) in
     let o = c .before .before .before .before .before .before .before .before .before .before .«open» .ensures .1 in
     let f = c .before .before .before .before .before .before .before .before .find .ensures in

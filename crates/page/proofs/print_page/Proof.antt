@@ -3,7 +3,7 @@ use native.Mathlib.Omega.{arith}
 use mathlib.Core.Path.{refl, sym, ap, _∙_}
 use denote.Ref.{now}
 use Rattle.rules.specs.Calls.{Written}
-use Rattle.table.proofs.Held.{passes}
+use Rattle.table.proofs.Held.{is-accepted}
 use Rattle.lines.proofs.Parts.{first-at, first-ahead}
 use Rattle.page.proofs.Answers.{page-refused, count-all, lines-bound-first, page-short, page-written}
 use Rattle.page.proofs.print_page.Statement.{statement}
@@ -19,11 +19,11 @@ print-page-spec =
     let e = page-refused _ _ (c .before .before .before .check .ensures) (c .before .if1 .taken)
     (now (c .before .before .before .before .before .before .args .page)) in
     (c .turned-down .ensures ∙ sym (ap (λ (w : Written). w .answer) e), sym (ap (λ (w : Written). w .buffer) e)))
-    (λ c κs. (passes _ _ (c .before .before .before .check .ensures) (c .before .if1 .left), refl))
+    (λ c κs. (is-accepted _ _ (c .before .before .before .check .ensures) (c .before .if1 .left), refl))
     (λ c κs. c .before .«open» .ensures .0)
     (λ c κs. search needs)
     (λ c.
-    let h = passes _ _ (c .before .before .before .before .before .before .before .before .before .check .ensures)
+    let h = is-accepted _ _ (c .before .before .before .before .before .before .before .before .before .check .ensures)
     (c .before .before .before .before .before .before .before .if1 .left) in
     let t = count-all _ h _ (c .before .before .before .before .before .«open» .ensures .1) _ (c .before .before .before .count .ensures) in
     let e = page-short _ h (now (c .before .before .before .before .before .before .before .before .before .before .before .before .args .page)) _
@@ -32,7 +32,7 @@ print-page-spec =
     (λ c κs. search needs)
     (λ c κs.
     let O = c .before .before .before .before .before .before .before .«open» .ensures .0 in
-    let h = passes _ _ (c .before .before .before .before .before .before .before .before .before .before .before .check .ensures)
+    let h = is-accepted _ _ (c .before .before .before .before .before .before .before .before .before .before .before .check .ensures)
     (c .before .before .before .before .before .before .before .before .before .if1 .left) in
     rw (c .first .ensures) (
       O,
@@ -45,7 +45,7 @@ print-page-spec =
     (λ c. search needs)
     (λ c.
     let o = c .before .before .before .before .before .before .before .before .before .before .«open» .ensures in
-    let h = passes _ _ (c .before .before .before .before .before .before .before .before .before .before .before .before .before .before .check
+    let h = is-accepted _ _ (c .before .before .before .before .before .before .before .before .before .before .before .before .before .before .check
     .ensures) (c .before .before .before .before .before .before .before .before .before .before .before .before .if1 .left) in
     let t = count-all _ h _ (o .1) _ (c .before .before .before .before .before .before .before .before .count .ensures) in
     let w = c .before .before .write in

@@ -1,5 +1,5 @@
 -- `page::widths` meets its contract. Assumes nothing.
-use Rattle.table.proofs.Held.{passes}
+use Rattle.table.proofs.Held.{is-accepted}
 use Rattle.page.proofs.Measured.{measure-refused, measure-accepted}
 use borrow.Author.Needs.{needs}
 use Rattle.page.proofs.widths.Statement.{statement}
@@ -11,5 +11,5 @@ widths-spec =
     (tie.spec
     (λ c κs. search needs)
     (λ c. search (needs, measure-refused))
-    (λ c κs. search (needs, passes))
-    (λ c. search (needs, measure-accepted, passes)))
+    (λ c κs. search (needs, is-accepted))
+    (λ c. search (needs, measure-accepted, is-accepted)))

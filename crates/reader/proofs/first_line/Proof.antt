@@ -1,6 +1,6 @@
 -- `reader::first_line` meets its contract: a walk of its MIR, by hand. A reader is made of the sheet, in a local, and passed on to `next` with the page.
 -- Assumes nothing.
-use mathlib.Core.Path.{_≡_, refl, ap, ap₂, _∙_}
+use mathlib.Core.Path.{_≡_, refl, ap₂, _∙_}
 use Prim.Native.Nat.{ℕ}
 use mathlib.Core.List.{[], _∷_, List}
 use lib.ListN.{length}

@@ -1,7 +1,6 @@
 use borrow.Author.Needs.{needs}
 use native.Mathlib.Omega.{arith}
 use Prim.Native.Nat.{_<_}
-use mathlib.Core.Path.{sym}
 use denote.Ref.{now}
 use Rattle.table.proofs.Walks.{lines-inside}
 use Rattle.row.proofs.Open.{opened-missing, opened-cell}

@@ -3,12 +3,10 @@ use native.Mathlib.Omega.{arith}
 use Prim.Native.Nat.{ℕ, _+_, _-_}
 use mathlib.Core.Path.{sym, ap, _∙_}
 use denote.Ref.{now}
-use lib.ListN.{length, take, drop}
 use lib.Seq.{length-take-le}
-use Rattle.rules.specs.Text.{textWidth}
 use Rattle.buffer.specs.Put.{putAt}
 use Rattle.formatting.specs.Area.{areaIn}
-use Rattle.formatting.proofs.Area.{pending-fits, shown-within, shown-is, shown-fits}
+use Rattle.formatting.proofs.Area.{shown-within, shown-is, shown-fits}
 use Rattle.formatting.proofs.content_format.draw_cell.Statement.{statement}
 use Rattle.formatting.proofs.content_format.draw_cell.Tie as tie
 

@@ -3,7 +3,7 @@ use native.Mathlib.Omega.{arith}
 use mathlib.Core.Path.{sym, ap, _∙_}
 use denote.Ref.{now}
 use lib.ListN.{take}
-use Rattle.buffer.specs.Put.{putAt, edge}
+use Rattle.buffer.specs.Put.{putAt, byteIf}
 use Rattle.formatting.specs.Area.{columnPiece}
 use Rattle.buffer.proofs.Laws.{two}
 use Rattle.formatting.proofs.Area.{piece-is}
@@ -28,7 +28,7 @@ draw-column-spec =
     let a = s .args in
     let ind = take (a .indicator .count) (a .indicator .characters) in (
       (omega (arith, d .ensures .0, e .ensures .0), n .ensures),
-      two (now (a .page)) (a .at) (edge (a .joins) (a .junction)) (columnPiece (now (a .sheet)) (a .v) (a .t) ind (a .last))
+      two (now (a .page)) (a .at) (byteIf (a .joins) (a .junction)) (columnPiece (now (a .sheet)) (a .v) (a .t) ind (a .last))
           (e .last .0) (d .last .0) (e .result) (e .ensures .1)
           (d .ensures .1 ∙ ap (putAt (e .last .0) (e .result)) (piece-is (now (a .sheet)) (a .v) (a .t) (n .result) ind (a .last) (b .result)
           (b .ensures) (n .ensures)))

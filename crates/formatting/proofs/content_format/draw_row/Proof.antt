@@ -1,10 +1,9 @@
 use borrow.Author.Needs.{needs}
 use native.Mathlib.Omega.{arith}
-use Prim.Native.Nat.{_-_, _<_}
-use mathlib.Core.Path.{_≡_, refl, sym, ap, _∙_}
-use mathlib.Core.Bool.{true}
+use Prim.Native.Nat.{_-_}
+use mathlib.Core.Path.{_≡_, refl, ap}
 use denote.Ref.{now}
-use lib.ListN.{length, take, length-drop}
+use lib.ListN.{length, length-drop}
 use Rattle.rules.specs.Sheet.{Row}
 use Rattle.table.specs.Walk.{firstRow}
 use Rattle.buffer.proofs.Laws.{lent}

@@ -1,7 +1,4 @@
-use borrow.Author.Needs.{needs}
 use native.Mathlib.Omega.{arith}
-use Prim.Native.Nat.{_<_}
-use denote.Ref.{now}
 use Rattle.lines.proofs.Parts.{after-last, after-more}
 use Rattle.lines.proofs.cursor.after_row.Statement.{statement}
 use Rattle.lines.proofs.cursor.after_row.Tie as tie

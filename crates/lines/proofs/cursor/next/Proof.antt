@@ -1,5 +1,4 @@
 use borrow.Author.Needs.{needs}
-use denote.Ref.{now}
 use Rattle.lines.proofs.Parts.{next-top, next-header, next-body, next-bottom, next-end}
 use Rattle.lines.proofs.cursor.next.Statement.{statement}
 use Rattle.lines.proofs.cursor.next.Tie as tie

@@ -1,6 +1,5 @@
 use borrow.Author.Needs.{needs}
 use native.Mathlib.Omega.{arith}
-use denote.Ref.{now}
 use Rattle.lines.proofs.Parts.{top-size, header-size, body-size, bottom-size, end-size}
 use Rattle.lines.proofs.lengths.line_size.Statement.{statement}
 use Rattle.lines.proofs.lengths.line_size.Tie as tie

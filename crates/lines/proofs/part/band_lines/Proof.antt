@@ -1,7 +1,5 @@
 use borrow.Author.Needs.{needs}
 use native.Mathlib.Omega.{arith}
-use Prim.Native.Nat.{_<_}
-use denote.Ref.{now}
 use Rattle.lines.proofs.Parts.{row-height-few}
 use Rattle.lines.proofs.Walks.{band-none, band-some}
 use Rattle.lines.proofs.part.band_lines.Statement.{statement}

@@ -1,5 +1,4 @@
 use borrow.Author.Needs.{needs}
-use mathlib.Core.Path.{refl}
 use Rattle.lines.proofs.part.body_style.Statement.{statement}
 use Rattle.lines.proofs.part.body_style.Tie as tie
 

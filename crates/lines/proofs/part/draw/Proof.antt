@@ -1,10 +1,6 @@
 use borrow.Author.Needs.{needs}
 use native.Mathlib.Omega.{arith}
-use mathlib.Core.Path.{_≡_, refl, sym, ap, _∙_}
 use denote.Ref.{now}
-use lib.ListN.{length, drop}
-use Rattle.row.specs.Packed.{viewOf}
-use Rattle.formatting.specs.Part.{PartIs}
 use Rattle.lines.proofs.Parts.{top-sized, header-sized, body-sized, bottom-sized}
 use Rattle.lines.proofs.Walks.{draw-top, draw-header, draw-body, draw-bottom, draw-end, header-within, body-within}
 use Rattle.lines.proofs.part.draw.Statement.{statement}

@@ -1,10 +1,10 @@
 use borrow.Author.Needs.{needs}
 use native.Mathlib.Omega.{arith}
 use Prim.Native.Nat.{_<_}
-use mathlib.Core.Path.{_≡_, refl, sym, ap, _∙_}
+use mathlib.Core.Path.{refl, ap}
 use denote.Ref.{now}
 use lib.ListN.{length, length-drop}
-use Rattle.table.specs.Walk.{rowsIn, firstRow}
+use Rattle.table.specs.Walk.{firstRow}
 use Rattle.buffer.proofs.Laws.{lent}
 use Rattle.row.specs.Packed.{viewOf}
 use Rattle.formatting.specs.RowText.{rowLines}

@@ -1,5 +1,4 @@
 use borrow.Author.Needs.{needs}
-use native.Mathlib.Omega.{arith}
 use denote.Ref.{now}
 use Rattle.row.specs.Packed.{viewOf}
 use Rattle.lines.proofs.Walks.{rule-none, rule-full, rule-one, rule-room}

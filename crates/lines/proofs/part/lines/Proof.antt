@@ -1,5 +1,4 @@
 use borrow.Author.Needs.{needs}
-use denote.Ref.{now}
 use Rattle.lines.proofs.Parts.{top-count, header-count, body-count, bottom-count, end-count}
 use mathlib.Core.Path.{refl}
 use Rattle.lines.proofs.part.lines.Statement.{statement}

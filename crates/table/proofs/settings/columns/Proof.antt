@@ -6,14 +6,14 @@ use lib.ListN.{replicate}
 use borrow.Author.Needs.{needs}
 use Rattle.rules.specs.Sheet.{noColumn, mostColumns}
 use Rattle.rules.specs.Places.{byteAt, columnsPlace}
-use Rattle.table.specs.Held.{Passes, tableOf}
+use Rattle.table.specs.Held.{IsAccepted, tableOf}
 use Rattle.table.proofs.Held.{room, columns-inside, columns-whole, column-copied}
 use Rattle.table.proofs.Copies.{Copied, copied-begin, copied-again}
 use Rattle.table.proofs.settings.columns.Statement.{statement}
 use Rattle.table.proofs.settings.columns.Tie as tie
 
 abbrev Inv-loop : tie.InvT-loop
-Inv-loop sheet place count each₀ at₀ i₀ each at i = Passes sheet × ((i ≤ count) ×
+Inv-loop sheet place count each₀ at₀ i₀ each at i = IsAccepted sheet × ((i ≤ count) ×
     ((count ≡ byteAt sheet (columnsPlace sheet)) × ((at ≡ columnsPlace sheet + 1 + 11 * i) × Copied (tableOf sheet .columns)
     (replicate mostColumns noColumn) i each)))
 

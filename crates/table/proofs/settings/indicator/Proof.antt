@@ -6,14 +6,14 @@ use native.Mathlib.Omega.{arith}
 use lib.ListN.{replicate}
 use borrow.Author.Needs.{needs}
 use Rattle.rules.specs.Places.{byteAt, textAt}
-use Rattle.table.specs.Held.{Passes}
+use Rattle.table.specs.Held.{IsAccepted}
 use Rattle.table.proofs.Held.{room, text-inside, character-at}
 use Rattle.table.proofs.Copies.{Copied, copied-begin, copied-again}
 use Rattle.table.proofs.settings.indicator.Statement.{statement}
 use Rattle.table.proofs.settings.indicator.Tie as tie
 
 abbrev Inv-loop : tie.InvT-loop
-Inv-loop sheet count characters₀ i₀ characters i = Passes sheet × ((i ≤ count) ×
+Inv-loop sheet count characters₀ i₀ characters i = IsAccepted sheet × ((i ≤ count) ×
     ((count ≡ byteAt sheet 5) × Copied (textAt sheet 5) (replicate 8 0) i characters))
 
 abbrev μ-loop : tie.MeasureT-loop

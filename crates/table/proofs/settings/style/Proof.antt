@@ -5,14 +5,14 @@ use native.Mathlib.Omega.{arith}
 use lib.ListN.{replicate}
 use borrow.Author.Needs.{needs}
 use Rattle.rules.specs.Places.{textAt, stylePlace}
-use Rattle.table.specs.Held.{Passes}
+use Rattle.table.specs.Held.{IsAccepted}
 use Rattle.table.proofs.Held.{room, style-inside, style-whole, style-character}
 use Rattle.table.proofs.Copies.{Copied, copied-begin, copied-again}
 use Rattle.table.proofs.settings.style.Statement.{statement}
 use Rattle.table.proofs.settings.style.Tie as tie
 
 abbrev Inv-loop : tie.InvT-loop
-Inv-loop sheet first characters₀ i₀ characters i = Passes sheet × ((i ≤ 22) ×
+Inv-loop sheet first characters₀ i₀ characters i = IsAccepted sheet × ((i ≤ 22) ×
     ((first ≡ stylePlace sheet + 1) × Copied (textAt sheet (stylePlace sheet)) (replicate 22 0) i characters))
 
 abbrev μ-loop : tie.MeasureT-loop

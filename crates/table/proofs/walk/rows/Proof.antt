@@ -4,7 +4,7 @@ use Rattle.table.proofs.Walks.{rows-are, rows-none, rows-room}
 use Rattle.table.proofs.Walks.{rows-are, rows-none}
 use Rattle.table.proofs.Held.{room}
 use Rattle.table.specs.Walk.{rowsEnd}
-use Rattle.table.specs.Held.{Passes}
+use Rattle.table.specs.Held.{IsAccepted}
 use Rattle.rules.specs.Places.{rowsPlace}
 use mathlib.Core.Path.{_≡_, sym, _∙_}
 use borrow.Author.Needs.{needs}
@@ -13,7 +13,7 @@ use Rattle.table.proofs.walk.rows.Statement.{statement}
 use Rattle.table.proofs.walk.rows.Tie as tie
 
 abbrev Inv-loop : tie.InvT-loop
-Inv-loop sheet c₀ c = Passes sheet × (rowsEnd sheet c ≡ rowsPlace sheet)
+Inv-loop sheet c₀ c = IsAccepted sheet × (rowsEnd sheet c ≡ rowsPlace sheet)
 
 abbrev μ-loop : tie.MeasureT-loop
 μ-loop sheet c₀ c = c .left
