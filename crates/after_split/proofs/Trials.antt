@@ -12,10 +12,10 @@ use Rattle.rules.specs.Text.{textWidth, greatest, flat, orElse, All}
 use Rattle.rules.specs.Sheet.{Cell, Row, Table, noCell, cellAt, allRows}
 use Rattle.rules.specs.Wrap.{split}
 use Rattle.rules.specs.Widths.{lifted, cellsOf, trialParts, cellParts, longestPart, shorterBy3}
-use Rattle.rules.proofs.Lists.{map-append, all-imp, all-map-imp}
-use Rattle.rules.proofs.Text.{width-length}
-use Rattle.rules.proofs.Bounds.{Most, greatest-le}
-use Rattle.rules.proofs.Split.{Short, split-fits}
+use Rattle.laws.proofs.Lists.{map-append, all-imp, all-map-imp}
+use Rattle.laws.proofs.Text.{width-length}
+use Rattle.laws.proofs.Bounds.{Most, greatest-le}
+use Rattle.laws.proofs.Split.{Short, split-fits}
 use Rattle.after_split.specs.Trial.{ofLine, ofLines, ofCells, ofRows, otherwise}
 
 greatest-append : (xs ys : List ℕ) → greatest (xs ++ ys) ≡ max (greatest xs) (greatest ys)

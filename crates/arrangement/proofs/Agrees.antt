@@ -14,7 +14,7 @@ use borrow.Author.Tests.{eqb-true, eqb-false, eq-eqb, ne-eqb, not-false}
 use Rattle.rules.specs.Sheet.{Table, isHidden, mostColumns}
 use Rattle.rules.specs.Widths as doc
 use Rattle.rules.specs.Widths.{lifted, zeros, isUndecided, fix, fixAt, visit, passes, aboveAverage, averageIsSome, fittingAverage, splitAtAverage, longestPart}
-use Rattle.rules.proofs.Settled.{zeros-le, settled, settled-again, settled-last, settled-none, passes-settled}
+use Rattle.laws.proofs.Settled.{zeros-le, settled, settled-again, settled-last, settled-none, passes-settled}
 use Rattle.constraint.specs.declared.Layout.{Layout}
 use Rattle.constraint.specs.declared.State.{State}
 use Rattle.constraint.specs.Widths.{choose, inOrder, column, average, bit, decided, fixed, taking, Rule, step, pass, setWidth}

@@ -13,9 +13,9 @@ use Rattle.rules.specs.Limits.{TableLimits}
 use Rattle.rules.specs.Calls.{asArray}
 use Rattle.rules.specs.Widths as doc
 use Rattle.rules.specs.Widths.{longestPart, contents}
-use Rattle.rules.proofs.Lists.{all-default}
-use Rattle.rules.proofs.Bounds as bounds
-use Rattle.rules.proofs.Bounds.{Most, small-start, small-step1, small-step2, small-step3}
+use Rattle.laws.proofs.Lists.{all-default}
+use Rattle.laws.proofs.Bounds as bounds
+use Rattle.laws.proofs.Bounds.{Most, small-start, small-step1, small-step2, small-step3}
 use Rattle.constraint.specs.declared.Layout.{Layout}
 use Rattle.constraint.specs.declared.State.{State}
 use Rattle.constraint.specs.Widths.{choose, pass}

@@ -15,7 +15,7 @@ use Rattle.rules.specs.Text.{upFrom, keep, sum}
 use Rattle.rules.specs.Sheet.{Table, columnAt, padding, isHidden, mostColumns}
 use Rattle.rules.specs.Widths as doc
 use Rattle.rules.specs.Widths.{lifted, zeros, evaluate, noted, taken}
-use Rattle.rules.proofs.Lists.{getD-map, getD-upFrom, length-upFrom, keep-yes, keep-no}
+use Rattle.laws.proofs.Lists.{getD-map, getD-upFrom, length-upFrom, keep-yes, keep-no}
 use Rattle.constraint.specs.declared.Layout.{Layout}
 use Rattle.constraint.specs.declared.State.{State}
 use Rattle.constraint.specs.Widths.{choose, inOrder, column, longest, borders, bit, decided, fixed, taking, step, first, hide, evaluated, visible, setWidth}

@@ -14,8 +14,8 @@ use Rattle.rules.specs.Text.{upFrom, keep, oneIf, orElse, All}
 use Rattle.rules.specs.Sheet.{Table, columnAt, isHidden, mostColumns}
 use Rattle.rules.specs.Widths as doc
 use Rattle.rules.specs.Widths.{lifted, contentOf, zeros, isUndecided, fix, fixAt, visit, shared}
-use Rattle.rules.proofs.Lists.{map-below, below-upFrom, all-keep, all-imp, keep-append, keep-yes, keep-no}
-use Rattle.rules.proofs.Contents.{share-some}
+use Rattle.laws.proofs.Lists.{map-below, below-upFrom, all-keep, all-imp, keep-append, keep-yes, keep-no}
+use Rattle.laws.proofs.Contents.{share-some}
 use Rattle.constraint.specs.declared.Layout.{Layout}
 use Rattle.constraint.specs.declared.State.{State}
 use Rattle.constraint.specs.Widths.{choose, inOrder, column, decided, fixed, pass}

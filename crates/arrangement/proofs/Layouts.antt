@@ -13,7 +13,7 @@ use Rattle.rules.specs.Style.{anyLeft, anyRight, anyJunction}
 use Rattle.rules.specs.Calls.{asArray}
 use Rattle.rules.specs.Widths as doc
 use Rattle.rules.specs.Widths.{longestPart, contents}
-use Rattle.rules.proofs.Lists.{getD-map, getD-upFrom, length-upFrom, map-below}
+use Rattle.laws.proofs.Lists.{getD-map, getD-upFrom, length-upFrom, map-below}
 use Rattle.style.specs.Bytes.{bytesOf}
 use Rattle.style.specs.declared.table_style.LineStyle.{LineStyle}
 use Rattle.style.specs.declared.table_style.ContentLineStyle.{ContentLineStyle}

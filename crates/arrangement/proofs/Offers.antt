@@ -15,8 +15,8 @@ use Rattle.rules.specs.Style.{anyLeft, anyRight, anyJunction, bordersOf}
 use Rattle.rules.specs.Widths as doc
 use Rattle.rules.specs.Widths.{contentOf, percentOf, widthOf, valueOf, lowerWidth, upperWidth, absoluteWidth, covering, evaluate, aboveAverage}
 use Rattle.rules.specs.Widths.{fittingAverage, splitAtAverage, longestPart}
-use Rattle.rules.proofs.Lists.{keep-yes, keep-no}
-use Rattle.rules.proofs.Cases.{oneIf-cond}
+use Rattle.laws.proofs.Lists.{keep-yes, keep-no}
+use Rattle.laws.proofs.Cases.{oneIf-cond}
 use Rattle.constraint.specs.declared.Layout.{Layout}
 use Rattle.constraint.specs.declared.State.{State}
 use Rattle.constraint.specs.Widths.{choose, inOrder, column, longest, counting, visible, borders, percent, value, valued, lower, upper, average, Rule}

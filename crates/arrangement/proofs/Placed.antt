@@ -9,7 +9,7 @@ use lib.Seq.{getD-set-same, getD-set-other, getD-take, getD-drop, ext-getD}
 use Rattle.rules.specs.Text.{upFrom}
 use Rattle.rules.specs.Calls.{asArray}
 use Rattle.rules.specs.Sheet.{mostColumns}
-use Rattle.rules.proofs.Lists.{getD-map, getD-upFrom, length-upFrom, upFrom-last, map-append}
+use Rattle.laws.proofs.Lists.{getD-map, getD-upFrom, length-upFrom, upFrom-last, map-append}
 use Rattle.arrangement.proofs.Cases.{by-place}
 
 -- one number more

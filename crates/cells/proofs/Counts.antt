@@ -9,11 +9,11 @@ use lib.Dec.{ltb, eqb}
 use borrow.Author.Tests.{ltb-true}
 use Rattle.rules.specs.Text.{textWidth, restOf}
 use Rattle.rules.specs.Wrap.{Act, join, retry, fill, begin, onto, pieces, glue, room, tight, full, act, last, place, weight, split, wrapLine, wrapLines}
-use Rattle.rules.proofs.Text.{width-length}
-use Rattle.rules.proofs.Fuel.{View, joins, retries, fills, begins, view}
-use Rattle.rules.proofs.Split.{wrap-short, wrap-long}
+use Rattle.laws.proofs.Text.{width-length}
+use Rattle.laws.proofs.Fuel.{View, joins, retries, fills, begins, view}
+use Rattle.laws.proofs.Split.{wrap-short, wrap-long}
 use Rattle.rules.specs.Places.{past, parts, byteAt, textAt, lineStop}
-use Rattle.rules.proofs.Stands.{past-onward, lines-onward, text-length}
+use Rattle.laws.proofs.Stands.{past-onward, lines-onward, text-length}
 use Rattle.table.specs.Walk.{linesIn, linesEnd, firstLine, LinesNext}
 use Rattle.table.specs.declared.records.Lines.{Lines}
 use Rattle.cells.proofs.Laws.{wrap-more, wrap-none, lines-none, lines-some}

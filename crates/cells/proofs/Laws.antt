@@ -10,8 +10,8 @@ use lib.Dec.{ltb}
 use borrow.Author.Tests.{lt-ltb}
 use Rattle.rules.specs.Text.{textWidth, flat}
 use Rattle.rules.specs.Wrap.{split, wrapLine, wrapLines}
-use Rattle.rules.proofs.Text.{width-length}
-use Rattle.rules.proofs.Split.{wrap-short, wrap-long}
+use Rattle.laws.proofs.Text.{width-length}
+use Rattle.laws.proofs.Split.{wrap-short, wrap-long}
 use Rattle.rules.specs.Places.{parts}
 use Rattle.table.specs.Walk.{linesIn, linesEnd, firstLine, LinesNext}
 use Rattle.table.specs.declared.records.Lines.{Lines}

@@ -7,7 +7,7 @@ use lib.ListN.{drop}
 use lib.Seq.{slice, length-slice}
 use Rattle.rules.specs.Text.{textWidth, greatest}
 use Rattle.rules.specs.Wrap.{split}
-use Rattle.rules.proofs.Text.{width-length}
+use Rattle.laws.proofs.Text.{width-length}
 use Rattle.content_split.specs.Parts.{LineIs, PartIs}
 use Rattle.content_split.specs.declared.Part.{Part}
 use Rattle.content_split.specs.declared.Part.the-variants.{Line, Nothing}

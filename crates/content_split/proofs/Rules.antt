@@ -9,9 +9,9 @@ use lib.Dec.{ltb}
 use borrow.Author.Tests.{ltb-true, ltb-false, lt-ltb, le-ltb}
 use Rattle.rules.specs.Text.{textWidth, firstOf, restOf}
 use Rattle.rules.specs.Wrap.{pieces, split, glue, room, tight, full, last}
-use Rattle.rules.proofs.Text.{width-length}
-use Rattle.rules.proofs.Fuel as fuel
-use Rattle.rules.proofs.Fuel.{run, split-run}
+use Rattle.laws.proofs.Text.{width-length}
+use Rattle.laws.proofs.Fuel as fuel
+use Rattle.laws.proofs.Fuel.{run, split-run}
 
 -- the lines that a text is split into, without steps to count
 unfoldable pub wrapping : ℕ → ℕ → List ℕ → List (List ℕ)

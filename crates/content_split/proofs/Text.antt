@@ -11,8 +11,8 @@ use lib.Seq.{slice, slice-empty, slice-cons, length-slice, take-take, drop-drop,
 use lib.Dec.{ltb, leb}
 use borrow.Author.Tests.{le-leb, lt-leb, lt-ltb, le-ltb, eq-eqb, ne-eqb}
 use Rattle.rules.specs.Wrap.{pieces, onto, glue, room, tight, last}
-use Rattle.rules.proofs.Fuel.{run}
-use Rattle.rules.proofs.Text.{width-length}
+use Rattle.laws.proofs.Fuel.{run}
+use Rattle.laws.proofs.Text.{width-length}
 use Rattle.content_split.specs.Cut.{Cut}
 use Rattle.content_split.proofs.Rules.{wrapping, settled, settled-full, settled-open, run-join, run-retry, run-fill, run-begin, run-last}
 

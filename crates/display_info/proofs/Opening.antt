@@ -16,12 +16,12 @@ use Rattle.rules.specs.Limits.{TableLimits, ColumnLimits}
 use Rattle.rules.specs.Style.{topBorder, headerLines, headerRule, contentLines, rowRule, bottomBorder, glyphAt, glyph, anyLeft, anyRight, anyJunction, isVisible}
 use Rattle.rules.specs.Calls.{asArray}
 use Rattle.rules.specs.Widths.{visible, contents}
-use Rattle.rules.proofs.Accepted.{accepted-limits, checked-reading}
-use Rattle.rules.proofs.Areas.{content-some}
-use Rattle.rules.proofs.Bounds.{Most, contents-801}
-use Rattle.rules.proofs.Contents.{length-contents}
-use Rattle.rules.proofs.Counts.{visibleTo, visible-to-none, visible-to-shown, visible-to-hidden, visible-to-all, visible-rising, visible-number}
-use Rattle.rules.proofs.Lists.{all-getD}
+use Rattle.laws.proofs.Accepted.{accepted-limits, checked-reading}
+use Rattle.laws.proofs.Areas.{content-some}
+use Rattle.laws.proofs.Bounds.{Most, contents-801}
+use Rattle.laws.proofs.Contents.{length-contents}
+use Rattle.laws.proofs.Counts.{visibleTo, visible-to-none, visible-to-shown, visible-to-hidden, visible-to-all, visible-rising, visible-number}
+use Rattle.laws.proofs.Lists.{all-getD}
 use Rattle.rules.specs.Places.{rowsPlace}
 use Rattle.style.specs.Bytes.{bytesOf}
 use Rattle.style.specs.declared.table_style.TableStyle.{TableStyle}

@@ -12,8 +12,8 @@ use borrow.Author.Tests.{le-leb, lt-leb}
 use Rattle.rules.specs.Text.{textWidth, firstOf, blank}
 use Rattle.rules.specs.Wrap.{shownIndicator, cutLine}
 use Rattle.rules.specs.Page.{before}
-use Rattle.rules.proofs.Text.{width-length, width-append}
-use Rattle.rules.proofs.Sizes.{before-le}
+use Rattle.laws.proofs.Text.{width-length, width-append}
+use Rattle.laws.proofs.Sizes.{before-le}
 use Rattle.table.specs.Walk.{firstLine}
 use Rattle.buffer.specs.Put.{putAt}
 use Rattle.buffer.proofs.Laws.{two}

@@ -12,7 +12,7 @@ use lib.Seq.{getD-set-same, getD-set-other}
 use lib.Dec.{ltb}
 use Rattle.rules.specs.Text.{textWidth}
 use Rattle.rules.specs.Sheet.{mostColumns}
-use Rattle.rules.proofs.Fits.{short-cutLine}
+use Rattle.laws.proofs.Fits.{short-cutLine}
 use Rattle.buffer.specs.Put.{over, putAt, build, byteIf, lead}
 use Rattle.buffer.proofs.Laws.{put-nil, put-one, over-put-zero, build-room, build-more, two}
 use Rattle.row.specs.Pending.{InSheet, pendingText, following, noPending, pendingAt, Ready, anyFound}

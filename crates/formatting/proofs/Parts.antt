@@ -9,8 +9,8 @@ use lib.Dec.{leb}
 use borrow.Author.Tests.{leb-true, leb-false, le-leb, lt-leb}
 use borrow.Rule.Slice.PartMut.{putMid}
 use Rattle.rules.specs.Page.{closed, wholeLines}
-use Rattle.rules.proofs.Fitting.{fitting-none, fitting-more, fitting-stops, fitted, fitting-few, fitting-past, fitting-within}
-use Rattle.rules.proofs.Sizes.{closed-none, closed-one, closed-append}
+use Rattle.laws.proofs.Fitting.{fitting-none, fitting-more, fitting-stops, fitted, fitting-few, fitting-past, fitting-within}
+use Rattle.laws.proofs.Sizes.{closed-none, closed-one, closed-append}
 use Rattle.buffer.specs.Put.{over, putAt}
 use Rattle.buffer.proofs.Laws.{over-none, over-put, length-over, lent, lent-back}
 use Rattle.formatting.specs.Part.{PartIs}

@@ -12,8 +12,8 @@ use borrow.Rule.Slice.PartMut.{putMid}
 use Rattle.rules.specs.Sheet.{Row}
 use Rattle.rules.specs.Widths.{visible, contents}
 use Rattle.rules.specs.Page.{areaAt, areas}
-use Rattle.rules.proofs.Areas.{length-areas, line-at}
-use Rattle.rules.proofs.Lists.{getD-map}
+use Rattle.laws.proofs.Areas.{length-areas, line-at}
+use Rattle.laws.proofs.Lists.{getD-map}
 use Rattle.table.specs.Held.{tableOf}
 use Rattle.table.specs.declared.records.Indicator.{Indicator}
 use Rattle.buffer.specs.Put.{over}

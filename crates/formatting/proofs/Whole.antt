@@ -12,7 +12,7 @@ use Rattle.rules.specs.Sheet.{Row, Table, columnAt, cellAt, noCell}
 use Rattle.rules.specs.Style.{glyphAt, anyLeft, anyRight, anyJunction}
 use Rattle.rules.specs.Widths.{visible}
 use Rattle.rules.specs.Page.{areaAt, cellLines, wrapped, height, joined, lineOf, textLine}
-use Rattle.rules.proofs.Lists.{upFrom-last}
+use Rattle.laws.proofs.Lists.{upFrom-last}
 use Rattle.buffer.specs.Put.{build, byteIf, lead}
 use Rattle.row.specs.View.{View, visibleAt, shownOf, numberOf, Views}
 use Rattle.row.specs.Pending.{pendingAt, anyFound}

@@ -11,9 +11,9 @@ use Rattle.rules.specs.Sheet.{Table}
 use Rattle.rules.specs.Style.{anyLeft, anyRight, anyJunction, bordersOf}
 use Rattle.rules.specs.Widths.{visible, borders}
 use Rattle.rules.specs.Page.{visibleWidth, visibleWidths, lineLength, borderLength}
-use Rattle.rules.proofs.Cases.{oneIf-cond}
-use Rattle.rules.proofs.Counts.{line-length-bound, border-length-bound}
-use Rattle.rules.proofs.Lists.{upFrom-last, map-append}
+use Rattle.laws.proofs.Cases.{oneIf-cond}
+use Rattle.laws.proofs.Counts.{line-length-bound, border-length-bound}
+use Rattle.laws.proofs.Lists.{upFrom-last, map-append}
 use Rattle.table.specs.Held.{tableOf}
 use Rattle.row.specs.View.{View, visibleAt, Views, shownOf, numberOf}
 use Rattle.row.specs.Packed.{columnFrom, viewOf}

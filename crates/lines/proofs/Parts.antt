@@ -13,11 +13,11 @@ use Rattle.rules.specs.Limits.{RowLimits}
 use Rattle.rules.specs.Style.{topBorder, headerLines, headerRule, contentLines, rowRule, bottomBorder, anyJunction, isVisible}
 use Rattle.rules.specs.Widths.{visible}
 use Rattle.rules.specs.Page.{height, areas, areaAt, textLine, rowText, visibleWidths, lineLength, ruled, shown, headed, ruledRows, ruledMore, framed}
-use Rattle.rules.proofs.Areas.{length-areas, line-at}
-use Rattle.rules.proofs.Counts.{height-bound}
-use Rattle.rules.proofs.Lines.{text-length, rule-length, border-length}
-use Rattle.rules.proofs.Lists.{all-drop, all-append, all-map, all-map-imp, getD-map}
-use Rattle.rules.proofs.Rows.{all-headed}
+use Rattle.laws.proofs.Areas.{length-areas, line-at}
+use Rattle.laws.proofs.Counts.{height-bound}
+use Rattle.laws.proofs.Lines.{text-length, rule-length, border-length}
+use Rattle.laws.proofs.Lists.{all-drop, all-append, all-map, all-map-imp, getD-map}
+use Rattle.laws.proofs.Rows.{all-headed}
 use Rattle.table.specs.Held.{tableOf}
 use Rattle.table.specs.Walk.{rowsIn, firstRow, RowsNext}
 use Rattle.table.specs.declared.records.Rows.{Rows}

@@ -15,10 +15,10 @@ use Rattle.rules.specs.Sheet.{Row, noRow}
 use Rattle.rules.specs.Style.{topBorder, bottomBorder}
 use Rattle.rules.specs.Page.{closed}
 use Rattle.rules.specs.Limits.{longestLine, RowLimits, mostLines}
-use Rattle.rules.proofs.Counts.{height-bound, framed-count, framed-byte-bound}
-use Rattle.rules.proofs.Fitting.{fitting-few}
-use Rattle.rules.proofs.Lists.{all-getD}
-use Rattle.rules.proofs.Sizes.{closed-append, closed-none}
+use Rattle.laws.proofs.Counts.{height-bound, framed-count, framed-byte-bound}
+use Rattle.laws.proofs.Fitting.{fitting-few}
+use Rattle.laws.proofs.Lists.{all-getD}
+use Rattle.laws.proofs.Sizes.{closed-append, closed-none}
 use Rattle.table.specs.Held.{tableOf}
 use Rattle.table.specs.Walk.{rowsIn, cellsIn, firstRow, RowIs}
 use Rattle.table.specs.declared.records.Rows.{Rows}

@@ -17,9 +17,9 @@ use Rattle.rules.specs.Format.{sheet}
 use Rattle.rules.specs.Page.{closed, lineAt, lineCount, byteCount, page as pageOf, pageLines, wholeLines}
 use Rattle.rules.specs.Calls as calls
 use Rattle.rules.specs.Calls.{check, checkOf, count, countOf, put, notPrinted, printPage, printOf, printLine, printLineOf}
-use Rattle.rules.proofs.Counts.{line-count-bound}
-use Rattle.rules.proofs.Fitting.{fitting-few, fitting-none, fitting-more, fitting-stops, fitting-all}
-use Rattle.rules.proofs.Sizes.{closed-one, byte-count-closed}
+use Rattle.laws.proofs.Counts.{line-count-bound}
+use Rattle.laws.proofs.Fitting.{fitting-few, fitting-none, fitting-more, fitting-stops, fitting-all}
+use Rattle.laws.proofs.Sizes.{closed-one, byte-count-closed}
 use Rattle.table.specs.Held.{IsAccepted, tableOf}
 use Rattle.table.specs.Walk.{rowsIn}
 use Rattle.table.proofs.Held.{held}

@@ -8,9 +8,9 @@ use lib.ListN.{length, drop, length-drop}
 use lib.Seq.{drop-drop}
 use Rattle.rules.specs.Text.{All}
 use Rattle.rules.specs.Page.{wholeLines}
-use Rattle.rules.proofs.Counts.{framed-line-bound}
-use Rattle.rules.proofs.Fitting.{fitting-more, fitted}
-use Rattle.rules.proofs.Lists.{all-drop}
+use Rattle.laws.proofs.Counts.{framed-line-bound}
+use Rattle.laws.proofs.Fitting.{fitting-more, fitted}
+use Rattle.laws.proofs.Lists.{all-drop}
 use Rattle.table.specs.Held.{tableOf}
 use Rattle.table.specs.Walk.{rowsIn}
 use Rattle.display_info.specs.Opened.{Opened}

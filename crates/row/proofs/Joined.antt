@@ -9,7 +9,7 @@ use Rattle.rules.specs.Text.{upFrom}
 use Rattle.rules.specs.Style.{glyph}
 use Rattle.rules.specs.Page as page
 use Rattle.rules.specs.Page.{joined, joinedMore}
-use Rattle.rules.proofs.Lists.{upFrom-last, length-upFrom}
+use Rattle.laws.proofs.Lists.{upFrom-last, length-upFrom}
 use Rattle.buffer.specs.Put.{build, byteIf, lead}
 
 more-snoc : (j : List ℕ) (ps : List (List ℕ)) (p : List ℕ) → joinedMore j (ps ++ (p ∷ [])) ≡ joinedMore j ps ++ (j ++ p)

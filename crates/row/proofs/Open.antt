@@ -14,8 +14,8 @@ use borrow.Author.Tests.{ne-eqb}
 use Rattle.rules.specs.Text.{orElse}
 use Rattle.rules.specs.Sheet.{Cell, noCell, mostColumns}
 use Rattle.rules.specs.Wrap.{wrapLines}
-use Rattle.rules.proofs.Text.{width-length}
-use Rattle.rules.proofs.Split.{wrap-short}
+use Rattle.laws.proofs.Text.{width-length}
+use Rattle.laws.proofs.Split.{wrap-short}
 use Rattle.rules.specs.Places.{past, parts}
 use Rattle.cells.specs.Cell.{rest, FirstOf, Further}
 use Rattle.cells.specs.declared.Next.{Next}

@@ -1,5 +1,6 @@
 -- One description of fields in a row. Its readings: `reads`, a value or a refusal; `stands`, what is where, untested; `after` (Steps). Assumes nothing.
 use Prim.Native.Nat.{ℕ, zero, suc, _+_}
+use mathlib.Core.Path.{_≡_}
 use mathlib.Core.List.{List, [], _∷_}
 use mathlib.Core.Bool.{Bool}
 use lib.ListN.{take, drop}
@@ -126,3 +127,14 @@ partAt (suc k) (text low high good) s p = p
 partAt (suc k) (listed count x) s p = p
 partAt (suc k) (give a) s p = p
 partAt (suc k) (next of x g) s p = let a = stands x s p in partAt k (g (a .value)) s (a .end)
+
+-- a value that was read has the property P, and each of its parts is the one that was read
+unfoldable pub Faithful : {A : Type 0} → Format A → (A → Type 0) → Type 0
+Faithful byte P = (v : ℕ) → P v
+Faithful word P = (v : ℕ) → P v
+Faithful (only good fault x) P = Faithful x P
+Faithful zeroWord P = (v : ℕ) → P v
+Faithful (text low high good) P = (l : List ℕ) → P l
+Faithful (listed {A} count x) P = Faithful count (λ n. Unit {0}) × (Faithful x (λ a. Unit {0}) × ((as′ : List A) → P as′))
+Faithful (give a) P = P a
+Faithful (next {A = A} of x g) P = Faithful x (λ a. Unit {0}) × ((a : A) → Faithful (g a) (λ u. (of u ≡ a) × P u))

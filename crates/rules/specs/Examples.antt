@@ -2,7 +2,7 @@
 use Prim.Native.Nat.{ℕ}
 use mathlib.Core.Path.{_≡_, refl}
 use mathlib.Core.List.{List, [], _∷_, _++_, map}
-use mathlib.Core.Bool.{true}
+use mathlib.Core.Bool.{true, false}
 use mathlib.Core.Option.{none, some}
 use lib.ListN.{length, replicate}
 use Rattle.rules.specs.Opened.{rules}
@@ -12,8 +12,9 @@ use Rattle.rules.specs.Field.{got}
 use Rattle.rules.specs.Format.{sheet}
 use Rattle.rules.specs.Wrap.{place, wrapLine, cutLine}
 use Rattle.rules.specs.Widths.{borders, widthOf, first, splitAtAverage, share, contents}
-use Rattle.rules.specs.Page.{ruled}
-use Rattle.rules.specs.Words.{widthsOf, linesOf, areaOf, characters, letters}
+use Rattle.rules.specs.Style.{rowRule}
+use Rattle.rules.specs.Page.{area, ruled}
+use Rattle.rules.specs.Words.{Readable, widthsOf, linesOf, areaOf, characters, letters}
 use Rattle.rules.specs.Calls.{count, printPage, printLine, notPrinted}
 
 -- the house grid, the bare style, and the document's sheet of 81 bytes
@@ -139,6 +140,14 @@ pub record Slips : Type 0 where
   pub exact-width : wrapLine 3 32 (ascii "   ") ≡ ascii "   " ∷ []
   pub top-junction : ruled (0 ∷ 45 ∷ replicate 20 0) true 0 (2 ∷ 3 ∷ []) ≡ ascii "-- ---"
 
+-- more inputs, one for each wrong definition that document 01's examples let pass
+pub record Guards : Type 0 where
+  pub centred : area noColumn 5 3 (ascii "ab") ≡ ascii "  ab "
+  pub third-line : areaOf (single 1 0 (held 0 3 6) (ascii "the quick brown")) 0 2 0 ≡ ascii "brown "
+  pub row-rule : ruled grid false rowRule (2 ∷ []) ≡ ascii "+--+"
+  pub long-piece : wrapLine 72 32 (ascii "a " ++ (replicate 66 98 ++ ascii " ccccc")) ≡ (ascii "a " ++ replicate 66 98) ∷ ascii "ccccc" ∷ []
+  pub one-fill : Readable (ascii "+-++|||+-++|||+-+++-++") → ⊥
+
 pub examples : Examples
 unfolding rules
 examples = record {
@@ -172,6 +181,10 @@ slips = record {
   exact-width = refl;
   top-junction = refl;
 }
+
+pub guards : Guards
+unfolding rules
+guards = record { centred = refl; third-line = refl; row-rule = refl; long-piece = refl; one-fill = λ r. r .fills refl }
 
 pub house-words : House
 unfolding rules

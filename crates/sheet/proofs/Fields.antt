@@ -13,7 +13,7 @@ use Rattle.rules.specs.Format.{cellCount}
 use Rattle.rules.specs.Steps.{stepOf, readFrom, byteOf, after}
 use Rattle.rules.specs.declared.Step.{Step}
 use Rattle.rules.specs.declared.Step.the-variants.{At, Refused}
-use Rattle.rules.proofs.Reading.{after-off, tested}
+use Rattle.laws.proofs.Reading.{after-off, tested}
 use Rattle.sheet.specs.Steps.{byteBetween}
 use Rattle.rules.specs.Sheet.{mostColumns}
 

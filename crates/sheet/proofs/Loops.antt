@@ -12,8 +12,8 @@ use Rattle.rules.specs.Description as description
 use Rattle.rules.specs.Steps.{readFrom, times}
 use Rattle.rules.specs.declared.Step.{Step}
 use Rattle.rules.specs.declared.Step.the-variants.{At, Refused}
-use Rattle.rules.proofs.Accepted.{between-both}
-use Rattle.rules.proofs.Reading.{times-off, readFrom-off}
+use Rattle.laws.proofs.Accepted.{between-both}
+use Rattle.laws.proofs.Reading.{times-off, readFrom-off}
 use Rattle.sheet.specs.Steps.{printables}
 use Rattle.sheet.proofs.Fields.{between-ended, between-low, between-high, between-good}
 

@@ -16,9 +16,9 @@ use Rattle.rules.specs.Steps.{stepOf, readFrom, hereOf, byteOf, times, after}
 use Rattle.rules.specs.declared.Step.{Step}
 use Rattle.rules.specs.declared.Step.the-variants.{At, Refused}
 use Rattle.rules.specs.Calls.{check, checkOf}
-use Rattle.rules.proofs.Reading.{tested, times-off, readFrom-off}
-use Rattle.rules.proofs.Accepted.{sheet-steps}
-use Rattle.rules.proofs.Stands.{parts-count}
+use Rattle.laws.proofs.Reading.{tested, times-off, readFrom-off}
+use Rattle.laws.proofs.Accepted.{sheet-steps}
+use Rattle.laws.proofs.Stands.{parts-count}
 use Rattle.sheet.specs.Steps.{byteBetween, constraintAfter, cellsAfter, headAfter, bodyAfter, answerOf}
 
 -- a count and as many items, from the step y after the count, and the count v

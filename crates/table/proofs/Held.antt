@@ -13,8 +13,8 @@ use Rattle.rules.specs.Format.{table, sheet}
 use Rattle.rules.specs.Calls.{check, asArray}
 use Rattle.rules.specs.declared.Checked.{Checked}
 use Rattle.rules.specs.Places.{byteAt, wordAt, textAt, columnHere, columnsPlace, headerPlace, rowsPlace, stylePlace, lineStop, tableHere}
-use Rattle.rules.proofs.Accepted.{accepted, accepted-limits, accepted-places, checked-reading}
-use Rattle.rules.proofs.Stands as stands
+use Rattle.laws.proofs.Accepted.{accepted, accepted-limits, accepted-places, checked-reading}
+use Rattle.laws.proofs.Stands as stands
 use Rattle.table.proofs.Copies.{Copied, copied-done, drop-replicate}
 use Rattle.table.specs.Held.{IsAccepted, tableOf, settingsOf, indicatorOf, columnsOf}
 

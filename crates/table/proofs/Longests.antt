@@ -15,11 +15,11 @@ use Rattle.rules.specs.Sheet.{Table, mostColumns, noCell, cellAt, allRows}
 use Rattle.rules.specs.Widths as widths
 use Rattle.rules.specs.Widths.{cellsOf, cellLongest}
 use Rattle.rules.specs.Limits.{RowLimits}
-use Rattle.rules.proofs.Accepted.{accepted-limits}
-use Rattle.rules.proofs.Text.{width-length}
-use Rattle.rules.proofs.Lists.{length-upFrom}
+use Rattle.laws.proofs.Accepted.{accepted-limits}
+use Rattle.laws.proofs.Text.{width-length}
+use Rattle.laws.proofs.Lists.{length-upFrom}
 use Rattle.rules.specs.Places.{byteAt, parts, textAt, lineStop, rowHere, rowStop, rowsPlace}
-use Rattle.rules.proofs.Stands.{text-length}
+use Rattle.laws.proofs.Stands.{text-length}
 use Rattle.table.specs.Held.{IsAccepted, tableOf}
 use Rattle.table.specs.Walk.{rowsIn, cellsIn, linesIn, rowsEnd, cellsEnd, linesEnd, firstRow, firstCell, RowIs, CellIs, RowsNext, LinesNext}
 use Rattle.table.specs.Longest.{longestIn, longestAt, Narrow, CellWalked, RowWalked, RowsWalked}

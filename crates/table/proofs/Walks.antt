@@ -7,8 +7,8 @@ use lib.ListN.{length, getD, take, drop, drop-of-length-le}
 use lib.Seq.{drop-cons, drop-drop}
 use Rattle.rules.specs.Sheet.{noRow, noCell}
 use Rattle.rules.specs.Places.{past, parts, byteAt, textAt, lineStop, cellHere, cellStop, rowHere, rowStop, headerPlace, rowsPlace}
-use Rattle.rules.proofs.Stands as stands
-use Rattle.rules.proofs.Stands.{Onward, past-onward, cell-here, cell-stop, row-here, row-stop, cell-onward, row-onward, lines-onward, cells-onward, rows-onward}
+use Rattle.laws.proofs.Stands as stands
+use Rattle.laws.proofs.Stands.{Onward, past-onward, cell-here, cell-stop, row-here, row-stop, cell-onward, row-onward, lines-onward, cells-onward, rows-onward}
 use Rattle.table.specs.Held.{IsAccepted, tableOf}
 use Rattle.table.specs.Walk.{rowsIn, cellsIn, linesIn, rowsEnd, cellsEnd, linesEnd, firstRow, firstLine, RowIs, CellIs, RowsNext, CellsNext, CellsSkipped, LinesNext}
 use Rattle.table.specs.declared.records.Rows.{Rows}

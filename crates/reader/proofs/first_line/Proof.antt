@@ -41,8 +41,8 @@ use Rattle.reader.specs.declared.PageReader.{PageReader}
 use Rattle.rules.specs.declared.Printed.{Printed}
 use Rattle.reader.proofs.PageReader as T
 use Rattle.reader.proofs.PageReader.Laws as T′
-use Rattle.rules.proofs.Printed as S
-use Rattle.rules.proofs.Printed.Laws as S′
+use Rattle.laws.proofs.Printed as S
+use Rattle.laws.proofs.Printed.Laws as S′
 use Rattle.reader.proofs.new as new
 use Rattle.reader.proofs.new.Symbol as new-def
 use Rattle.reader.proofs.new.Symbol.{name as #reader·new}

@@ -1,6 +1,6 @@
 use borrow.Author.Needs.{needs}
 use mathlib.Core.Path.{refl}
-use Rattle.rules.proofs.Accepted.{accepted-limits}
+use Rattle.laws.proofs.Accepted.{accepted-limits}
 use Rattle.table.proofs.Held.{held}
 use Rattle.arrangement.proofs.Arranged.{steps-small, steps-finish}
 use Rattle.arrangement.proofs.dynamic.arrange.Statement.{statement}

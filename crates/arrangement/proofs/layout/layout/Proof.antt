@@ -1,6 +1,6 @@
 use borrow.Author.Needs.{needs}
 use native.Mathlib.Omega.{arith}
-use Rattle.rules.proofs.Accepted.{accepted-limits}
+use Rattle.laws.proofs.Accepted.{accepted-limits}
 use Rattle.table.proofs.Held.{held}
 use Rattle.arrangement.proofs.Layouts.{count-fits, describes}
 use Rattle.arrangement.proofs.layout.layout.Statement.{statement}

@@ -1,6 +1,6 @@
 use native.Mathlib.Omega.{arith}
 use denote.Ref.{now}
-use Rattle.rules.proofs.Text.{width-length}
+use Rattle.laws.proofs.Text.{width-length}
 use Rattle.formatting.proofs.Area.{spare-is}
 use Rattle.formatting.proofs.content_format.spare_columns.Statement.{statement}
 use Rattle.formatting.proofs.content_format.spare_columns.Tie as tie

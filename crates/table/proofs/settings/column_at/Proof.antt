@@ -1,7 +1,7 @@
 -- `table::settings::column_at` meets its contract. Assumes nothing.
 use mathlib.Core.Path.{sym}
 use borrow.Author.Needs.{needs}
-use Rattle.rules.proofs.Stands.{column-here}
+use Rattle.laws.proofs.Stands.{column-here}
 use Rattle.table.proofs.settings.column_at.Statement.{statement}
 use Rattle.table.proofs.settings.column_at.Tie as tie
 

@@ -1,7 +1,7 @@
 -- `table::settings::width_at` meets its contract. Assumes nothing.
 use mathlib.Core.Path.{sym}
 use borrow.Author.Needs.{needs}
-use Rattle.rules.proofs.Stands.{width-here}
+use Rattle.laws.proofs.Stands.{width-here}
 use Rattle.table.proofs.settings.width_at.Statement.{statement}
 use Rattle.table.proofs.settings.width_at.Tie as tie
 

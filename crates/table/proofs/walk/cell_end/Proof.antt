@@ -1,6 +1,6 @@
 -- `table::walk::cell_end` meets its contract. The loop: the lines that are left end where the cell does. Assumes nothing.
 use Rattle.table.proofs.Walks.{Passing, cell-begin, passing-again, passing-done, passing-inside}
-use Rattle.rules.proofs.Stands.{cell-onward, lines-onward}
+use Rattle.laws.proofs.Stands.{cell-onward, lines-onward}
 use Rattle.rules.specs.Places.{lineStop, cellStop}
 use lib.ListN.{length}
 use Prim.Native.Nat.{_-_, _≤_}

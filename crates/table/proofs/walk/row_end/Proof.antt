@@ -1,6 +1,6 @@
 -- `table::walk::row_end` meets its contract. The loop: the cells that are left end where the row does. Assumes nothing.
 use Rattle.table.proofs.Walks.{Passing, row-begin, passing-again, passing-done, passing-inside}
-use Rattle.rules.proofs.Stands.{row-onward, cells-onward}
+use Rattle.laws.proofs.Stands.{row-onward, cells-onward}
 use Rattle.rules.specs.Places.{cellStop, rowStop}
 use lib.ListN.{length}
 use Prim.Native.Nat.{_-_, _≤_}

@@ -7,14 +7,14 @@ use native.Mathlib.Omega.{arith}
 use lib.ListN.{length, getD, take}
 use lib.Dec.{leb}
 use borrow.Author.Tests.{leb-true}
 use Rattle.rules.specs.Text.{textWidth, All}
 use Rattle.rules.specs.Sheet.{Row, Table, columnAt, cellAt}
 use Rattle.rules.specs.Wrap.{wrapLines, shownIndicator, cutLine, cut, exceeds, delimiterOf}
 use Rattle.rules.specs.Page.{areaAt, cellLines, wrapped, visibleWidth, alignmentOf}
-use Rattle.rules.proofs.Lists.{all-append, all-take, all-default}
-use Rattle.rules.proofs.Text.{width-nil, width-append, width-first}
-use Rattle.rules.proofs.Sizes.{length-area}
-use Rattle.rules.proofs.Split.{Short, short-lines}
+use Rattle.laws.proofs.Lists.{all-append, all-take, all-default}
+use Rattle.laws.proofs.Text.{width-nil, width-append, width-first}
+use Rattle.laws.proofs.Sizes.{length-area}
+use Rattle.laws.proofs.Split.{Short, short-lines}
 
 -- a property of lines that cutting a line to its width and indicator gives, cutting a cell keeps
 pub all-cut : (P : List ℕ → Type 0) (w : ℕ) (i : List ℕ) (h : ℕ) (ls : List (List ℕ)) → P [] → ((l : List ℕ) → P l → P (cutLine w i l)) → All P ls →

@@ -5,12 +5,12 @@ use mathlib.Core.List.{List, [], _∷_, map}
 use mathlib.Core.Bool.{Bool, true, false, _||_, cond}
 use native.Mathlib.Omega.{arith}
 use lib.ListN.{length, replicate, length-append, length-replicate, length-map}
 use Rattle.rules.specs.Text.{sum, oneIf}
 use Rattle.rules.specs.Sheet.{Row, Table}
 use Rattle.rules.specs.Style.{glyphAt, glyph, anyLeft, anyRight, anyJunction, bordersOf}
 use Rattle.rules.specs.Widths.{visible, borders}
 use Rattle.rules.specs.Page.{edge, joinedMore, joined, lineOf, ruled, textLine, areaAt, visibleWidths, lineLength, borderLength}
-use Rattle.rules.proofs.Fits.{area-lengths}
+use Rattle.laws.proofs.Fits.{area-lengths}
 
 length-edge : (b : Bool) (c : ℕ) → length (edge b c) ≡ oneIf b
 length-edge true c = refl

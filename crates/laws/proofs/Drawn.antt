@@ -6,16 +6,16 @@ use mathlib.Core.List.{List, [], _∷_, _++_, map, append-assoc, append-cancel-l
 use mathlib.Core.Bool.{Bool, true, false}
 use native.Mathlib.Nat.{not-suc-le-zero}
 use lib.ListN.{length}
 use Rattle.rules.specs.Text.{upFrom, All}
 use Rattle.rules.specs.Sheet.{Row, Table}
 use Rattle.rules.specs.Style.{topBorder, headerLines, headerRule, contentLines, rowRule, bottomBorder, glyphAt, isSet, glyph, anyLeft, anyRight, anyJunction, isVisible}
 use Rattle.rules.specs.Widths.{visible}
 use Rattle.rules.specs.Page.{visibleWidth, visibleWidths, height, areaAt, areas, lineOf, joined, edge, ruled, textLine, shown, headed, ruledRows, rowText, framed}
 use Rattle.rules.specs.Words.{Readable}
-use Rattle.rules.proofs.Lists.{all-map}
-use Rattle.rules.proofs.Cancel.{line-cancel, border-cancel, runs}
-use Rattle.rules.proofs.Fits.{area-lengths}
-use Rattle.rules.proofs.Rows.{Tells, apart, headed-same, rows-same}
+use Rattle.laws.proofs.Lists.{all-map}
+use Rattle.laws.proofs.Cancel.{line-cancel, border-cancel, runs}
+use Rattle.laws.proofs.Fits.{area-lengths}
+use Rattle.laws.proofs.Rows.{Tells, apart, headed-same, rows-same}
 
 given-set : (c : ℕ) → c ≢ 0 → isSet c ≡ true
 given-set zero h = absurd (h refl)

@@ -9,10 +9,10 @@ use native.Mathlib.Omega.{arith}
 use lib.ListN.{length, getD, take, length-set, length-map}
 use lib.Dec.{eqb, ltb}
 use borrow.Author.Tests.{eqb-true, eqb-false}
 use Rattle.rules.specs.Text.{orElse, keep, All}
 use Rattle.rules.specs.Sheet.{Table, columnAt, isHidden}
 use Rattle.rules.specs.Widths.{State, Rule, numbers, first, untargeted, contents, zeros, undecided, average, averageIsSome, start, fix, fixAt, visit, pass, passes, aboveAverage, fittingAverage, splitAtAverage, share, shared, widened, step1, step2, step3, step4, visible, lifted, contentOf, upper, longest, isUndecided}
-use Rattle.rules.proofs.Lists.{all-map, all-getD, length-upFrom, all-upFrom}
+use Rattle.laws.proofs.Lists.{all-map, all-getD, length-upFrom, all-upFrom}
 
 -- steps keep the number of columns
 length-fixAt : (j : ℕ) (o : Option ℕ) (s : State) → length (fixAt j o s .widths) ≡ length (s .widths)

@@ -7,18 +7,19 @@ use mathlib.Core.Bool.{Bool, true, false}
 use native.Mathlib.Omega.{arith}
 use lib.ListN.{getD, replicate}
 use lib.Dec.{leb}
 use Rattle.rules.specs.Text.{textWidth, firstOf, orElse, upFrom, All}
-use Rattle.rules.specs.Sheet.{Column, Cell, Row, Table, noCell, noColumn, columnAt, cellAt}
+use Rattle.rules.specs.Sheet.{Cell, Row, Table, noCell, noColumn, columnAt, cellAt}
+use Rattle.rules.specs.declared.Column.{Column}
 use Rattle.rules.specs.Limits.{Printable, Optional, ColumnLimits, LineLimits, CellLimits, RowLimits, TableLimits}
 use Rattle.rules.specs.Style.{glyphAt, glyph, isVisible}
 use Rattle.rules.specs.Wrap.{delimiterOf, shownIndicator, cutLine}
 use Rattle.rules.specs.Widths.{visible, contents}
 use Rattle.rules.specs.Page.{alignmentOf, area, wrapped, cellLines, height, areaAt, areas, joinedMore, joined, lineOf, edge, ruled, textLine, shown, rowText, framed, pageLines}
-use Rattle.rules.proofs.Lists.{all-imp, all-append, all-map, all-map-imp, all-replicate, all-default}
-use Rattle.rules.proofs.Text.{all-first}
-use Rattle.rules.proofs.Split.{all-wrapLines}
-use Rattle.rules.proofs.Fits.{all-cut}
-use Rattle.rules.proofs.Rows.{all-headed, all-ruledRows}
+use Rattle.laws.proofs.Lists.{all-imp, all-append, all-map, all-map-imp, all-replicate, all-default}
+use Rattle.laws.proofs.Text.{all-first}
+use Rattle.laws.proofs.Split.{all-wrapLines}
+use Rattle.laws.proofs.Fits.{all-cut}
+use Rattle.laws.proofs.Rows.{all-headed, all-ruledRows}
 
 -- a property of every character of a line, from its parts
 all-joinedMore : (P : ℕ → Type 0) (j : List ℕ) → All P j → (ps : List (List ℕ)) → All (All P) ps → All P (joinedMore j ps)

@@ -9,17 +9,18 @@ use native.Mathlib.Omega.{arith}
 use lib.ListN.{length, getD, List·getD-eq-default}
 use lib.Dec.{ltb}
 use borrow.Author.Tests.{ltb-false, le-ltb}
 use Rattle.rules.specs.Text.{blank, upFrom, keep, flat}
-use Rattle.rules.specs.Sheet.{Column, Row, Table, noCell, columnAt, cellAt}
+use Rattle.rules.specs.Sheet.{Row, Table, noCell, columnAt, cellAt}
+use Rattle.rules.specs.declared.Column.{Column}
 use Rattle.rules.specs.Wrap.{delimiterOf, wrapLines, exceeds, cut}
 use Rattle.rules.specs.Widths.{visible, contents}
 use Rattle.rules.specs.Page.{alignmentOf, area, wrapped, cellLines, height, areaAt}
 use Rattle.rules.specs.Words.{rowAt, columnOf, linesOf, areaOf, Uncut, characters}
-use Rattle.rules.proofs.Lists.{keep-append, all-getD, map-shift, le-greatest}
-use Rattle.rules.proofs.Text.{width-nil}
-use Rattle.rules.proofs.Split.{wrap-short}
-use Rattle.rules.proofs.Keeps.{kept-lines}
-use Rattle.rules.proofs.Areas.{visible-below, content-some}
+use Rattle.laws.proofs.Lists.{keep-append, all-getD, map-shift, le-greatest}
+use Rattle.laws.proofs.Text.{width-nil}
+use Rattle.laws.proofs.Split.{wrap-short}
+use Rattle.laws.proofs.Keeps.{kept-lines}
+use Rattle.laws.proofs.Areas.{visible-below, content-some}
 
 -- p: what stays, spaces not among it
 module _ (p : ℕ → Bool) (space : p 32 ≡ false) where

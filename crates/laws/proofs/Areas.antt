@@ -5,15 +5,15 @@ use mathlib.Core.List.{List, [], map}
 use native.Mathlib.Omega.{arith}
 use lib.ListN.{length, getD, length-map}
 use lib.Seq.{ext-getD}
 use Rattle.rules.specs.Text.{upFrom, All}
 use Rattle.rules.specs.Sheet.{Row, Table, noRow, allRows}
 use Rattle.rules.specs.Widths.{numbers, visible, contents}
 use Rattle.rules.specs.Page.{visibleWidth, visibleWidths, height, areaAt, areas}
 use Rattle.rules.specs.Words.{rowAt, widthsOf, linesOf, areaOf}
 use Rattle.rules.specs.Demand3.{Agree}
-use Rattle.rules.proofs.Lists.{all-getD, all-keep, all-map-imp, below-upFrom, getD-map, getD-upFrom, length-upFrom, map-append}
-use Rattle.rules.proofs.Cancel.{at-length}
-use Rattle.rules.proofs.Contents.{length-contents, contents-some}
+use Rattle.laws.proofs.Lists.{all-getD, all-keep, all-map-imp, below-upFrom, getD-map, getD-upFrom, length-upFrom, map-append}
+use Rattle.laws.proofs.Cancel.{at-length}
+use Rattle.laws.proofs.Contents.{length-contents, contents-some}
 
 -- a visible column is a column
 pub visible-below : (t : Table) → All (λ j. j < length (t .columns)) (visible t)

@@ -8,54 +8,21 @@ use native.Mathlib.Omega.{arith}
 use lib.ListN.{length}
 use lib.Dec.{ltb, leb, eqb}
 use borrow.Author.Tests.{leb-true, eqb-true, eq-eqb, ltb-false}
-use Rattle.rules.specs.Sheet.{Width, Column, Cell, Row, Table, mostColumns}
+use Rattle.rules.specs.Sheet.{Cell, Row, Table, mostColumns}
+use Rattle.rules.specs.declared.Width.{Width}
+use Rattle.rules.specs.declared.Column.{Column}
 use Rattle.rules.specs.Field.{Read, got, refused, onward, between, printable, printableOrZero, ended}
 use Rattle.rules.specs.Description.{reads}
 use Rattle.rules.specs.Format.{width, column, line, cell, row, table, sheet}
 use Rattle.rules.specs.Places.{tableHere, endPlace}
-use Rattle.rules.specs.Steps.{Step, At, Refused, stepOf, readFrom, after}
+use Rattle.rules.specs.Steps.{stepOf, readFrom, after}
+use Rattle.rules.specs.declared.Step.{Step}
+use Rattle.rules.specs.declared.Step.the-variants.{At, Refused}
 use Rattle.rules.specs.Limits.{Printable, Optional, WidthLimits, ColumnLimits, LineLimits, CellLimits, RowLimits, TableLimits}
 use Rattle.rules.specs.Calls.{check, checkOf}
-use Rattle.rules.proofs.Lists.{all-imp}
-use Rattle.rules.proofs.Reading.{Number, keeps, Faithful, Reads, Sound, sound, steps}
-
--- ---- each part of a value is the one that was read
-
-abbrev Whole : {A : Type 0} → A → Type 0
-Whole a = Unit {0}
-
-any : {A : Type 0} → (a : A) → Whole a
-any a = tt
-
--- the part's own fields, and what follows them
-part : {A B : Type 0} → A → B → A × B
-part a b = (a, b)
-
-width-whole : (used : Bool) → Faithful (width used) Whole
-unfolding Faithful width
-width-whole true = part any λ u. part any λ v. (refl, (refl, tt))
-width-whole false = part any λ u. part any λ v. (refl, (refl, tt))
-
-column-whole : Faithful column Whole
-unfolding Faithful column
-column-whole =
-    part any λ l. part any λ r. part any λ d. part any λ a. part any λ k. part (width-whole (leb 3 k)) λ v. part (width-whole (eqb k 6)) λ w.
-    (refl, (refl, (refl, (refl, (refl, (refl, (refl, tt)))))))
-
-cell-whole : Faithful cell Whole
-unfolding Faithful cell line
-cell-whole = part any λ d. part any λ a. part (any, (any, any)) λ ls. (refl, (refl, (refl, tt)))
-
-row-whole : (columns : ℕ) → Faithful (row columns) Whole
-unfolding Faithful row
-row-whole columns = part any λ h. part (any, (cell-whole, any)) λ cs. (refl, (refl, tt))
-
-table-whole : Faithful table Whole
-unfolding Faithful table
-table-whole =
-    part any λ e. part any λ a. part any λ w. part any λ d. part any λ i. part any λ st. part (any, (column-whole, any)) λ cs.
-    part (any, (row-whole (length cs), any)) λ h. part (any, (row-whole (length cs), any)) λ rs.
-    (refl, (refl, (refl, (refl, (refl, (refl, (refl, (refl, (refl, tt)))))))))
+use Rattle.laws.proofs.Lists.{all-imp}
+use Rattle.laws.proofs.Reading.{Number, keeps, Reads, Sound, sound, steps}
+use Rattle.rules.proofs.Parts.{Whole, table-whole}
 
 -- ---- what passed the tests keeps the limits
 

@@ -8,13 +8,15 @@ use lib.ListN.{length, take, drop}
 use lib.Seq.{drop-cons}
 use lib.Dec.{ltb, eqb}
 use borrow.Author.Tests.{ltb-true, eqb-true}
 use Rattle.rules.specs.Text.{All}
 use Rattle.rules.specs.Field as field
 use Rattle.rules.specs.Field.{Read, got, refused, Reader, onward, byteAt, wordAt, between, several}
-use Rattle.rules.specs.Description.{Fault, wrongEdition, unknownCode, beyondLimits, badCharacter, tooManyCells, notZero, numberOf}
+use Rattle.rules.specs.Description.{Faithful, Fault, wrongEdition, unknownCode, beyondLimits, badCharacter, tooManyCells, notZero, numberOf}
 use Rattle.rules.specs.Description.{Format, byte, word, only, zeroWord, text, listed, give, next, textLength, character, reads}
 use Rattle.rules.specs.Description.{past, parts, textAt, lineStop, Extent, stands, here, stop}
-use Rattle.rules.specs.Steps.{Step, At, Refused, stepOf, readFrom, hereOf, byteOf, times, after}
+use Rattle.rules.specs.Steps.{stepOf, readFrom, hereOf, byteOf, times, after}
+use Rattle.rules.specs.declared.Step.{Step}
+use Rattle.rules.specs.declared.Step.the-variants.{At, Refused}
 
 -- every refusal from the input is numbered 1 to 9
 abbrev pub Number : ℕ → Type 0
@@ -38,17 +40,6 @@ keeps (text low high good) l = (between low high (length l) ≡ true) × All (λ
 keeps (listed count x) as′ = keeps count (length as′) × All (λ a. keeps x a) as′
 keeps (give a) u = Unit {0}
 keeps (next of x g) u = keeps x (of u) × keeps (g (of u)) u
-
--- a value that was read has the property P, and each of its parts is the one that was read
-unfoldable pub Faithful : {A : Type 0} → Format A → (A → Type 0) → Type 0
-Faithful byte P = (v : ℕ) → P v
-Faithful word P = (v : ℕ) → P v
-Faithful (only good fault x) P = Faithful x P
-Faithful zeroWord P = (v : ℕ) → P v
-Faithful (text low high good) P = (l : List ℕ) → P l
-Faithful (listed {A} count x) P = Faithful count (λ n. Unit {0}) × (Faithful x (λ a. Unit {0}) × ((as′ : List A) → P as′))
-Faithful (give a) P = P a
-Faithful (next {A = A} of x g) P = Faithful x (λ a. Unit {0}) × ((a : A) → Faithful (g a) (λ u. (of u ≡ a) × P u))
 
 -- a value that was read is what stands there, from p to q, and has passed the tests
 pub record Reads {A : Type 0} (x : Format A) (P : A → Type 0) (s : List ℕ) (p : ℕ) (a : A) (q : ℕ) : Type 0 where

@@ -7,13 +7,15 @@ use native.Mathlib.Nat.{not-suc-le-zero, le-of-suc-le-suc}
 use native.Mathlib.Omega.{arith}
 use lib.ListN.{length, getD, length-take, length-drop}
 use lib.Dec.{leb, eqb}
-use Rattle.rules.specs.Sheet.{Width, Column, Table, columnAt, noColumn, mostColumns}
+use Rattle.rules.specs.Sheet.{Table, columnAt, noColumn, mostColumns}
+use Rattle.rules.specs.declared.Width.{Width}
+use Rattle.rules.specs.declared.Column.{Column}
 use Rattle.rules.specs.Field.{got}
 use Rattle.rules.specs.Description.{Format, byte, word, only, zeroWord, text, listed, give, next, Extent, stands, here, stop, partAt}
 use Rattle.rules.specs.Format.{width, column, line, cell, row, table, sheet}
 use Rattle.rules.specs.Places.{past, parts, byteAt, wordAt, textAt, lineStop, widthHere, columnHere, columnStop, cellHere, cellStop, rowHere, rowStop}
 use Rattle.rules.specs.Places.{stylePlace, columnsPlace, headerPlace, rowsPlace, endPlace, tableHere}
-use Rattle.rules.proofs.Accepted.{accepted-limits, accepted-places}
+use Rattle.laws.proofs.Accepted.{accepted-limits, accepted-places}
 
 -- as many parts as were asked for
 pub parts-count : {A : Type 0} (n : ℕ) (here : ℕ → A) (stop : ℕ → ℕ) (p : ℕ) → length (parts n here stop p) ≡ n

@@ -6,11 +6,11 @@ use mathlib.Core.Bool.{Bool, true, false}
 use native.Mathlib.Omega.{arith}
 use lib.Dec.{ltb, eqb}
 use borrow.Author.Tests.{leb-false, ltb-true, ltb-false, lt-ltb, le-ltb}
 use Rattle.rules.specs.Text.{textWidth, firstOf, restOf, All}
 use Rattle.rules.specs.Wrap.{Act, join, retry, fill, begin, onto, pieces, glue, room, tight, full, act, last, place, weight, split, wrapLine, wrapLines}
-use Rattle.rules.proofs.Lists.{all-imp, all-append, all-flat}
-use Rattle.rules.proofs.Text.{width-nil, width-cons, width-append, width-first, all-first, all-rest}
-use Rattle.rules.proofs.Fuel.{View, joins, retries, fills, begins, view}
+use Rattle.laws.proofs.Lists.{all-imp, all-append, all-flat}
+use Rattle.laws.proofs.Text.{width-nil, width-cons, width-append, width-first, all-first, all-rest}
+use Rattle.laws.proofs.Fuel.{View, joins, retries, fills, begins, view}
 
 -- a property of lines that are put out, one of the line begun and one of the pieces left, kept by every rule
 pub record Kept (w d : ℕ) (Out Line Piece : List ℕ → Type 0) : Type 0 where

@@ -8,22 +8,22 @@ use native.Mathlib.Omega.{arith}
 use lib.ListN.{length}
 use lib.Dec.{eqb, ltb}
 use borrow.Author.Tests.{eq-eqb}
 use Rattle.rules.specs.Text.{upFrom, keep, flat, All}
 use Rattle.rules.specs.Sheet.{Table, noRow, allRows, columnAt, cellAt}
 use Rattle.rules.specs.Limits.{Printable, TableLimits}
 use Rattle.rules.specs.Wrap.{delimiterOf}
 use Rattle.rules.specs.Widths.{visible, contents}
 use Rattle.rules.specs.Page.{areas, closed, pageLines, page}
 use Rattle.rules.specs.Words.{Readable, Accepted, wrote, Answered, rowAt, columnOf, widthsOf, linesOf, areaOf, isDelimiter, leftOut}
 use Rattle.rules.specs.Demand3.{Agree, SameText, Comparable, Demand3}
-use Rattle.rules.proofs.Lists.{all-imp, all-right, all-places, map-below}
-use Rattle.rules.proofs.Cancel.{closed-cancel}
-use Rattle.rules.proofs.Characters.{printable-page}
-use Rattle.rules.proofs.Drawn.{areas-fit, drawn, framed-drawn, shown-drawn, drawn-widths, drawn-shown}
-use Rattle.rules.proofs.Areas.{widths-some, length-widths, length-areas, shownIn, Alike, alike-agree, agree-alike}
-use Rattle.rules.proofs.CellText.{place-text}
-use Rattle.rules.proofs.Accepted.{accepted-limits}
-use Rattle.rules.proofs.Wrote.{wrote-page}
+use Rattle.laws.proofs.Lists.{all-imp, all-right, all-places, map-below}
+use Rattle.laws.proofs.Cancel.{closed-cancel}
+use Rattle.laws.proofs.Characters.{printable-page}
+use Rattle.laws.proofs.Drawn.{areas-fit, drawn, framed-drawn, shown-drawn, drawn-widths, drawn-shown}
+use Rattle.laws.proofs.Areas.{widths-some, length-widths, length-areas, shownIn, Alike, alike-agree, agree-alike}
+use Rattle.laws.proofs.CellText.{place-text}
+use Rattle.laws.proofs.Accepted.{accepted-limits}
+use Rattle.laws.proofs.Wrote.{wrote-page}
 
 lines-drawn : (t : Table) → pageLines t ≡ drawn (t .style) (widthsOf t) (shownIn t) (t .header) (t .rows)
 unfolding pageLines

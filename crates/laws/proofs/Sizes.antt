@@ -6,9 +6,10 @@ use mathlib.Core.Bool.{Bool, true, false, cond}
 use native.Mathlib.Omega.{arith}
 use lib.ListN.{length, length-append, length-replicate}
 use lib.Dec.{eqb}
 use Rattle.rules.specs.Text.{sum, textWidth}
-use Rattle.rules.specs.Sheet.{Column, Table, padding}
+use Rattle.rules.specs.Sheet.{Table, padding}
+use Rattle.rules.specs.declared.Column.{Column}
 use Rattle.rules.specs.Page.{area, before, closed, page, pageLines, byteCount}
 
 pub before-le : (a n : ℕ) → before a n ≤ n
 before-le a n = go (eqb a 2) (eqb a 3)

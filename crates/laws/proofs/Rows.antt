@@ -6,11 +6,11 @@ use mathlib.Core.List.{List, [], _∷_, _++_, map, append-assoc, tail-eq-of-cons
 use native.Mathlib.Nat.{not-suc-le-zero}
 use native.Mathlib.Omega.{arith}
 use lib.ListN.{length}
 use Rattle.rules.specs.Text.{All}
 use Rattle.rules.specs.Sheet.{Row}
 use Rattle.rules.specs.Page.{headed, ruledMore, ruledRows}
-use Rattle.rules.proofs.Lists.{all-append, all-map}
-use Rattle.rules.proofs.Cancel.{Stops, at-stop}
+use Rattle.laws.proofs.Lists.{all-append, all-map}
+use Rattle.laws.proofs.Cancel.{Stops, at-stop}
 
 -- a property of every line, from that of the rows' lines and of the rule
 module _ (Q : List ℕ → Type 0) (text : Row → List (List ℕ)) (rule : List (List ℕ)) (ruled : All Q rule) where

@@ -10,15 +10,17 @@ use native.Mathlib.Omega.{arith}
 use lib.ListN.{length, getD, take, set}
 use lib.Dec.{eqb, ltb, leb}
 use borrow.Author.Tests.{eqb-true, leb-true}
 use Rattle.rules.specs.Text.{textWidth, greatest, orElse, keep, All}
-use Rattle.rules.specs.Sheet.{Width, Column, Cell, Row, Table, columnAt, cellAt, noCell, noColumn, allRows, padding, isHidden}
+use Rattle.rules.specs.Sheet.{Cell, Row, Table, columnAt, cellAt, noCell, noColumn, allRows, padding, isHidden}
+use Rattle.rules.specs.declared.Width.{Width}
+use Rattle.rules.specs.declared.Column.{Column}
 use Rattle.rules.specs.Limits.{WidthLimits, ColumnLimits, LineLimits, CellLimits, RowLimits, TableLimits}
 use Rattle.rules.specs.Widths.{State, Rule, cellsOf, cellLongest, longest, numbers, visible, borders, percentOf, widthOf, valueOf, lowerWidth, upperWidth, absoluteWidth, lower, upper, absolute, covering, evaluate, noted, first, untargeted, zeros, undecided, average, averageIsSome, isUndecided, start, fix, fixAt, visit, pass, passes, aboveAverage, withinAverage, fittingAverage, longestPart, shorterBy3, splitAtAverage, step1, step2, step3, share, shared, widened, step4, contents, lifted, contentOf}
-use Rattle.rules.proofs.Cases.{oneIf-le}
-use Rattle.rules.proofs.Text.{width-length}
-use Rattle.rules.proofs.Settled.{zeros-le}
-use Rattle.rules.proofs.Contents.{length-steps}
-use Rattle.rules.proofs.Lists.{all-map, all-default, all-imp, all-append}
+use Rattle.laws.proofs.Cases.{oneIf-le}
+use Rattle.laws.proofs.Text.{width-length}
+use Rattle.laws.proofs.Settled.{zeros-le}
+use Rattle.laws.proofs.Contents.{length-steps}
+use Rattle.laws.proofs.Lists.{all-map, all-default, all-imp, all-append}
 
 -- a width that is offered, if one is
 abbrev pub Offered : (ℕ → Type 0) → Option ℕ → Type 0

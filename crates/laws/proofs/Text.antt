@@ -4,8 +4,8 @@ use mathlib.Core.Path.{_≡_, refl}
 use mathlib.Core.List.{List, [], _∷_, _++_}
 use native.Mathlib.Omega.{arith}
 use lib.ListN.{length, length-append, length-take, length-drop, take-append-drop}
 use Rattle.rules.specs.Text.{textWidth, firstOf, restOf, All}
-use Rattle.rules.proofs.Lists.{all-take, all-drop}
+use Rattle.laws.proofs.Lists.{all-take, all-drop}
 
 -- a character is one byte and one column. What leans on this alone is what a wider alphabet changes
 pub width-length : (l : List ℕ) → textWidth l ≡ length l

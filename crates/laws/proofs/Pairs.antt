@@ -7,19 +7,20 @@ use mathlib.Core.Bool.{Bool, true, false, not, _||_}
 use native.Mathlib.Omega.{arith}
 use lib.ListN.{length, replicate}
 use lib.Dec.{eqb}
 use Rattle.rules.specs.Opened.{rules}
 use Rattle.rules.specs.Quote.{ascii}
 use Rattle.rules.specs.Text.{flat}
-use Rattle.rules.specs.Sheet.{Column, Cell, Row, Table, noWidth, allRows}
+use Rattle.rules.specs.Sheet.{Cell, Row, Table, noWidth, allRows}
+use Rattle.rules.specs.declared.Column.{Column}
 use Rattle.rules.specs.Field.{got}
 use Rattle.rules.specs.Format.{sheet}
 use Rattle.rules.specs.Style.{topBorder, headerLines, headerRule, contentLines, rowRule, glyphAt, glyph, isVisible}
 use Rattle.rules.specs.Widths.{visible, first, contents}
 use Rattle.rules.specs.Page.{height, page}
 use Rattle.rules.specs.Words.{linesOf, characters, letters}
 use Rattle.rules.specs.Demand3.{Comparable, Agree}
 use Rattle.rules.specs.Examples.{grid}
-use Rattle.rules.proofs.Wrote.{grid-readable}
+use Rattle.laws.proofs.Wrote.{grid-readable}
 
 -- a table's sheet, byte by byte
 abbrev twoBytes : ℕ → List ℕ

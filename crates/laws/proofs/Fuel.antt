@@ -8,9 +8,9 @@ use native.Mathlib.Numerals.{add-one}
 use lib.ListN.{length}
 use lib.Dec.{ltb, leb}
 use borrow.Author.Tests.{leb-true, leb-false, ltb-true, ltb-false, le-leb, lt-leb, lt-ltb, le-ltb}
 use Rattle.rules.specs.Text.{textWidth, firstOf, restOf}
 use Rattle.rules.specs.Wrap.{Act, join, retry, fill, begin, split, place, pieces, glue, room, tight, full, act, last, weight}
-use Rattle.rules.proofs.Text.{rest-shorter}
+use Rattle.laws.proofs.Text.{rest-shorter}
 
 -- what each choice tells of the line l and the next piece p
 pub data View (w d : ℕ) (l p : List ℕ) : Act → Type 0 where

@@ -8,20 +8,20 @@ use native.Mathlib.Omega.{arith}
 use lib.ListN.{length, getD, take, length-append, length-take, length-map}
 use lib.Dec.{ltb, eqb}
 use borrow.Author.Tests.{ltb-true, ltb-false}
 use Rattle.rules.specs.Text.{textWidth, restOf, sum, upFrom, keep, flat, All}
 use Rattle.rules.specs.Sheet.{Cell, Row, Table, noCell, noColumn, columnAt, cellAt, padding, isHidden}
 use Rattle.rules.specs.Limits.{longestLine, ColumnLimits, LineLimits, CellLimits, RowLimits, TableLimits, mostLines}
 use Rattle.rules.specs.Style.{topBorder, headerLines, headerRule, contentLines, rowRule, bottomBorder, anyLeft, anyRight, anyJunction, isVisible, bordersOf}
 use Rattle.rules.specs.Wrap.{Act, join, retry, fill, begin, onto, pieces, glue, room, full, act, last, place, weight, split, wrapLine, wrapLines, exceeds, cutLine, cut, delimiterOf}
 use Rattle.rules.specs.Widths.{numbers, visible, borders, contents}
 use Rattle.rules.specs.Page.{visibleWidth, visibleWidths, wrapped, cellLines, height, areaAt, areas, ruled, textLine, lineLength, borderLength, shown, headed, ruledMore, ruledRows, rowText, framed, pageLines, closed, lineCount}
-use Rattle.rules.proofs.Cases.{oneIf-le}
-use Rattle.rules.proofs.Lists.{all-map, all-map-imp, all-imp, all-append, all-default, all-getD, all-keep, length-upFrom, keep-yes, keep-no}
-use Rattle.rules.proofs.Bounds.{Most, greatest-le, contents-801}
-use Rattle.rules.proofs.Areas.{visible-below, length-widths, length-areas}
-use Rattle.rules.proofs.Rows.{all-headed, all-ruledRows}
-use Rattle.rules.proofs.Lines.{text-length, rule-length, border-length}
-use Rattle.rules.proofs.Sizes.{length-closed}
+use Rattle.laws.proofs.Cases.{oneIf-le}
+use Rattle.laws.proofs.Lists.{all-map, all-map-imp, all-imp, all-append, all-default, all-getD, all-keep, length-upFrom, keep-yes, keep-no}
+use Rattle.laws.proofs.Bounds.{Most, greatest-le, contents-801}
+use Rattle.laws.proofs.Areas.{visible-below, length-widths, length-areas}
+use Rattle.laws.proofs.Rows.{all-headed, all-ruledRows}
+use Rattle.laws.proofs.Lines.{text-length, rule-length, border-length}
+use Rattle.laws.proofs.Sizes.{length-closed}
 
 -- ---- lines of a cell
 

@@ -6,9 +6,9 @@ use mathlib.Core.List.{List, [], _∷_, _++_, map, append-cancel-left, append-ca
 use native.Mathlib.Nat.{suc-inj, not-suc-le-zero}
 use native.Mathlib.Omega.{arith}
 use lib.ListN.{length, replicate, length-replicate}
 use Rattle.rules.specs.Text.{All}
 use Rattle.rules.specs.Page.{joinedMore, joined, lineOf, closed}
-use Rattle.rules.proofs.Lists.{all-replicate}
+use Rattle.laws.proofs.Lists.{all-replicate}
 
 -- a list that is empty or begins with a stop
 abbrev pub Stops : {A : Type 0} → (A → Type 0) → List A → Type 0

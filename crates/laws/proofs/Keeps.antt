@@ -6,11 +6,11 @@ use mathlib.Core.Bool.{Bool, true, false, not}
 use native.Mathlib.Omega.{arith}
 use lib.Dec.{ltb, eqb}
 use borrow.Author.Tests.{eqb-true}
 use Rattle.rules.specs.Text.{textWidth, firstOf, restOf, keep, flat}
 use Rattle.rules.specs.Wrap.{Act, join, retry, fill, begin, onto, pieces, glue, room, full, act, last, place, weight, split, wrapLine, wrapLines}
-use Rattle.rules.proofs.Lists.{keep-append, flat-append}
-use Rattle.rules.proofs.Text.{first-rest, rest-shorter}
-use Rattle.rules.proofs.Fuel.{View, joins, retries, fills, begins, view, held, held-le, weight-some, tight-held, room-some}
+use Rattle.laws.proofs.Lists.{keep-append, flat-append}
+use Rattle.laws.proofs.Text.{first-rest, rest-shorter}
+use Rattle.laws.proofs.Fuel.{View, joins, retries, fills, begins, view, held, held-le, weight-some, tight-held, room-some}
 
 -- q: what is left out, the delimiter d among it
 module _ (q : ℕ → Bool) (d : ℕ) (out : q d ≡ true) where
