@@ -1,4 +1,4 @@
--- The arrangement: untargeted widths, the remaining width, steps 1 to 4, full width. Assumes nothing.
+-- The arrangement: untargeted widths, the remaining width, steps 1 to 3, and the whole; step 4 is `sharing`'s. Assumes nothing.
 use Prim.Native.Nat.{ℕ, zero, suc, _+_, _-_}
 use mathlib.Core.Bool.{true, false, _&&_}
 use mathlib.Core.Option.{Option, none, some}

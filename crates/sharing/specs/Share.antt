@@ -1,4 +1,4 @@
--- Step 4: columns that are left share the remaining width, or all share what is over. Assumes nothing.
+-- Step 4: columns that are left share the remaining width; if none is left, visible columns share what is over. Assumes nothing.
 use Prim.Native.Nat.{ℕ, _+_, _-_, _/_, _%_, max}
 use lib.ListN.{getD, set}
 use lib.Dec.{eqb, ltb}
