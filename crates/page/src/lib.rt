@@ -118,11 +118,11 @@ pub fn print_line(sheet: &[u8], line: usize, page: &mut [u8]) -> Printed
     }
     let needed = found.place;
     let c = found.cursor;
-    let wrote = lines::write(&mut page[..needed], sheet, &columns, p, c);
+    let drawn = lines::write(&mut page[..needed], sheet, &columns, p, c);
     Printed {
         number: 0,
         place: 0,
-        written: wrote.bytes as u64,
+        written: drawn.bytes as u64,
     }
 }
 

@@ -34,18 +34,23 @@ print-line-spec =
     (λ c.
     let h = is-accepted _ _ (c .before .before .before .before .before .before .before .before .before .check .ensures)
     (c .before .before .before .before .before .before .before .if1 .left) in
-    found-here _ h _ (c .before .before .before .before .before .«open» .ensures .1)
-    (c .before .before .before .before .before .before .before .before .before .before .before .before .args .line)
-    (now (c .before .before .before .before .before .before .before .before .before .before .before .before .args .page)) _
-    (c .before .before .before .find .ensures) (c .before .if2 .left) .1 .1)
+    omega (
+      arith,
+      found-here _ h _ (c .before .before .before .before .before .«open» .ensures .1)
+          (c .before .before .before .before .before .before .before .before .before .before .before .before .args .line)
+          (now (c .before .before .before .before .before .before .before .before .before .before .before .before .args .page)) _
+          (c .before .before .before .find .ensures) (c .before .if2 .left) .1 .1,
+    ))
     (λ c.
     let h = is-accepted _ _ (c .before .before .before .before .before .before .before .before .before .before .check .ensures)
     (c .before .before .before .before .before .before .before .before .if1 .left) in
     let b = now (c .before .before .before .before .before .before .before .before .before .before .before .before .before .args .page) in
-    sym (length-take-le (c .before .before .before .before .find .result .place) b
-    (found-here _ h _ (c .before .before .before .before .before .before .«open» .ensures .1)
-    (c .before .before .before .before .before .before .before .before .before .before .before .before .before .args .line) b _
-    (c .before .before .before .before .find .ensures) (c .before .before .if2 .left) .1 .1)))
+    sym (length-take-le _ b (omega (
+      arith,
+      found-here _ h _ (c .before .before .before .before .before .before .«open» .ensures .1)
+          (c .before .before .before .before .before .before .before .before .before .before .before .before .before .args .line) b _
+          (c .before .before .before .before .find .ensures) (c .before .before .if2 .left) .1 .1,
+    ))))
     (λ c κs.
     let h = is-accepted _ _ (c .before .before .before .before .before .before .before .before .before .before .before .check .ensures)
     (c .before .before .before .before .before .before .before .before .before .if1 .left) in

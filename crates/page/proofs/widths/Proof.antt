@@ -10,6 +10,7 @@ widths-spec =
     tie.close
     (tie.spec
     (λ c κs. search needs)
-    (λ c. search (needs, measure-refused))
+    (λ c. measure-refused _ _ (c .before .before .check .ensures) (c .if1 .taken))
     (λ c κs. search (needs, is-accepted))
-    (λ c. search (needs, measure-accepted, is-accepted)))
+    (λ c. measure-accepted _ _ (is-accepted _ _ (c .before .before .before .before .before .check .ensures) (c .before .before .before .if1 .left))
+    (c .before .before .content-widths .ensures)))
