@@ -11,9 +11,9 @@ use Rattle.rules.specs.Field.{Read, got, refused}
 use Rattle.rules.specs.Format.{sheet}
 use Rattle.rules.specs.Limits.{mostLines}
 use Rattle.rules.specs.Page.{lineAt, lineCount}
-use Rattle.rules.specs.Calls.{Written, put, turned, printLine, printLineOf}
-use Rattle.rules.proofs.Accepted.{refused-number, accepted-limits}
-use Rattle.rules.proofs.Counts.{line-count-bound}
+use Rattle.rules.specs.Calls.{Written, put, notPrinted, printLine, printLineOf}
+use Rattle.laws.proofs.Accepted.{refused-number, accepted-limits}
+use Rattle.laws.proofs.Counts.{line-count-bound}
 use Rattle.reader.specs.Read.{lineAfter}
 
 -- a printed line is one of the page's, which are few
@@ -25,7 +25,7 @@ printed-few s k b e = go (sheet s) refl e
     go (got t p) i j = within (ltb k (lineCount t)) refl j
       where
         within : (x : Bool) → ltb k (lineCount t) ≡ x
-            → (elim x as (λ y. Written) [ true ↦ put (lineAt t k) b | false ↦ turned 21 (lineCount t) b ]) .answer .number ≡ 0 → k < mostLines
+            → (elim x as (λ y. Written) [ true ↦ put (lineAt t k) b | false ↦ notPrinted 21 (lineCount t) b ]) .answer .number ≡ 0 → k < mostLines
         within true h l = omega (arith, ltb-true k (lineCount t) h, line-count-bound t (accepted-limits s t p i))
         within false h l = absurd (omega (arith, l))
     go (refused n p) i j = let h = refused-number s n p i in absurd (omega arith)

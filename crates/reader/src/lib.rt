@@ -29,23 +29,6 @@ pub fn new<'a>(sheet: &'a [u8]) -> PageReader<'a>
     PageReader { sheet, line: 0 }
 }
 
-// The same sheet from another line on.
-pub fn moved<'a>(r: PageReader<'a>, line: usize) -> PageReader<'a>
-    ensures { λ q. ⌜ (q .sheet ≡ r .entry .sheet) × (q .line ≡ line) ⌝ }
-{
-    PageReader {
-        sheet: r.sheet,
-        line,
-    }
-}
-
-// The number of the reader's next line.
-pub fn line_of<'a>(r: PageReader<'a>) -> usize
-    ensures { λ n. ⌜ n ≡ r .entry .line ⌝ }
-{
-    r.line
-}
-
 // The line after line k, or line k again where it was refused.
 fn line_after(k: usize, number: u64) -> usize
     requires { ⌜ (number ≡ 0 → k + 1 < 2 ^ 64) ⌝ }

@@ -50,7 +50,6 @@ use Rattle.reader.specs.declared.ReadLine.{ReadLine}
 use Rattle.reader.specs.declared.LineRead.{LineRead}
 use Rattle.reader.proofs.PageReader as T
 use Rattle.reader.proofs.PageReader.Laws as T′
-use Rattle.rules.proofs.Printed as P
 use Rattle.reader.proofs.LineRead as S
 use Rattle.reader.proofs.LineRead.Laws as S′
 use Rattle.reader.proofs.ReadLine as Q
