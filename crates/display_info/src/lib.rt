@@ -192,7 +192,9 @@ fn show_column(
 // The visible columns, from left to right; gives their count.
 fn show_columns(sheet: &[u8], widths: Widths, columns: &mut [[usize; 6]; MOST_COLUMNS]) -> usize
     requires { ⌜ IsAccepted (now sheet) × ((widths ≡ arrangedWidths (tableOf (now sheet))) × (length (now columns) ≡ mostColumns)) ⌝ }
-    ensures { λ r. ⌜ Views (tableOf (now (sheet .entry))) (contents (tableOf (now (sheet .entry)))) (viewOf (now (columns .exit)) r) × (Rising (viewOf (now (columns .exit)) r) × (WideAll (viewOf (now (columns .exit)) r) × NarrowAll (viewOf (now (columns .exit)) r))) ⌝ }
+    ensures { λ r.
+        ⌜ Views (tableOf (now (sheet .entry))) (contents (tableOf (now (sheet .entry)))) (viewOf (now (columns .exit)) r)
+        × (Rising (viewOf (now (columns .exit)) r) × (WideAll (viewOf (now (columns .exit)) r) × NarrowAll (viewOf (now (columns .exit)) r))) ⌝ }
 {
     let head = settings::settings(sheet);
     let delimiter = numbers::or_else(head.delimiter, 32);

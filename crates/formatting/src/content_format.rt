@@ -94,7 +94,9 @@ fn draw_cell(
     requires { ⌜ InSheet (now sheet) (v .width) t × (indicator .count ≤ length (indicator .characters)) ⌝ }
     requires { ⌜ at + (v .left + (v .width + v .right)) ≤ length (now page) ⌝ }
     ensures { λ r. ⌜ r ≡ at + (v .left + (v .width + v .right)) ⌝ }
-    ensures { λ _. ⌜ now (page .exit) ≡ putAt (now (page .entry)) at (areaIn v (t .alignment) (shownText (now (sheet .entry)) (v .width) (take (indicator .count) (indicator .characters)) cut t)) ⌝ }
+    ensures { λ _.
+        ⌜ now (page .exit) ≡ putAt (now (page .entry)) at
+        (areaIn v (t .alignment) (shownText (now (sheet .entry)) (v .width) (take (indicator .count) (indicator .characters)) cut t)) ⌝ }
 {
     let width = v.width;
     let m = marks_shown(cut, indicator.count, width);
@@ -151,7 +153,9 @@ fn draw_column(
     requires { ⌜ InSheet (now sheet) (v .width) t × (Inside (now sheet) (t .line .cursor) × ((0 < v .width) × (indicator .count ≤ length (indicator .characters)))) ⌝ }
     requires { ⌜ at + (length (byteIf joins junction) + (v .left + (v .width + v .right))) ≤ length (now page) ⌝ }
     ensures { λ r. ⌜ (r .at ≡ at + (length (byteIf joins junction) + (v .left + (v .width + v .right)))) × After (now (sheet .entry)) (v .width) t (r .pending) ⌝ }
-    ensures { λ _. ⌜ now (page .exit) ≡ putAt (now (page .entry)) at (byteIf joins junction ++ columnPiece (now (sheet .entry)) v t (take (indicator .count) (indicator .characters)) last) ⌝ }
+    ensures { λ _.
+        ⌜ now (page .exit) ≡ putAt (now (page .entry)) at
+        (byteIf joins junction ++ columnPiece (now (sheet .entry)) v t (take (indicator .count) (indicator .characters)) last) ⌝ }
 {
     let next = advance(sheet, v.width, t);
     let line = next.line;
@@ -192,10 +196,17 @@ fn write_line(
     state: &mut [[usize; 8]; MOST_COLUMNS],
 ) -> Lined
     requires { ⌜ ReadyAll (now sheet) (viewOf (now columns) count) (pendingsOf (now state)) × (indicator .count ≤ length (indicator .characters)) ⌝ }
-    requires { ⌜ length (lineBytes (now sheet) (viewOf (now columns) count) (take (indicator .count) (indicator .characters)) style (pendingsOf (now state)) last) ≤ length (now page) ⌝ }
-    ensures { λ r. ⌜ r .written ≡ length (lineBytes (now (sheet .entry)) (viewOf (now (columns .entry)) count) (take (indicator .count) (indicator .characters)) style (pendingsOf (now (state .entry))) last) ⌝ }
-    ensures { λ r. ⌜ AfterAll (now (sheet .entry)) (viewOf (now (columns .entry)) count) (pendingsOf (now (state .entry))) (pendingsOf (now (state .exit))) × (r .more ≡ anyFound (pendingsOf (now (state .exit))) count) ⌝ }
-    ensures { λ _. ⌜ now (page .exit) ≡ over (lineBytes (now (sheet .entry)) (viewOf (now (columns .entry)) count) (take (indicator .count) (indicator .characters)) style (pendingsOf (now (state .entry))) last) (now (page .entry)) ⌝ }
+    requires { ⌜ length (lineBytes (now sheet) (viewOf (now columns) count) (take (indicator .count) (indicator .characters)) style (pendingsOf (now state)) last)
+        ≤ length (now page) ⌝ }
+    ensures { λ r.
+        ⌜ r .written ≡ length (lineBytes (now (sheet .entry)) (viewOf (now (columns .entry)) count) (take (indicator .count) (indicator .characters)) style
+        (pendingsOf (now (state .entry))) last) ⌝ }
+    ensures { λ r.
+        ⌜ AfterAll (now (sheet .entry)) (viewOf (now (columns .entry)) count) (pendingsOf (now (state .entry))) (pendingsOf (now (state .exit)))
+        × (r .more ≡ anyFound (pendingsOf (now (state .exit))) count) ⌝ }
+    ensures { λ _.
+        ⌜ now (page .exit) ≡ over (lineBytes (now (sheet .entry)) (viewOf (now (columns .entry)) count) (take (indicator .count) (indicator .characters))
+        style (pendingsOf (now (state .entry))) last) (now (page .entry)) ⌝ }
 {
     let mut more = false;
     let mut at = buffer::draw_edge(page, 0, style.opens, style.left);

@@ -15,7 +15,11 @@ use Rattle.rules.specs.Sheet.{Cell, Row, Table, columnAt, cellAt, noCell, noCol
 use Rattle.rules.specs.declared.Width.{Width}
 use Rattle.rules.specs.declared.Column.{Column}
 use Rattle.rules.specs.Limits.{WidthLimits, ColumnLimits, LineLimits, CellLimits, RowLimits, TableLimits}
-use Rattle.rules.specs.Widths.{State, Rule, cellsOf, cellLongest, longest, numbers, visible, borders, percentOf, widthOf, valueOf, lowerWidth, upperWidth, absoluteWidth, lower, upper, absolute, covering, evaluate, noted, first, untargeted, zeros, undecided, average, averageIsSome, isUndecided, start, fix, fixAt, visit, pass, passes, aboveAverage, withinAverage, fittingAverage, longestPart, shorterBy3, splitAtAverage, step1, step2, step3, share, shared, widened, step4, contents, lifted, contentOf}
+use Rattle.rules.specs.Widths.{State, Rule, cellsOf, cellLongest, longest, numbers, visible, borders, percentOf, widthOf, valueOf, lowerWidth}
+use Rattle.rules.specs.Widths.{upperWidth, absoluteWidth, lower, upper, absolute, covering, evaluate, noted, first, untargeted, zeros, undecided}
+use Rattle.rules.specs.Widths.{average, averageIsSome, isUndecided, start, fix, fixAt, visit, pass, passes, aboveAverage, withinAverage}
+use Rattle.rules.specs.Widths.{fittingAverage, longestPart, shorterBy3, splitAtAverage, step1, step2, step3, share, shared, widened, step4, contents}
+use Rattle.rules.specs.Widths.{lifted, contentOf}
 use Rattle.laws.proofs.Cases.{oneIf-le}
 use Rattle.laws.proofs.Text.{width-length}
 use Rattle.laws.proofs.Settled.{zeros-le}

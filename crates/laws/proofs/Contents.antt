@@ -11,7 +11,9 @@ use lib.Dec.{eqb, ltb}
 use borrow.Author.Tests.{eqb-true, eqb-false}
 use Rattle.rules.specs.Text.{orElse, keep, All}
 use Rattle.rules.specs.Sheet.{Table, columnAt, isHidden}
-use Rattle.rules.specs.Widths.{State, Rule, numbers, first, untargeted, contents, zeros, undecided, average, averageIsSome, start, fix, fixAt, visit, pass, passes, aboveAverage, fittingAverage, splitAtAverage, share, shared, widened, step1, step2, step3, step4, visible, lifted, contentOf, upper, longest, isUndecided}
+use Rattle.rules.specs.Widths.{State, Rule, numbers, first, untargeted, contents, zeros, undecided, average, averageIsSome, start, fix, fixAt, visit}
+use Rattle.rules.specs.Widths.{pass, passes, aboveAverage, fittingAverage, splitAtAverage, share, shared, widened, step1, step2, step3, step4}
+use Rattle.rules.specs.Widths.{visible, lifted, contentOf, upper, longest, isUndecided}
 use Rattle.laws.proofs.Lists.{all-map, all-getD, length-upFrom, all-upFrom}
 
 -- steps keep the number of columns

@@ -12,9 +12,11 @@ use Rattle.rules.specs.Text.{textWidth, restOf, sum, upFrom, keep, flat, All}
 use Rattle.rules.specs.Sheet.{Cell, Row, Table, noCell, noColumn, columnAt, cellAt, padding, isHidden}
 use Rattle.rules.specs.Limits.{longestLine, ColumnLimits, LineLimits, CellLimits, RowLimits, TableLimits, mostLines}
 use Rattle.rules.specs.Style.{topBorder, headerLines, headerRule, contentLines, rowRule, bottomBorder, anyLeft, anyRight, anyJunction, isVisible, bordersOf}
-use Rattle.rules.specs.Wrap.{Act, join, retry, fill, begin, onto, pieces, glue, room, full, act, last, place, weight, split, wrapLine, wrapLines, exceeds, cutLine, cut, delimiterOf}
+use Rattle.rules.specs.Wrap.{Act, join, retry, fill, begin, onto, pieces, glue, room, full, act, last, place, weight, split, wrapLine, wrapLines}
+use Rattle.rules.specs.Wrap.{exceeds, cutLine, cut, delimiterOf}
 use Rattle.rules.specs.Widths.{numbers, visible, borders, contents}
-use Rattle.rules.specs.Page.{visibleWidth, visibleWidths, wrapped, cellLines, height, areaAt, areas, ruled, textLine, lineLength, borderLength, shown, headed, ruledMore, ruledRows, rowText, framed, pageLines, closed, lineCount}
+use Rattle.rules.specs.Page.{visibleWidth, visibleWidths, wrapped, cellLines, height, areaAt, areas, ruled, textLine, lineLength, borderLength, shown}
+use Rattle.rules.specs.Page.{headed, ruledMore, ruledRows, rowText, framed, pageLines, closed, lineCount}
 use Rattle.laws.proofs.Cases.{oneIf-le}
 use Rattle.laws.proofs.Lists.{all-map, all-map-imp, all-imp, all-append, all-default, all-getD, all-keep, length-upFrom, keep-yes, keep-no}
 use Rattle.laws.proofs.Bounds.{Most, greatest-le, contents-801}

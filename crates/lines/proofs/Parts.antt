@@ -30,7 +30,8 @@ use Rattle.formatting.proofs.RowText.{lines-count}
 use Rattle.formatting.proofs.Whole.{styled-text}
 use Rattle.borders.proofs.Rule.{rule-drawn}
 use Rattle.display_info.specs.Opened.{widthsIn, stylesOf, RowsAt, Opened}
-use Rattle.lines.specs.Ahead.{ruleLines, textLines, firstRuled, headerLinesOf, rowLinesOf, bodyLines, partBy, partLines, restBy, restLines, ahead, linesOf, isEnd, firstCursor, At, Next, AfterRow}
+use Rattle.lines.specs.Ahead.{ruleLines, textLines, firstRuled, headerLinesOf, rowLinesOf, bodyLines, partBy, partLines, restBy, restLines}
+use Rattle.lines.specs.Ahead.{ahead, linesOf, isEnd, firstCursor, At, Next, AfterRow}
 use Rattle.lines.specs.Lengths.{LengthsAre, SizeIs}
 use Rattle.lines.specs.Band.{bandLines, bandCount, bodyStyle, SizedBand}
 use Rattle.display_info.specs.declared.RowStyle.{RowStyle}

@@ -48,7 +48,8 @@ use Rattle.lines.specs.Walk.{sizeOf, TotalsAre, SoughtIs, FoundIs, Wrote
 use Rattle.lines.specs.declared.cursor.Stage.{Stage}
 use Rattle.lines.specs.declared.cursor.Stage.the-variants.{Top, Header, Body, Bottom, End}
 use Rattle.display_info.proofs.Opening.{limits-of}
-use Rattle.lines.proofs.Parts.{border-few, top-drawn, bottom-drawn, header-drawn, body-drawn, ahead-start, first-at, first-ahead, end-ahead, top-count, header-count, body-count, bottom-count, end-count}
+use Rattle.lines.proofs.Parts.{border-few, top-drawn, bottom-drawn, header-drawn, body-drawn, ahead-start, first-at, first-ahead, end-ahead}
+use Rattle.lines.proofs.Parts.{top-count, header-count, body-count, bottom-count, end-count}
 
 drop-append : {A : Type 0} (n : ℕ) (xs ys : List A) → n ≤ length xs → drop n (xs ++ ys) ≡ drop n xs ++ ys
 drop-append zero xs ys h = refl

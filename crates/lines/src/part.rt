@@ -140,7 +140,9 @@ fn draw_band(
 ) -> Part
     requires { ⌜ Opened (now sheet) (now columns) p × (RowsAt (now sheet) here × SizedBand (now sheet) (viewOf (now columns) (p .count)) style (rowsIn (now sheet) here) size) ⌝ }
     requires { ⌜ first ≤ length (bandLines (now sheet) (viewOf (now columns) (p .count)) style (rowsIn (now sheet) here)) - 1 ⌝ }
-    ensures { λ r. ⌜ PartIs (drop first (bandLines (now (sheet .entry)) (viewOf (now (columns .entry)) (p .count)) style (rowsIn (now (sheet .entry)) here))) (now (page .entry)) (now (page .exit)) r ⌝ }
+    ensures { λ r.
+        ⌜ PartIs (drop first (bandLines (now (sheet .entry)) (viewOf (now (columns .entry)) (p .count)) style (rowsIn (now (sheet .entry)) here)))
+        (now (page .entry)) (now (page .exit)) r ⌝ }
 {
     if here.left == 0 {
         return nothing(true);

@@ -85,7 +85,9 @@ pub fn format_row(
 ) -> bool
     requires { ⌜ Rising (viewOf (now columns) count) × (WideAll (viewOf (now columns) count) × (cellsEnd (now sheet) cells ≤ length (now sheet))) ⌝ }
     requires { ⌜ length (now state) ≡ mostColumns ⌝ }
-    ensures { λ r. ⌜ OpenedRow (now (sheet .entry)) (cellsIn (now (sheet .entry)) cells) (viewOf (now (columns .entry)) count) n (pendingsOf (now (state .exit))) × (r ≡ anyFound (pendingsOf (now (state .exit))) count) ⌝ }
+    ensures { λ r.
+        ⌜ OpenedRow (now (sheet .entry)) (cellsIn (now (sheet .entry)) cells) (viewOf (now (columns .entry)) count) n (pendingsOf (now (state .exit)))
+        × (r ≡ anyFound (pendingsOf (now (state .exit))) count) ⌝ }
 {
     let mut left = cells;
     let mut passed: usize = 0;

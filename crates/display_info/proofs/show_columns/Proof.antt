@@ -6,7 +6,8 @@ use Rattle.rules.specs.Sheet.{mostColumns}
 use Rattle.table.specs.Held.{tableOf}
 use Rattle.arrangement.proofs.Layouts.{count-fits, column-at}
 use Rattle.row.specs.Packed.{viewOf}
-use Rattle.display_info.proofs.Opening.{limits-of, Showing, showing-begin, showing-on, showing-done, columns-count, width-is, delimiter-is, view-rising, view-wide, view-narrow}
+use Rattle.display_info.proofs.Opening.{limits-of, Showing, showing-begin, showing-on, showing-done, columns-count, width-is, delimiter-is}
+use Rattle.display_info.proofs.Opening.{view-rising, view-wide, view-narrow}
 use Rattle.display_info.proofs.show_columns.Statement.{statement}
 use Rattle.display_info.proofs.show_columns.Tie as tie
 

@@ -58,7 +58,15 @@ print-spec =
       c .before .before .before .before .before .before .before .before .before .before .loop .inv .1,
     ))
     (λ c. search needs)
-    (λ c. let start = c .before .before .before .before .before .before .before .before .before .before .before .before .before .before .before .before .before .before .before .before in let loop = c .before .before .before .before .before .before .before .before .before .before .before .loop in let is-end = c .before .before .before .before .before .before .before .before .before .before .is-end in let write = c .before .before .before .before .before .before .write in round-less (now (start .args .sheet)) _ (c .before .before .before .before .before .before .before .before .before .before .before .before .before .«open» .result) (c .before .before .before .before .before .before .before .before .before .before .before .before .before .«open» .ensures .0) (loop .c) (loop .inv .0) (loop .space) _ (write .result) (write .ensures) (sym (is-end .ensures) ∙ not-true (is-end .result) (c .before .before .before .before .before .before .before .before .before .if2 .taken)) (omega (arith, start .pre, loop .inv .1)))
+    (λ c.
+    let ended = c .before .before .before .before .before .before .before .before .before .before in
+    let loop = ended .before .loop in
+    let opened = ended .before .before .before .«open» in
+    let start = ended .before .before .before .before .before .before .before .before .before .before in
+    let write = c .before .before .before .before .before .before .write in
+    round-less (now (start .args .sheet)) _ (opened .result) (opened .ensures .0) (loop .c) (loop .inv .0) (loop .space) _ (write .result) (write .ensures)
+    (sym (ended .is-end .ensures) ∙ not-true (ended .is-end .result) (c .before .before .before .before .before .before .before .before .before .if2 .taken))
+    (omega (arith, start .pre, loop .inv .1)))
     (λ c. let loop = c .before .before .before .before .before .before .before .before .before .before .before .loop in
     let write = c .before .before .before .before .before .before .write in (
       round-on (now (c .before .before .before .before .before .before .before .before .before .before .before .before .before .before .before

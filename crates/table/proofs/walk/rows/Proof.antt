@@ -28,8 +28,11 @@ rows-spec =
     (λ c κs. (c .if1 .taken, let r = room _ (c .before .before .loop .inv .0) in omega (arith, c .before .before .loop .inv .1)))
     (λ c. omega (arith, c .next-row .ensures .left))
     (λ c. (c .before .before .before .loop .inv .0, c .next-row .ensures .ends ∙ c .before .before .before .loop .inv .1))
-    (λ c. let h = rows-room (now (c .before .before .before .before .before .args .sheet)) (c .before .before .before .loop .c) (c .before .before .before .loop .inv .0) (c .before .before .before .loop .inv .1) (c .before .if1 .left) in omega arith)
+    (λ c. let l = c .before .before .before .loop in
+    let h = rows-room (now (c .before .before .before .before .before .args .sheet)) (l .c) (l .inv .0) (l .inv .1) (c .before .if1 .left) in omega arith)
     (λ c κs. search needs)
-    (λ c. let h = rows-room (now (c .before .before .before .before .before .before .args .sheet)) (c .before .before .before .before .loop .c) (c .before .before .before .before .loop .inv .0) (c .before .before .before .before .loop .inv .1) (c .before .before .if1 .left) in omega arith)
+    (λ c. let l = c .before .before .before .before .loop in
+    let h = rows-room (now (c .before .before .before .before .before .before .args .sheet)) (l .c) (l .inv .0) (l .inv .1) (c .before .before .if1 .left) in
+    omega arith)
     (λ c. let loop = c .before .before .before .before .loop in
     rows-are _ _ _ (loop .inv .0) (sym (rows-none _ _ (c .before .before .if1 .left)) ∙ loop .inv .1) (c .size .ensures .0)))
