@@ -1,4 +1,4 @@
--- Demand 3, as a statement over the calls. Its proof is proofs/Readable.antt's. Assumes nothing.
+-- Demand 3, as a statement over the calls. Its proof is laws/proofs/Readable.antt's. Assumes nothing.
 use Prim.Native.Nat.{ℕ, _<_}
 use mathlib.Core.Path.{_≡_}
 use mathlib.Core.Logic.{_↔_}
