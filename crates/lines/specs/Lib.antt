@@ -1,4 +1,1 @@
-pub mod Ahead
-pub mod Lengths
-pub mod Band
 pub mod Walk

@@ -6,9 +6,9 @@ use mathlib.Core.Bool.{false}
 use lib.ListN.{length, drop, getD}
 use Rattle.rules.specs.Page.{closed, wholeLines}
 use Rattle.buffer.specs.Put.{over}
-use Rattle.lines.specs.Ahead.{isEnd, At, partLines, linesOf, ahead}
+use Rattle.parts.specs.Ahead.{isEnd, At, partLines, linesOf, ahead}
 use Rattle.display_info.specs.declared.Page.{Page}
-use Rattle.lines.specs.declared.cursor.Cursor.{Cursor}
+use Rattle.parts.specs.declared.cursor.Cursor.{Cursor}
 use Rattle.lines.specs.declared.Totals.{Totals}
 use Rattle.lines.specs.declared.Sought.{Sought}
 use Rattle.lines.specs.declared.Found.{Found}

@@ -1,16 +1,15 @@
 // The lines of an opened page: counted, sought and written, all part after part in one order.
-pub mod cursor;
-pub mod lengths;
-pub mod part;
-
 ghost use Prim.Native.Nat.{_≤_};
 ghost use Rattle.rules.specs.Limits.{mostLines};
 ghost use lib.ListN.{length};
 ghost use Rattle.display_info.specs.Opened.{Opened};
-ghost use Rattle.lines.specs.Ahead.{At, ahead};
+ghost use Rattle.parts.specs.Ahead.{At, ahead};
 ghost use Rattle.lines.specs.Walk.{TotalsAre, SoughtIs, FoundIs, WroteIs};
-use crate::cursor::Cursor;
 use display_info::Page;
+use parts::cursor;
+use parts::cursor::Cursor;
+use parts::lengths;
+use parts::part;
 use rules::MOST_COLUMNS;
 
 // A page's lines and bytes.

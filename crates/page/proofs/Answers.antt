@@ -24,16 +24,16 @@ use Rattle.table.specs.Held.{IsAccepted, tableOf}
 use Rattle.table.specs.Walk.{rowsIn}
 use Rattle.table.proofs.Held.{held}
 use Rattle.buffer.specs.Put.{over}
-use Rattle.lines.specs.Ahead.{ahead, linesOf, firstCursor}
+use Rattle.parts.specs.Ahead.{ahead, linesOf, firstCursor}
 use Rattle.display_info.specs.Opened.{Opened}
 use Rattle.lines.specs.Walk.{sizeOf, TotalsAre, FoundIs, WroteIs}
 use Rattle.display_info.specs.declared.Page.{Page}
-use Rattle.lines.specs.declared.cursor.Cursor.{Cursor}
+use Rattle.parts.specs.declared.cursor.Cursor.{Cursor}
 use Rattle.lines.specs.declared.Totals.{Totals}
 use Rattle.lines.specs.declared.Found.{Found}
 use Rattle.lines.specs.declared.Written.{Written}
 use Rattle.display_info.proofs.Opening.{limits-of}
-use Rattle.lines.proofs.Parts.{first-ahead}
+use Rattle.parts.proofs.Parts.{first-ahead}
 use Rattle.page.specs.Several as several
 
 -- ---- tests

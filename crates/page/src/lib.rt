@@ -3,7 +3,7 @@ ghost use mathlib.Core.Path.{_≡_};
 ghost use mathlib.Core.List.{[]};
 ghost use Rattle.rules.specs.Calls as calls;
 ghost use Rattle.page.specs.Several.{printLines, noLines};
-use lines::cursor;
+use parts::cursor;
 use rules::Checked;
 use rules::Counted;
 use rules::MOST_COLUMNS;

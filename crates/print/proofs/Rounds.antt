@@ -14,15 +14,15 @@ use Rattle.laws.proofs.Lists.{all-drop}
 use Rattle.table.specs.Held.{tableOf}
 use Rattle.table.specs.Walk.{rowsIn}
 use Rattle.display_info.specs.Opened.{Opened}
-use Rattle.lines.specs.Ahead.{isEnd, At, ahead, linesOf, firstCursor}
+use Rattle.parts.specs.Ahead.{isEnd, At, ahead, linesOf, firstCursor}
 use Rattle.rules.specs.Limits.{longestLine, mostLines}
 use Rattle.lines.specs.Walk.{WroteIs}
 use Rattle.display_info.specs.declared.Page.{Page}
-use Rattle.lines.specs.declared.cursor.Cursor.{Cursor}
+use Rattle.parts.specs.declared.cursor.Cursor.{Cursor}
 use Rattle.lines.specs.declared.Written.{Written}
 use Rattle.display_info.proofs.Opening.{limits-of}
-use Rattle.lines.proofs.Parts.{first-at, first-ahead, end-ahead}
-use Rattle.lines.proofs.Walks.{total-lines}
+use Rattle.parts.proofs.Parts.{first-at, first-ahead, end-ahead}
+use Rattle.parts.proofs.Bands.{total-lines}
 
 -- what is still to be written: the lines before the cursor, and one round more before its end is seen
 abbrev oneMore : Bool → ℕ

@@ -3,7 +3,7 @@
 // between them.
 mod stream;
 
-use lines::cursor;
+use parts::cursor;
 use rules::MOST_COLUMNS;
 ghost use mathlib.Core.Path.{_≡_};
 ghost use Prim.Native.Nat.{_+_, _≤_};

@@ -3,8 +3,9 @@ use borrow.Author.Tests.{not-true, not-false}
 use native.Mathlib.Omega.{arith}
 use mathlib.Core.Path.{sym, _∙_}
 use denote.Ref.{now}
-use Rattle.lines.specs.Ahead.{stepsOf}
-use Rattle.lines.proofs.Walks.{total-lines, total-bytes, Counting, counting-begins, counting-room, counting-on, counting-done}
+use Rattle.parts.specs.Ahead.{stepsOf}
+use Rattle.parts.proofs.Bands.{total-lines, total-bytes}
+use Rattle.lines.proofs.Walks.{Counting, counting-begins, counting-room, counting-on, counting-done}
 use Rattle.lines.proofs.count.Statement.{statement}
 use Rattle.lines.proofs.count.Tie as tie
 

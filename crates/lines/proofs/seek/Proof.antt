@@ -3,8 +3,9 @@ use borrow.Author.Tests.{not-true, not-false}
 use native.Mathlib.Omega.{arith}
 use mathlib.Core.Path.{sym, _∙_}
 use denote.Ref.{now}
-use Rattle.lines.specs.Ahead.{stepsOf}
-use Rattle.lines.proofs.Walks.{lines-few, Reaching, reaching-begins, reaching-found, reaching-on, reaching-ends}
+use Rattle.parts.specs.Ahead.{stepsOf}
+use Rattle.parts.proofs.Bands.{lines-few}
+use Rattle.lines.proofs.Walks.{Reaching, reaching-begins, reaching-found, reaching-on, reaching-ends}
 use Rattle.lines.proofs.seek.Statement.{statement}
 use Rattle.lines.proofs.seek.Tie as tie
 

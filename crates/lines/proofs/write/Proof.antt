@@ -4,8 +4,9 @@ use native.Mathlib.Omega.{arith}
 use mathlib.Core.Path.{refl, sym, _∙_}
 use denote.Ref.{now}
 use lib.ListN.{length-drop}
-use Rattle.lines.specs.Ahead.{partLines, stepsOf}
-use Rattle.lines.proofs.Walks.{lines-few, part-few, Filling, filling-begins, filling-room, filling-size, filling-lines, filling-bytes}
+use Rattle.parts.specs.Ahead.{partLines, stepsOf}
+use Rattle.parts.proofs.Bands.{lines-few, part-few}
+use Rattle.lines.proofs.Walks.{Filling, filling-begins, filling-room, filling-size, filling-lines, filling-bytes}
 use Rattle.lines.proofs.Walks.{filling-kept, filling-on, filling-stops, filling-done}
 use Rattle.lines.proofs.write.Statement.{statement}
 use Rattle.lines.proofs.write.Tie as tie

@@ -4,7 +4,7 @@ use mathlib.Core.Path.{refl, sym, ap, _∙_}
 use denote.Ref.{now}
 use Rattle.rules.specs.Calls.{Written}
 use Rattle.table.proofs.Held.{is-accepted}
-use Rattle.lines.proofs.Parts.{first-at, first-ahead}
+use Rattle.parts.proofs.Parts.{first-at, first-ahead}
 use Rattle.page.proofs.Answers.{page-refused, count-all, lines-bound-first, page-short, page-written}
 use Rattle.page.proofs.print_page.Statement.{statement}
 use Rattle.page.proofs.print_page.Tie as tie

@@ -1,0 +1,3 @@
+pub mod Parts
+pub mod Measures
+pub mod Bands

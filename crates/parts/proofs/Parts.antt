@@ -1,0 +1,417 @@
+-- The parts of a page one after another. Assumes nothing.
+use Prim.Native.Nat.{ℕ, zero, suc, _+_, _-_, _≤_, _<_}
+use mathlib.Core.Path.{_≡_, refl, sym, ap, _∙_}
+use mathlib.Core.List.{List, [], _∷_, _++_, map, append-assoc, append-nil}
+use mathlib.Core.Bool.{Bool, true, false, cond, _&&_}
+use native.Mathlib.Omega.{arith}
+use lib.ListN.{length, drop, getD, length-append}
+use lib.Dec.{ltb}
+use borrow.Author.Tests.{lt-ltb, le-ltb}
+use Rattle.rules.specs.Text.{All, upFrom}
+use Rattle.rules.specs.Sheet.{Row, noRow}
+use Rattle.rules.specs.Limits.{RowLimits}
+use Rattle.rules.specs.Style.{topBorder, headerLines, headerRule, contentLines, rowRule, bottomBorder, anyJunction, isVisible}
+use Rattle.rules.specs.Widths.{visible}
+use Rattle.rules.specs.Page.{height, areas, areaAt, textLine, rowText, visibleWidths, lineLength, ruled, shown, headed, ruledRows, ruledMore, framed}
+use Rattle.laws.proofs.Areas.{length-areas, line-at}
+use Rattle.laws.proofs.Counts.{height-bound}
+use Rattle.laws.proofs.Lines.{text-length, rule-length, border-length}
+use Rattle.laws.proofs.Lists.{all-drop, all-append, all-map, all-map-imp, getD-map}
+use Rattle.laws.proofs.Rows.{all-headed}
+use Rattle.table.specs.Held.{tableOf}
+use Rattle.table.specs.Walk.{rowsIn, firstRow, RowsNext}
+use Rattle.table.specs.declared.records.Rows.{Rows}
+use Rattle.table.proofs.Walks.{rows-number}
+use Rattle.row.specs.Packed.{viewOf}
+use Rattle.formatting.specs.RowText.{styled, rowLines, rowHeight, Sized}
+use Rattle.borders.specs.Rule.{ruleText, ruleStyleOf}
+use Rattle.formatting.specs.Stand.{textStyleOf}
+use Rattle.formatting.proofs.RowText.{lines-count}
+use Rattle.formatting.proofs.Whole.{styled-text}
+use Rattle.borders.proofs.Rule.{rule-drawn}
+use Rattle.display_info.specs.Opened.{widthsIn, stylesOf, RowsAt, Opened}
+use Rattle.parts.specs.Ahead.{ruleLines, textLines, firstRuled, headerLinesOf, rowLinesOf, bodyLines, partBy, partLines, restBy, restLines}
+use Rattle.parts.specs.Ahead.{ahead, linesOf, isEnd, firstCursor, At, Next, AfterRow}
+use Rattle.parts.specs.Lengths.{LengthsAre, SizeIs}
+use Rattle.parts.specs.Band.{bandLines, bandCount, bodyStyle, SizedBand}
+use Rattle.display_info.specs.declared.RowStyle.{RowStyle}
+use Rattle.display_info.specs.declared.Page.{Page}
+use Rattle.parts.specs.declared.cursor.Cursor.{Cursor}
+use Rattle.parts.specs.declared.cursor.Stage.{Stage}
+use Rattle.parts.specs.declared.cursor.Stage.the-variants.{Top, Header, Body, Bottom, End}
+use Rattle.parts.specs.declared.lengths.Lengths.{Lengths}
+
+-- ---- rows
+
+-- the rows after the first are within the sheet and the limits too
+pub rows-next : (s : List ℕ) (c n : Rows) → RowsAt s c → RowsNext s c n → RowsAt s n
+rows-next s c n A N = record { ends = omega (arith, N .ends, A .ends); sound = rw (N .rows) (all-drop _ 1 (rowsIn s c) (A .sound)) }
+
+-- a first row keeps the limits
+pub row-height-few : (s : List ℕ) (c : Rows) → RowsAt s c → 0 < c .left → rowHeight s (firstRow s c) ≤ 6448
+row-height-few s c A h = go (rowsIn s c) (rows-number s c) (A .sound)
+  where
+    go : (rs : List Row) → length rs ≡ c .left → All (RowLimits (length (tableOf s .columns))) rs → rowHeight s (getD rs 0 noRow) ≤ 6448
+    go [] e a = absurd (omega arith)
+    go (r ∷ rs) e a = height-bound (tableOf s) (widthsIn s) r (a .0 .each)
+
+-- the first row, and those after it
+pub first-then : (text : Row → List (List ℕ)) (rule : List (List ℕ)) (rs : List Row) → ruledRows text rule rs ≡ firstRuled text rule rs ++ ruledRows
+    text rule (drop 1 rs)
+unfolding ruledRows ruledMore firstRuled
+first-then text rule [] = refl
+first-then text rule (r ∷ []) = refl
+first-then text rule (r ∷ q ∷ rs) = sym (append-assoc (text r) rule (text q ++ ruledMore text rule rs))
+
+-- ---- cursors
+
+-- a cursor before a part's first line
+pub ahead-start : (s : List ℕ) (p : Page) (c : Cursor) → c .line ≡ 0 → ahead s p c ≡ partLines s p c ++ restLines s p c
+unfolding ahead
+ahead-start s p c e = rw e
+
+at-start : (s : List ℕ) (p : Page) (c : Cursor) → RowsAt s (c .here) → c .line ≡ 0 → At s p c
+at-start s p c A e = record { rows = A; within = omega arith }
+
+pub first-at : (s : List ℕ) (cols : List (List ℕ)) (p : Page) → Opened s cols p → At s p (firstCursor p)
+first-at s cols p O = at-start s p (firstCursor p) (O .rows-at) refl
+
+pub first-ahead : (s : List ℕ) (cols : List (List ℕ)) (p : Page) → Opened s cols p → ahead s p (firstCursor p) ≡ linesOf s p
+unfolding ahead partLines restLines linesOf framed ruleLines headerLinesOf rowLinesOf
+first-ahead s cols p O = rw (O .header)
+
+-- the rows from their first part on
+body-ahead : (s : List ℕ) (p : Page) (here : Rows)
+    → ahead s p (record { stage = Body; here = here; line = 0 }) ≡ rowLinesOf s (rowsIn s here) ++ ruleLines s true bottomBorder
+unfolding ahead partLines restLines rowLinesOf bodyLines
+body-ahead s p here =
+    let text = textLines s contentLines in
+    let rule = ruleLines s false rowRule in
+    sym (ap (λ ls. ls ++ ruleLines s true bottomBorder) (first-then (textLines s contentLines) (ruleLines s false rowRule) (rowsIn s here))
+    ∙ append-assoc (firstRuled (textLines s contentLines) (ruleLines s false rowRule) (rowsIn s here))
+    (ruledRows (textLines s contentLines) (ruleLines s false rowRule) (drop 1 (rowsIn s here))) (ruleLines s true bottomBorder))
+
+last-ahead : (s : List ℕ) (p : Page) (here : Rows) → ahead s p (record { stage = Bottom; here = here; line = 0 }) ≡ ruleLines s true bottomBorder
+unfolding ahead partLines restLines
+last-ahead s p here = append-nil (ruleLines s true bottomBorder)
+
+none-after : (rs : List Row) → length rs ≤ 1 → drop 1 rs ≡ []
+none-after [] h = refl
+none-after (r ∷ []) h = refl
+none-after (r ∷ q ∷ rs) h = absurd (omega arith)
+
+no-rows : (s : List ℕ) → rowLinesOf s [] ≡ []
+unfolding rowLinesOf ruledRows
+no-rows s = refl
+
+pub after-last : (s : List ℕ) (here : Rows) → RowsAt s here → here .left ≤ 1 → AfterRow s here (record { stage = Bottom; here = here; line = 0 })
+after-last s here A h = record {
+  lines = λ p. last-ahead s p here ∙ sym (rw (none-after (rowsIn s here) (omega (arith, rows-number s here)), no-rows s));
+  at = A;
+  start = refl;
+  fewer = omega arith;
+}
+
+pub after-more : (s : List ℕ) (here n : Rows) → RowsAt s here → RowsNext s here n → AfterRow s here (record { stage = Body; here = n; line = 0 })
+after-more s here n A N = record {
+  lines = λ p. body-ahead s p n ∙ rw (N .rows);
+  at = rows-next s here n A N;
+  start = refl;
+  fewer = omega (arith, N .left);
+}
+
+module _ (s : List ℕ) (p : Page) (c : Cursor) (A : RowsAt s (c .here)) where
+  pub next-top : c .stage ≡ Top → Next s p c (record { stage = Header; here = c .here; line = 0 })
+  unfolding ahead partLines restLines
+  next-top e = record { lines = rw e; at = at-start s p _ A refl; start = refl; fewer = λ _. rw e (omega arith) }
+
+  pub next-header : c .stage ≡ Header → Next s p c (record { stage = Body; here = c .here; line = 0 })
+  unfolding restLines
+  next-header e = record { lines = body-ahead s p (c .here) ∙ rw e; at = at-start s p _ A refl; start = refl; fewer = λ _. rw e (omega arith) }
+
+  pub next-body : (r : Cursor) → c .stage ≡ Body → AfterRow s (c .here) r → Next s p c r
+  unfolding restLines
+  next-body r e N = record { lines = N .lines p ∙ rw e; at = at-start s p r (N .at) (N .start); start = N .start; fewer = λ _. rw e (N .fewer) }
+
+  pub next-bottom : c .stage ≡ Bottom → Next s p c (record { stage = End; here = c .here; line = 0 })
+  unfolding ahead partLines restLines
+  next-bottom e = record { lines = rw e; at = at-start s p _ A refl; start = refl; fewer = λ _. rw e (omega arith) }
+
+  pub next-end : c .stage ≡ End → Next s p c (record { stage = End; here = c .here; line = 0 })
+  unfolding ahead partLines restLines
+  next-end e = record {
+    lines = rw e;
+    at = at-start s p _ A refl;
+    start = refl;
+    fewer = λ f. let g = sym (ap isEnd e) ∙ f in
+        let z : _≡_ {A = ℕ} 0 1 = cc in absurd (omega arith);
+  }
+
+-- at the end no line is left
+pub end-ahead : (s : List ℕ) (p : Page) (c : Cursor) → isEnd (c .stage) ≡ true → ahead s p c ≡ []
+unfolding ahead partLines restLines
+end-ahead s p c e = go (c .stage) e
+  where
+    none : (n : ℕ) → drop {A = List ℕ} n [] ≡ []
+    none zero = refl
+    none (suc n) = refl
+
+    go : (g : Stage) → isEnd g ≡ true → drop (c .line) (partBy s p (c .here) g) ++ restBy s p (c .here) g ≡ []
+    go Top f = cc
+    go Header f = cc
+    go Body f = cc
+    go Bottom f = cc
+    go End f = rw (none (c .line))
+
+pub border-few : (s : List ℕ) (k : ℕ) → length (ruleLines s true k) ≤ 1
+unfolding ruleLines shown
+border-few s k = go (isVisible (tableOf s .style) k)
+  where
+    go : (b : Bool) → length {A = List ℕ} (elim b as (λ x. List (List ℕ))
+        [ true ↦ ruled (tableOf s .style) true k (visibleWidths (tableOf s) (widthsIn s)) ∷ [] | false ↦ [] ]) ≤ 1
+    go true = omega arith
+    go false = omega arith
+
+-- ---- styles
+
+same-map : {A B : Type 0} (f g : A → B) → ((x : A) → f x ≡ g x) → (xs : List A) → map f xs ≡ map g xs
+same-map f g h [] = refl
+same-map f g h (x ∷ xs) = let a = h x in let b = same-map f g h xs in cc
+
+text-styled : (s : List ℕ) (k : ℕ) (r : Row) → rowLines s (textStyleOf (tableOf s .style) k) r ≡ textLines s k r
+unfolding rowLines rowText
+text-styled s k r = same-map (styled (textStyleOf (tableOf s .style) k)) (textLine (tableOf s .style) k) (styled-text (tableOf s .style) k)
+    (areas (tableOf s) (widthsIn s) r)
+
+module _ (s : List ℕ) (cols : List (List ℕ)) (p : Page) (O : Opened s cols p) where
+  border-styled : (k : ℕ) → cond (isVisible (tableOf s .style) k) (ruleText (viewOf cols (p .count)) (ruleStyleOf (tableOf s .style) true k) ∷ []) []
+      ≡ ruleLines s true k
+  unfolding ruleLines shown
+  border-styled k = go (isVisible (tableOf s .style) k)
+    where
+      go : (b : Bool) → cond b (ruleText (viewOf cols (p .count)) (ruleStyleOf (tableOf s .style) true k) ∷ []) []
+          ≡ elim b as (λ x. List (List ℕ)) [ true ↦ ruled (tableOf s .style) true k (visibleWidths (tableOf s) (widthsIn s)) ∷ [] | false ↦ [] ]
+      go true = ap (λ l. l ∷ []) (rule-drawn (tableOf s) (widthsIn s) (viewOf cols (p .count)) (O .views) (tableOf s .style) true k)
+      go false = refl
+
+  rule-styled : (k : ℕ) → cond (isVisible (tableOf s .style) k) (ruleText (viewOf cols (p .count))
+      (ruleStyleOf (tableOf s .style) (anyJunction (tableOf s .style)) k) ∷ []) [] ≡ ruleLines s false k
+  unfolding ruleLines shown
+  rule-styled k = go (isVisible (tableOf s .style) k)
+    where
+      go : (b : Bool) → cond b (ruleText (viewOf cols (p .count)) (ruleStyleOf (tableOf s .style) (anyJunction (tableOf s .style)) k) ∷ []) []
+          ≡ elim b as (λ x. List (List ℕ)) [ true ↦ ruled (tableOf s .style) false k (visibleWidths (tableOf s) (widthsIn s)) ∷ [] | false ↦ [] ]
+      go true = ap (λ l. l ∷ []) (rule-drawn (tableOf s) (widthsIn s) (viewOf cols (p .count)) (O .views) (tableOf s .style) false k)
+      go false = refl
+
+  -- the top border and the bottom border
+  pub top-drawn : cond (p .styles .«has_top») (ruleText (viewOf cols (p .count)) (p .styles .top) ∷ []) [] ≡ ruleLines s true topBorder
+  unfolding stylesOf
+  top-drawn = rw (O .styles) (border-styled topBorder)
+
+  pub bottom-drawn : cond (p .styles .«has_bottom») (ruleText (viewOf cols (p .count)) (p .styles .bottom) ∷ []) [] ≡ ruleLines s true bottomBorder
+  unfolding stylesOf
+  bottom-drawn = rw (O .styles) (border-styled bottomBorder)
+
+  -- the header with its rule
+  pub header-drawn : bandLines s (viewOf cols (p .count)) (p .styles .header) (rowsIn s (p .header)) ≡ headerLinesOf s (rowsIn s (p .header))
+  unfolding stylesOf bandLines headerLinesOf headed
+  header-drawn = rw (O .styles) (go (rowsIn s (p .header)) (omega (arith, rows-number s (p .header), O .header-one)))
+    where
+      go : (rs : List Row) → length rs ≤ 1 → bandLines s (viewOf cols (p .count)) (stylesOf (tableOf s .style) .header) rs ≡ headerLinesOf s rs
+      go [] h = refl
+      go (r ∷ []) h = rw (text-styled s headerLines r, rule-styled headerRule, append-nil)
+      go (r ∷ q ∷ rs) h = absurd (omega arith)
+
+  -- a row with the rule after it
+  pub body-drawn : (here : Rows) (y : RowStyle) → y ≡ bodyStyle (p .styles .body) (here .left) → bandLines s (viewOf cols (p .count)) y
+      (rowsIn s here) ≡ bodyLines s (rowsIn s here)
+  unfolding stylesOf bandLines bodyLines firstRuled
+  body-drawn here y e =
+      rw (e, O .styles) (ap (λ n. bandLines s (viewOf cols (p .count)) (bodyStyle (stylesOf (tableOf s .style) .body) n) (rowsIn s here))
+      (sym (rows-number s here)) ∙ go (rowsIn s here))
+    where
+      out : (b : Bool) (x : List (List ℕ)) → cond (b && false) x [] ≡ []
+      out true x = refl
+      out false x = refl
+
+      kept : (b : Bool) → (b && true) ≡ b
+      kept true = refl
+      kept false = refl
+
+      go : (rs : List Row) → bandLines s (viewOf cols (p .count)) (bodyStyle (stylesOf (tableOf s .style) .body) (length rs)) rs ≡ bodyLines s rs
+      go [] = refl
+      go (r ∷ []) = rw (text-styled s contentLines r, le-ltb 1 1 (omega arith), out, append-nil)
+      go (r ∷ q ∷ rs) = rw (text-styled s contentLines r, lt-ltb 1 (suc (suc (length rs))) (omega arith), kept, rule-styled rowRule)
+
+  -- ---- counts
+
+  rule-count : (k : ℕ) (always : Bool) → cond (isVisible (tableOf s .style) k) 1 0 ≡ length (ruleLines s always k)
+  unfolding ruleLines shown
+  rule-count k always = go (isVisible (tableOf s .style) k)
+    where
+      go : (b : Bool) → cond b 1 0 ≡ length {A = List ℕ} (elim b as (λ x. List (List ℕ))
+          [ true ↦ ruled (tableOf s .style) always k (visibleWidths (tableOf s) (widthsIn s)) ∷ [] | false ↦ [] ])
+      go true = refl
+      go false = refl
+
+  module _ (c : Cursor) (n : ℕ) where
+    pub top-count : c .stage ≡ Top → n ≡ cond (p .styles .«has_top») 1 0 → n ≡ length (partLines s p c)
+    unfolding partLines stylesOf
+    top-count e f = f ∙ rw (e, O .styles) (rule-count topBorder true)
+
+    pub bottom-count : c .stage ≡ Bottom → n ≡ cond (p .styles .«has_bottom») 1 0 → n ≡ length (partLines s p c)
+    unfolding partLines stylesOf
+    bottom-count e f = f ∙ rw (e, O .styles) (rule-count bottomBorder true)
+
+    pub end-count : c .stage ≡ End → n ≡ 0 → n ≡ length (partLines s p c)
+    unfolding partLines
+    end-count e f = f ∙ rw e
+
+  band-count : (y : RowStyle) (rs : List Row) → bandCount s (y .ruled) rs ≡ length (bandLines s (viewOf cols (p .count)) y rs)
+  unfolding bandCount bandLines
+  band-count y [] = refl
+  band-count y (r ∷ rs) = sym (length-append (rowLines s (y .lines) r) (cond (y .ruled) (ruleText (viewOf cols (p .count)) (y .rule) ∷ []) []) ∙ rw
+      (lines-count s (y .lines) r, one (y .ruled)))
+    where
+      one : (b : Bool) → length (cond b (ruleText (viewOf cols (p .count)) (y .rule) ∷ []) []) ≡ cond b 1 0
+      one true = refl
+      one false = refl
+
+  pub header-count : (c : Cursor) (n : ℕ) → c .stage ≡ Header → n ≡ bandCount s (p .styles .header .ruled) (rowsIn s (p .header)) → n ≡ length
+      (partLines s p c)
+  unfolding partLines
+  header-count c n e f = f ∙ band-count (p .styles .header) (rowsIn s (p .header)) ∙ rw (header-drawn, e)
+
+  pub body-count : (c : Cursor) (n : ℕ) (b : Bool) → c .stage ≡ Body → b ≡ (p .styles .body .ruled && ltb 1 (c .here .left)) → n ≡ bandCount s b
+      (rowsIn s (c .here)) → n ≡ length (partLines s p c)
+  unfolding partLines
+  body-count c n b e f g =
+      let y = bodyStyle (p .styles .body) (c .here .left) in
+      g ∙ ap (λ x. bandCount s x (rowsIn s (c .here))) f ∙ band-count (bodyStyle (p .styles .body) (c .here .left)) (rowsIn s (c .here))
+      ∙ rw (body-drawn (c .here) (bodyStyle (p .styles .body) (c .here .left)) refl, e)
+
+  -- ---- sizes
+
+  module _ (l : Lengths) (L : LengthsAre s l) where
+    text-sized : (k : ℕ) (here : Rows) → RowsAt s here → 0 < here .left → Sized s (textStyleOf (tableOf s .style) k) (firstRow s here) (l .line + 1)
+    unfolding rowText
+    text-sized k here A h = record {
+      each = λ j i.
+          let e = getD-map (textLine (tableOf s .style) k) (areas (tableOf s) (widthsIn s) (firstRow s here)) j [] []
+          (omega (arith, length-areas (tableOf s) (widthsIn s) (firstRow s here)))
+          ∙ ap (textLine (tableOf s .style) k) (line-at (tableOf s) (widthsIn s) (firstRow s here) j i) in
+          rw (text-styled s k (firstRow s here), e, text-length (tableOf s) (widthsIn s) (firstRow s here) k j, L .line);
+      few = omega (arith, row-height-few s here A h);
+    }
+
+    rule-sized : (k : ℕ) → l .line + 1 ≡ length (ruleText (viewOf cols (p .count))
+        (ruleStyleOf (tableOf s .style) (anyJunction (tableOf s .style)) k)) + 1
+    rule-sized k = rw (
+      rule-drawn (tableOf s) (widthsIn s) (viewOf cols (p .count)) (O .views) (tableOf s .style) false k,
+      rule-length (tableOf s)
+          (widthsIn s) k,
+      L .line,
+    )
+
+    pub border-sized : (k : ℕ) → l .border + 1 ≡ length (ruleText (viewOf cols (p .count)) (ruleStyleOf (tableOf s .style) true k)) + 1
+    border-sized k = rw (
+      rule-drawn (tableOf s) (widthsIn s) (viewOf cols (p .count)) (O .views) (tableOf s .style) true k,
+      border-length (tableOf s)
+          (widthsIn s) k,
+      L .border,
+    )
+
+    pub top-sized : l .border + 1 ≡ length (ruleText (viewOf cols (p .count)) (p .styles .top)) + 1
+    unfolding stylesOf
+    top-sized = rw (O .styles) (border-sized topBorder)
+
+    pub bottom-sized : l .border + 1 ≡ length (ruleText (viewOf cols (p .count)) (p .styles .bottom)) + 1
+    unfolding stylesOf
+    bottom-sized = rw (O .styles) (border-sized bottomBorder)
+
+    pub header-sized : SizedBand s (viewOf cols (p .count)) (p .styles .header) (rowsIn s (p .header)) (l .line + 1)
+    unfolding stylesOf
+    header-sized = rw (O .styles) (record {
+      text = λ h. text-sized headerLines (p .header) (O .header-at) (omega (arith, rows-number s (p .header)));
+      rule = rule-sized headerRule;
+    })
+
+    pub body-sized : (here : Rows) (y : RowStyle) → RowsAt s here → y ≡ bodyStyle (p .styles .body) (here .left) → SizedBand s
+        (viewOf cols (p .count)) y (rowsIn s here) (l .line + 1)
+    unfolding stylesOf
+    body-sized here y A e = rw (e, O .styles) (record {
+      text = λ h. text-sized contentLines here A (omega (arith, rows-number s here));
+      rule =
+          rule-sized rowRule;
+    })
+
+-- each line of a part has the part's length
+module _ (s : List ℕ) where
+  rule-lengths : (always : Bool) (k n : ℕ) → length (ruled (tableOf s .style) always k (visibleWidths (tableOf s) (widthsIn s))) ≡ n → All
+      (λ l. length l + 1 ≡ n + 1) (ruleLines s always k)
+  unfolding ruleLines shown
+  rule-lengths always k n e = go (isVisible (tableOf s .style) k)
+    where
+      go : (b : Bool) → All {A = List ℕ} (λ l. length l + 1 ≡ n + 1)
+          (elim b as (λ x. List (List ℕ)) [ true ↦ ruled (tableOf s .style) always k (visibleWidths (tableOf s) (widthsIn s)) ∷ [] | false ↦ [] ])
+      go true = (rw e, tt)
+      go false = tt
+
+  text-lengths : (k : ℕ) (r : Row) → All (λ l. length l + 1 ≡ lineLength (tableOf s) (widthsIn s) + 1) (textLines s k r)
+  unfolding rowText areas
+  text-lengths k r =
+      let t = tableOf s in
+      let n = lineLength t (widthsIn s) in
+      all-map-imp (λ x. length (textLine (t .style) k x) + 1 ≡ n + 1) (λ l. length l + 1 ≡ n + 1) (textLine (t .style) k) (λ x h. h)
+      (areas t (widthsIn s) r)
+      (all-map (λ x. length (textLine (t .style) k x) + 1 ≡ n + 1) (λ i. map (areaAt t (widthsIn s) r i) (visible t))
+      (λ i. rw (text-length t (widthsIn s) r k i)) (upFrom 0 (height t (widthsIn s) r)))
+
+  each-text : (k : ℕ) (rs : List Row) → All (λ r. All (λ l. length l + 1 ≡ lineLength (tableOf s) (widthsIn s) + 1) (textLines s k r)) rs
+  each-text k [] = tt
+  each-text k (r ∷ rs) = (text-lengths k r, each-text k rs)
+
+  first-lengths : (rs : List Row) → All (λ l. length l + 1 ≡ lineLength (tableOf s) (widthsIn s) + 1) (bodyLines s rs)
+  unfolding bodyLines firstRuled
+  first-lengths [] = tt
+  first-lengths (r ∷ []) = text-lengths contentLines r
+  first-lengths (r ∷ q ∷ rs) =
+      all-append (λ l. length l + 1 ≡ lineLength (tableOf s) (widthsIn s) + 1) (textLines s contentLines r) (ruleLines s false rowRule)
+      (text-lengths contentLines r)
+      (rule-lengths false rowRule (lineLength (tableOf s) (widthsIn s)) (rule-length (tableOf s) (widthsIn s) rowRule))
+
+  header-lengths : (rs : List Row) → All (λ l. length l + 1 ≡ lineLength (tableOf s) (widthsIn s) + 1) (headerLinesOf s rs)
+  unfolding headerLinesOf
+  header-lengths rs =
+      all-headed (λ l. length l + 1 ≡ lineLength (tableOf s) (widthsIn s) + 1) (textLines s headerLines) (ruleLines s false headerRule)
+      (rule-lengths false headerRule (lineLength (tableOf s) (widthsIn s)) (rule-length (tableOf s) (widthsIn s) headerRule)) rs
+      (each-text headerLines rs)
+
+  module _ (p : Page) (l : Lengths) (L : LengthsAre s l) (c : Cursor) where
+    pub top-size : c .stage ≡ Top → SizeIs s p c (l .border + 1)
+    unfolding partLines
+    top-size e = record {
+      each = rw (e, L .border) (rule-lengths true topBorder _ (border-length (tableOf s) (widthsIn s) topBorder));
+      small = omega
+          (arith, L .border-small);
+    }
+
+    pub bottom-size : c .stage ≡ Bottom → SizeIs s p c (l .border + 1)
+    unfolding partLines
+    bottom-size e = record {
+      each = rw (e, L .border) (rule-lengths true bottomBorder _ (border-length (tableOf s) (widthsIn s) bottomBorder));
+      small = omega (arith, L .border-small);
+    }
+
+    pub header-size : c .stage ≡ Header → SizeIs s p c (l .line + 1)
+    unfolding partLines
+    header-size e = record { each = rw (e, L .line) (header-lengths (rowsIn s (p .header))); small = omega (arith, L .line-small) }
+
+    pub body-size : c .stage ≡ Body → SizeIs s p c (l .line + 1)
+    unfolding partLines
+    body-size e = record { each = rw (e, L .line) (first-lengths (rowsIn s (c .here))); small = omega (arith, L .line-small) }
+
+    pub end-size : c .stage ≡ End → SizeIs s p c 1
+    unfolding partLines
+    end-size e = record { each = rw e tt; small = omega arith }
