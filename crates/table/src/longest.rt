@@ -28,7 +28,7 @@ pub struct LongestLines {
 }
 
 // A cell counts 1 even where all its lines are empty.
-fn of_cell(sheet: &[u8], lines: Lines) -> LongestLine
+fn longest_of_cell(sheet: &[u8], lines: Lines) -> LongestLine
     requires { ⌜ linesEnd (now sheet) lines ≤ length (now sheet) ⌝ }
     ensures { λ r. ⌜ CellWalked (now (sheet .entry)) lines r ⌝ }
 {
@@ -43,7 +43,7 @@ fn of_cell(sheet: &[u8], lines: Lines) -> LongestLine
 }
 
 // A row's cells, each in its column.
-fn of_row(sheet: &[u8], cells: Cells, before: [u16; MOST_COLUMNS]) -> LongestLines
+fn longest_of_row(sheet: &[u8], cells: Cells, before: [u16; MOST_COLUMNS]) -> LongestLines
     requires { ⌜ (cells .left ≤ mostColumns) × (cellsEnd (now sheet) cells ≤ length (now sheet)) ⌝ }
     ensures { λ r. ⌜ RowWalked (now (sheet .entry)) cells before r ⌝ }
 {
@@ -53,7 +53,7 @@ fn of_row(sheet: &[u8], cells: Cells, before: [u16; MOST_COLUMNS]) -> LongestLin
     while 0 < c.left {
         let cell = walk::cell(sheet, c);
         let lines = cell.lines;
-        let found = of_cell(sheet, lines);
+        let found = longest_of_cell(sheet, lines);
         longest[j] = numbers::greater_u16(longest[j], found.longest);
         c = Cells {
             at: found.end,
@@ -65,7 +65,7 @@ fn of_row(sheet: &[u8], cells: Cells, before: [u16; MOST_COLUMNS]) -> LongestLin
 }
 
 // Row after row, from the columns' longest so far.
-fn of_rows(sheet: &[u8], rows: Rows, before: [u16; MOST_COLUMNS]) -> LongestLines
+fn longest_of_rows(sheet: &[u8], rows: Rows, before: [u16; MOST_COLUMNS]) -> LongestLines
     requires { ⌜ Narrow (rowsIn (now sheet) rows) × (rowsEnd (now sheet) rows ≤ length (now sheet)) ⌝ }
     ensures { λ r. ⌜ RowsWalked (now (sheet .entry)) rows before r ⌝ }
 {
@@ -74,7 +74,7 @@ fn of_rows(sheet: &[u8], rows: Rows, before: [u16; MOST_COLUMNS]) -> LongestLine
     while 0 < c.left {
         let row = walk::row(sheet, c);
         let cells = row.cells;
-        let found = of_row(sheet, cells, longest);
+        let found = longest_of_row(sheet, cells, longest);
         longest = found.longest;
         c = Rows {
             at: found.end,
@@ -90,13 +90,13 @@ pub fn longest(sheet: &[u8]) -> [u16; MOST_COLUMNS]
     ensures { λ r. ⌜ r ≡ map (widths.longest (tableOf (now (sheet .entry)))) (upFrom 0 mostColumns) ⌝ }
 {
     let header = walk::header(sheet);
-    let first = of_rows(sheet, header, [0u16; MOST_COLUMNS]);
+    let first = longest_of_rows(sheet, header, [0u16; MOST_COLUMNS]);
     let behind = Rows {
         at: first.end,
         left: 0,
     };
     let rows = walk::rows(sheet, behind);
     let before = first.longest;
-    let all = of_rows(sheet, rows, before);
+    let all = longest_of_rows(sheet, rows, before);
     all.longest
 }

@@ -10,7 +10,7 @@ longest-spec =
     (tie.spec
     (λ c κs. search needs)
     (λ c κs. header-narrow _ _ (c .before .before .pre) (c .header .ensures .0) (c .header .ensures .1))
-    (λ c κs. (c .before .before .before .pre, header-behind _ _ _ _ (c .of-rows .ensures) (c .before .header .ensures .1)))
+    (λ c κs. (c .before .before .before .pre, header-behind _ _ _ _ (c .longest-of-rows .ensures) (c .before .header .ensures .1)))
     (λ c κs. rows-narrow _ _ (c .before .before .before .before .before .pre) (c .before .rows .ensures .0) (c .before .rows .ensures .1))
-    (λ c. walked-twice _ _ _ _ _ _ (search needs) (c .before .before .before .before .of-rows .ensures) (c .before .of-rows2 .ensures)
+    (λ c. walked-twice _ _ _ _ _ _ (search needs) (c .before .before .before .before .longest-of-rows .ensures) (c .before .longest-of-rows2 .ensures)
     (c .before .before .before .before .before .header .ensures .0) (c .before .before .before .rows .ensures .0)))

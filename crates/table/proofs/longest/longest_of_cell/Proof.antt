@@ -1,10 +1,10 @@
--- `table::longest::of_cell` meets its contract. The loop: the longest so far and the lines still to come make the whole. Assumes nothing.
+-- `table::longest::longest_of_cell` meets its contract. The loop: the longest so far and the lines still to come make the whole. Assumes nothing.
 use Rattle.table.proofs.Longests.{LinesSoFar, lines-begin, lines-again, lines-done}
 use Rattle.table.proofs.Walks.{line-there}
 use borrow.Author.Needs.{needs}
 use native.Mathlib.Omega.{arith}
-use Rattle.table.proofs.longest.of_cell.Statement.{statement}
-use Rattle.table.proofs.longest.of_cell.Tie as tie
+use Rattle.table.proofs.longest.longest_of_cell.Statement.{statement}
+use Rattle.table.proofs.longest.longest_of_cell.Tie as tie
 
 abbrev Inv-loop : tie.InvT-loop
 Inv-loop sheet longest₀ c₀ longest c = LinesSoFar sheet c₀ c longest
@@ -12,8 +12,8 @@ Inv-loop sheet longest₀ c₀ longest c = LinesSoFar sheet c₀ c longest
 abbrev μ-loop : tie.MeasureT-loop
 μ-loop sheet longest₀ c₀ longest c = c .left
 
-pub of-cell-spec : {M : Type 1} → statement M
-of-cell-spec =
+pub longest-of-cell-spec : {M : Type 1} → statement M
+longest-of-cell-spec =
     tie.close
     (tie.spec
     Inv-loop

@@ -1,10 +1,10 @@
--- `table::longest::of_row` meets its contract. The loop: the columns before j have their longest, the others are as they were. Assumes nothing.
+-- `table::longest::longest_of_row` meets its contract. The loop: the columns before j have their longest, the others are as they were. Assumes nothing.
 use Rattle.table.proofs.Longests.{CellsSoFar, cells-begin, cells-again, cells-done}
 use Rattle.table.proofs.Walks.{cell-whole}
 use borrow.Author.Needs.{needs}
 use native.Mathlib.Omega.{arith}
-use Rattle.table.proofs.longest.of_row.Statement.{statement}
-use Rattle.table.proofs.longest.of_row.Tie as tie
+use Rattle.table.proofs.longest.longest_of_row.Statement.{statement}
+use Rattle.table.proofs.longest.longest_of_row.Tie as tie
 
 abbrev Inv-loop : tie.InvT-loop
 Inv-loop sheet longest₀ c₀ j₀ longest c j = CellsSoFar sheet c₀ c longest₀ longest j
@@ -12,8 +12,8 @@ Inv-loop sheet longest₀ c₀ j₀ longest c j = CellsSoFar sheet c₀ c longes
 abbrev μ-loop : tie.MeasureT-loop
 μ-loop sheet longest₀ c₀ j₀ longest c j = c .left
 
-pub of-row-spec : {M : Type 1} → statement M
-of-row-spec =
+pub longest-of-row-spec : {M : Type 1} → statement M
+longest-of-row-spec =
     tie.close
     (tie.spec
     Inv-loop
@@ -36,5 +36,5 @@ of-row-spec =
     let b = c .before .before .before .before .before .before .before .loop .inv .few in omega arith)
     (λ c. search needs)
     (λ c. cells-again _ _ _ _ _ _ _ _ _ (c .before .before .before .before .before .if1 .taken) (c .before .before .before .before .cell .ensures)
-    (c .before .before .of-cell .ensures) (c .before .greater-u16 .ensures) (c .before .before .before .before .before .before .before .loop .inv))
+    (c .before .before .longest-of-cell .ensures) (c .before .greater-u16 .ensures) (c .before .before .before .before .before .before .before .loop .inv))
     (λ c. cells-done _ _ _ _ _ _ (c .if1 .left) (c .before .before .loop .inv)))
