@@ -3,7 +3,8 @@ use Prim.Native.Nat.{ℕ, _<_}
 use mathlib.Core.Path.{_≡_}
 use mathlib.Core.Logic.{_↔_}
 use mathlib.Core.List.{List}
-use lib.ListN.{length}
+use lib.ListN.{length, getD}
+use Rattle.rules.specs.Text.{charactersIn}
 use Rattle.rules.specs.Sheet.{Table, allRows}
 use Rattle.rules.specs.Widths.{visible}
 use Rattle.rules.specs.Words.{Readable, Accepted, wrote, Answered, widthsOf, linesOf, areaOf, Uncut, characters, letters}
@@ -25,7 +26,8 @@ pub record Agree (t u : Table) : Type 0 where
   pub widths : widthsOf t ≡ widthsOf u
   pub rows : length (allRows t) ≡ length (allRows u)
   pub lines : (i : ℕ) → i < length (allRows t) → linesOf t i ≡ linesOf u i
-  pub areas : (i k c : ℕ) → i < length (allRows t) → k < linesOf t i → c < length (visible t) → areaOf t i k c ≡ areaOf u i k c
+  pub areas : (i k c : ℕ) → i < length (allRows t) → k < linesOf t i → c < length (visible t)
+      → charactersIn (areaOf t i k c) ≡ charactersIn (areaOf u i k c)
 
 -- "the two sheets' cells at any one place, if both are uncut, hold the same characters in the same order, once spaces and both cells' delimiters are left out"
 abbrev pub SameText : Table → Table → Type 0
@@ -35,5 +37,8 @@ SameText t u =
 
 -- two sheets s and v and two buffers b and d, whatever their room: pages are equal, byte for byte, exactly when the sheets agree, and then their cells hold the same text
 pub record Demand3 : Type 0 where
+  -- an area holds as many characters as its column's visible width
+  pub filled : (s : List ℕ) (t : Table) → Accepted s t → (i k c : ℕ) → i < length (allRows t) → k < linesOf t i → c < length (visible t)
+      → length (charactersIn (areaOf t i k c)) ≡ getD (widthsOf t) c 0
   pub pages : (s v : List ℕ) (t u : Table) → Comparable s v t u → (b d : List ℕ) → Answered s b → Answered v d → (wrote s b ≡ wrote v d) ↔ Agree t u
   pub texts : (s v : List ℕ) (t u : Table) → Comparable s v t u → (b d : List ℕ) → Answered s b → Answered v d → wrote s b ≡ wrote v d → SameText t u

@@ -1,11 +1,12 @@
 -- One description of fields in a row. Its readings: `reads`, a value or a refusal; `stands`, what is where, untested; `after` (Steps). Assumes nothing.
-use Prim.Native.Nat.{ℕ, zero, suc, _+_}
+use Prim.Native.Nat.{ℕ, zero, suc, _+_, _*_}
 use mathlib.Core.Path.{_≡_}
 use mathlib.Core.List.{List, [], _∷_}
-use mathlib.Core.Bool.{Bool}
+use mathlib.Core.Bool.{Bool, true, false}
 use lib.ListN.{take, drop}
+use lib.Dec.{eqb}
 use Rattle.rules.specs.Field as field
-use Rattle.rules.specs.Field.{Reader, got, onward, byteAt, wordAt, between, printableOrZero, several}
+use Rattle.rules.specs.Field.{Reader, got, onward, byteAt, wordAt, between, printable, printableOrZero, several}
 
 -- why a field's value is refused
 pub data Fault : Type 0 where
@@ -32,6 +33,8 @@ pub data Format : Type 0 → Type 1 where
   zeroWord : Format ℕ
   -- a text: its length from a lowest to a highest, and as many characters that pass the test
   text : ℕ → ℕ → (ℕ → Bool) → Format (List ℕ)
+  -- a cell's text: its length in bytes, from a lowest to a highest, and as many bytes of printable characters and pairs
+  cellText : ℕ → ℕ → Format (List ℕ)
   -- a count, and as many items
   listed : {A : Type 0} → Format ℕ → Format A → Format (List A)
   -- nothing more: the value is made of its parts
@@ -65,6 +68,20 @@ textLength low high = field.only (between low high) (numberOf beyondLimits) fiel
 abbrev pub character : (ℕ → Bool) → Reader ℕ
 character good = field.only good (numberOf badCharacter) field.byte
 
+-- "a pair is one field": a number of two bytes, the degree sign's C2 and B0
+abbrev pub degree : Reader ℕ
+degree = field.only (eqb (194 + 176 * 256)) (numberOf badCharacter) field.word
+
+-- n bytes of a cell's text, character by character: C2 begins a pair, unless it is the last byte, where no B0 can follow in the line
+unfoldable pub characters : ℕ → Reader (List ℕ)
+characters zero s p = got [] p
+characters (suc zero) s p = onward (character printable s p) (λ b q. got (b ∷ []) q)
+characters (suc (suc n)) s p =
+    elim (eqb (byteAt s p) 194) [
+      | true ↦ onward (degree s p) (λ v q. onward (characters n s q) (λ l r. got (194 ∷ 176 ∷ l) r))
+      | false ↦ onward (character printable s p) (λ b q. onward (characters (suc n) s q) (λ l r. got (b ∷ l) r))
+    ]
+
 -- the reader
 unfoldable pub reads : {A : Type 0} → Format A → Reader A
 reads byte = field.byte
@@ -72,6 +89,7 @@ reads word = field.word
 reads (only good fault x) = field.only good (numberOf fault) (reads x)
 reads zeroWord = field.zeroWord
 reads (text low high good) = λ s p. onward (textLength low high s p) (λ n q. several n (character good) s q)
+reads (cellText low high) = λ s p. onward (textLength low high s p) (λ n q. characters n s q)
 reads (listed count x) = λ s p. onward (reads count s p) (λ n q. several n (reads x) s q)
 reads (give a) = λ s p. got a p
 reads (next of x g) = λ s p. onward (reads x s p) (λ a q. reads (g a) s q)
@@ -86,7 +104,7 @@ unfoldable pub parts : {A : Type 0} → ℕ → (ℕ → A) → (ℕ → ℕ) �
 parts zero here stop p = []
 parts (suc n) here stop p = here p ∷ parts n here stop (stop p)
 
--- a text: its length, its characters
+-- a text: its length in bytes, its bytes
 unfoldable pub textAt : List ℕ → ℕ → List ℕ
 textAt s p = take (byteAt s p) (drop (p + 1) s)
 
@@ -104,6 +122,7 @@ stands word s p = record { value = wordAt s p; end = p + 2 }
 stands (only good fault x) s p = stands x s p
 stands zeroWord s p = record { value = wordAt s p; end = p + 2 }
 stands (text low high good) s p = record { value = textAt s p; end = lineStop s p }
+stands (cellText low high) s p = record { value = textAt s p; end = lineStop s p }
 stands (listed count x) s p =
     let n = stands count s p in
     record { value = parts (n .value) (λ q. stands x s q .value) (λ q. stands x s q .end) (n .end); end = past (n .value) (λ q. stands x s q .end) (n .end) }
@@ -124,6 +143,7 @@ partAt (suc k) word s p = p
 partAt (suc k) (only good fault x) s p = p
 partAt (suc k) zeroWord s p = p
 partAt (suc k) (text low high good) s p = p
+partAt (suc k) (cellText low high) s p = p
 partAt (suc k) (listed count x) s p = p
 partAt (suc k) (give a) s p = p
 partAt (suc k) (next of x g) s p = let a = stands x s p in partAt k (g (a .value)) s (a .end)
@@ -135,6 +155,7 @@ Faithful word P = (v : ℕ) → P v
 Faithful (only good fault x) P = Faithful x P
 Faithful zeroWord P = (v : ℕ) → P v
 Faithful (text low high good) P = (l : List ℕ) → P l
+Faithful (cellText low high) P = (l : List ℕ) → P l
 Faithful (listed {A} count x) P = Faithful count (λ n. Unit {0}) × (Faithful x (λ a. Unit {0}) × ((as′ : List A) → P as′))
 Faithful (give a) P = P a
 Faithful (next {A = A} of x g) P = Faithful x (λ a. Unit {0}) × ((a : A) → Faithful (g a) (λ u. (of u ≡ a) × P u))

@@ -8,12 +8,14 @@ use lib.ListN.{length, replicate}
 use Rattle.rules.specs.Opened.{rules}
 use Rattle.rules.specs.Quote.{ascii}
 use Rattle.rules.specs.Sheet.{Column, Row, Table, noWidth, noColumn}
-use Rattle.rules.specs.Field.{got}
-use Rattle.rules.specs.Format.{sheet}
+use Rattle.rules.specs.Text.{textWidth, flat}
+use Rattle.rules.specs.Field.{Read, got, refused, printable}
+use Rattle.rules.specs.Description.{text, reads}
+use Rattle.rules.specs.Format.{line, sheet}
 use Rattle.rules.specs.Wrap.{place, wrapLine, cutLine}
 use Rattle.rules.specs.Widths.{borders, widthOf, first, splitAtAverage, share, contents}
 use Rattle.rules.specs.Style.{rowRule}
-use Rattle.rules.specs.Page.{area, ruled}
+use Rattle.rules.specs.Page.{area, ruled, page}
 use Rattle.rules.specs.Words.{Readable, widthsOf, linesOf, areaOf, characters, letters}
 use Rattle.rules.specs.Calls.{count, printPage, printLine, notPrinted}
 
@@ -148,6 +150,60 @@ pub record Guards : Type 0 where
   pub long-piece : wrapLine 72 32 (ascii "a " ++ (replicate 66 98 ++ ascii " ccccc")) ≡ (ascii "a " ++ replicate 66 98) ∷ ascii "ccccc" ∷ []
   pub one-fill : Readable (ascii "+-++|||+-++|||+-+++-++") → ⊥
 
+-- "Managers type 21.5°C": seven bytes, six characters; its first five; the degree sign
+abbrev pub sign : List ℕ
+sign = 194 ∷ 176 ∷ []
+
+abbrev pub setpoint : List ℕ
+setpoint = ascii "21.5" ++ (sign ++ ascii "C")
+
+abbrev pub setpointSign : List ℕ
+setpointSign = ascii "21.5" ++ sign
+
+-- a line of this length byte and these bytes, read from place 0, and after it the first places of other lines or nothing
+abbrev pub lineRead : ℕ → List ℕ → Read (List ℕ)
+lineRead n l = reads line (n ∷ l) 0
+
+-- measured, wrapped and cut at 1 to 6 columns, aligned, printed, read back
+pub record Degrees : Type 0 where
+  pub width : textWidth setpoint ≡ 6
+  pub bytes : length setpoint ≡ 7
+  pub wrapped-6 : wrapLine 6 32 setpoint ≡ setpoint ∷ []
+  pub wrapped-5 : wrapLine 5 32 setpoint ≡ setpointSign ∷ ascii "C" ∷ []
+  pub wrapped-4 : wrapLine 4 32 setpoint ≡ ascii "21.5" ∷ (sign ++ ascii "C") ∷ []
+  pub wrapped-3 : wrapLine 3 32 setpoint ≡ ascii "21." ∷ (ascii "5" ++ (sign ++ ascii "C")) ∷ []
+  pub wrapped-2 : wrapLine 2 32 setpoint ≡ ascii "21" ∷ ascii ".5" ∷ (sign ++ ascii "C") ∷ []
+  pub wrapped-1 : wrapLine 1 32 setpoint ≡ ascii "2" ∷ ascii "1" ∷ ascii "." ∷ ascii "5" ∷ sign ∷ ascii "C" ∷ []
+  pub wrapped-words : wrapLine 7 32 (setpoint ++ ascii " " ++ setpoint) ≡ setpoint ∷ setpoint ∷ []
+  pub cut-6 : cutLine 6 (ascii ".") setpoint ≡ setpointSign ++ ascii "."
+  pub cut-5 : cutLine 5 (ascii ".") setpoint ≡ ascii "21.5."
+  pub cut-4 : cutLine 4 (ascii ".") setpoint ≡ ascii "21.."
+  pub cut-3 : cutLine 3 (ascii ".") setpoint ≡ ascii "21."
+  pub cut-2 : cutLine 2 (ascii ".") setpoint ≡ ascii "2."
+  pub cut-1 : cutLine 1 (ascii ".") setpoint ≡ ascii "."
+  pub unmarked-5 : cutLine 5 (ascii "......") setpoint ≡ setpointSign
+  pub right : area noColumn 8 2 setpoint ≡ ascii "  " ++ setpoint
+  pub centred : area noColumn 9 3 setpoint ≡ ascii "  " ++ (setpoint ++ ascii " ")
+  pub content : contents (single 0 0 noColumn setpoint) ≡ 6 ∷ []
+  pub hundred : contents (single 0 0 noColumn (flat (replicate 100 sign))) ≡ 100 ∷ []
+  pub printed : page (single 0 0 (held 1 0 0) setpoint) ≡ ascii " " ++ (setpoint ++ ascii " \n")
+  pub text : characters (single 0 0 noColumn setpoint) 0 0 ≡ ascii "21.5" ++ (194 ∷ ascii "C")
+  pub letters-left : letters (single 0 0 noColumn setpoint) (single 0 0 noColumn setpoint) 0 0 (ascii "2 " ++ (194 ∷ ascii " C")) ≡ ascii "2" ++ (194 ∷ ascii "C")
+
+-- what a line with C2 or B0 in it is read as, or refused for: the length byte stands at place 0
+pub record Pairs : Type 0 where
+  pub whole : lineRead 7 setpoint ≡ got setpoint 8
+  pub ends-in-pair : lineRead 3 (97 ∷ 194 ∷ []) ≡ refused 1 3
+  pub ends-at-first : lineRead 2 (194 ∷ []) ≡ refused 1 2
+  pub last-byte : lineRead 2 (97 ∷ 194 ∷ []) ≡ refused 6 2
+  pub last-alone : lineRead 1 (194 ∷ []) ≡ refused 6 1
+  pub next-length : lineRead 1 (194 ∷ 176 ∷ []) ≡ refused 6 1
+  pub other-byte : lineRead 2 (194 ∷ 32 ∷ []) ≡ refused 6 1
+  pub second-alone : lineRead 2 (97 ∷ 176 ∷ []) ≡ refused 6 2
+  pub two-firsts : lineRead 3 (194 ∷ 194 ∷ 176 ∷ []) ≡ refused 6 1
+  pub two-seconds : lineRead 3 (194 ∷ 176 ∷ 176 ∷ []) ≡ refused 6 3
+  pub indicator : reads (text 0 8 printable) (2 ∷ 194 ∷ 176 ∷ []) 0 ≡ refused 6 1
+
 pub examples : Examples
 unfolding rules
 examples = record {
@@ -196,4 +252,48 @@ house-words = record {
   blank-area = refl;
   text = refl;
   letters-left = refl;
+}
+
+pub degrees : Degrees
+unfolding rules
+degrees = record {
+  width = refl;
+  bytes = refl;
+  wrapped-6 = refl;
+  wrapped-5 = refl;
+  wrapped-4 = refl;
+  wrapped-3 = refl;
+  wrapped-2 = refl;
+  wrapped-1 = refl;
+  wrapped-words = refl;
+  cut-6 = refl;
+  cut-5 = refl;
+  cut-4 = refl;
+  cut-3 = refl;
+  cut-2 = refl;
+  cut-1 = refl;
+  unmarked-5 = refl;
+  right = refl;
+  centred = refl;
+  content = refl;
+  hundred = refl;
+  printed = refl;
+  text = refl;
+  letters-left = refl;
+}
+
+pub pairs : Pairs
+unfolding rules
+pairs = record {
+  whole = refl;
+  ends-in-pair = refl;
+  ends-at-first = refl;
+  last-byte = refl;
+  last-alone = refl;
+  next-length = refl;
+  other-byte = refl;
+  second-alone = refl;
+  two-firsts = refl;
+  two-seconds = refl;
+  indicator = refl;
 }

@@ -2,17 +2,21 @@
 use Prim.Native.Nat.{ℕ, _*_, _≤_}
 use mathlib.Core.Path.{_≡_}
 use mathlib.Core.Logic.{_⊎_}
-use mathlib.Core.List.{List}
+use mathlib.Core.List.{List, [], _∷_}
 use mathlib.Core.Bool.{Bool, false}
 use lib.ListN.{length}
 use lib.Dec.{leb, eqb}
-use Rattle.rules.specs.Text.{All}
-use Rattle.rules.specs.Sheet.{Width, Column, Cell, Row, Table, mostColumns}
+use Rattle.rules.specs.Text.{textWidth, All}
+use Rattle.rules.specs.Sheet.{Width, Column, Cell, Row, Table, mostColumns, allRows}
 use Rattle.rules.specs.Style.{styleCharacters}
 
--- no line of a page is longer, its 0A left aside: a column takes content of at most 801, paddings of 20 and 20, and a junction
+-- no line of a page has more columns: a column takes content of at most 801, paddings of 20 and 20, and a junction
+abbrev pub widestLine : ℕ
+widestLine = mostColumns * 850
+
+-- nor more bytes, its 0A left aside: of a cell's line, at most 200 bytes, no more than 100 are the second ones of pairs
 abbrev pub longestLine : ℕ
-longestLine = mostColumns * 850
+longestLine = mostColumns * 950
 
 -- no page has more lines, by far: a row has at most 8 lines of 200 characters a cell
 abbrev pub mostLines : ℕ
@@ -21,6 +25,12 @@ mostLines = 1000000
 -- printable ASCII, 20 to 7E hexadecimal
 abbrev pub Printable : ℕ → Type 0
 Printable c = (32 ≤ c) × (c ≤ 126)
+
+-- a cell's text: printable characters and pairs
+pub data IsText : List ℕ → Type 0 where
+  nothing : IsText []
+  plain : (b : ℕ) (l : List ℕ) → Printable b → IsText l → IsText (b ∷ l)
+  degree : (l : List ℕ) → IsText l → IsText (194 ∷ 176 ∷ l)
 
 -- unset, or printable
 abbrev pub Optional : ℕ → Type 0
@@ -44,7 +54,7 @@ pub record ColumnLimits (c : Column) : Type 0 where
 
 pub record LineLimits (l : List ℕ) : Type 0 where
   pub length : length l ≤ 200
-  pub characters : All Printable l
+  pub characters : IsText l
 
 pub record CellLimits (x : Cell) : Type 0 where
   pub delimiter : Optional (x .delimiter)
@@ -73,3 +83,16 @@ pub record TableLimits (t : Table) : Type 0 where
   pub header-row : All (RowLimits (length (t .columns))) (t .header)
   pub rows : length (t .rows) ≤ 100
   pub each-row : All (RowLimits (length (t .columns))) (t .rows)
+
+-- a text without a pair has as many columns as bytes; and a table all of whose cell lines are such texts
+abbrev pub Plain : List ℕ → Type 0
+Plain l = textWidth l ≡ length l
+
+abbrev pub PlainCell : Cell → Type 0
+PlainCell x = All Plain (x .lines)
+
+abbrev pub PlainRow : Row → Type 0
+PlainRow r = All PlainCell (r .cells)
+
+abbrev pub PlainTable : Table → Type 0
+PlainTable t = All PlainRow (allRows t)

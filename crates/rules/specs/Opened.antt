@@ -1,8 +1,8 @@
 -- Every definition by which a page is computed, behind one name: what is shown by computing unfolds it. Assumes nothing.
-use Rattle.rules.specs.Text.{greatest, sum, upFrom, keep, flat, textWidth, firstOf, restOf}
+use Rattle.rules.specs.Text.{greatest, sum, upFrom, keep, flat, charactersIn, textWidth, bytesOf, firstOf, restOf}
 use Rattle.rules.specs.Field.{onward, byte, word, only, zeroWord, several, ended}
-use Rattle.rules.specs.Description.{reads}
-use Rattle.rules.specs.Format.{width, column, line, cell, row, table, sheet}
+use Rattle.rules.specs.Description.{characters, reads}
+use Rattle.rules.specs.Format.{width, column, line, cellOf, rowOf, tableOf, sheetOf}
 use Rattle.rules.specs.Style.{bordersOf}
 use Rattle.rules.specs.Wrap.{onto, pieces, glue, room, tight, full, act, last, place, weight, split, wrapLine, wrapLines, exceeds, shownIndicator, cutLine, cut}
 use Rattle.rules.specs.Widths.{cellsOf, cellLongest, longest, numbers, visible, borders, percentOf, widthOf, valueOf, lowerWidth, upperWidth}
@@ -14,11 +14,11 @@ use Rattle.rules.specs.Page.{shown, headed, ruledMore, ruledRows, rowTex
 use Rattle.rules.specs.Calls.{countOf, count, put, printOf, printPage, printLineOf, printLine}
 
 unfoldable texts : Unit {0}
-unfolding greatest sum upFrom keep flat textWidth firstOf restOf
+unfolding greatest sum upFrom keep flat charactersIn textWidth bytesOf firstOf restOf
 texts = tt
 
 unfoldable reading : Unit {0}
-unfolding onward byte word only zeroWord several reads ended width column line cell row table sheet
+unfolding onward byte word only zeroWord several characters reads ended width column line cellOf rowOf tableOf sheetOf
 reading = tt
 
 unfoldable wrapping : Unit {0}

@@ -2,7 +2,7 @@
 use Prim.Native.Nat.{ℕ, zero, suc}
 use mathlib.Core.List.{List, []}
 use Rattle.rules.specs.Field.{Read, got, refused, Reader, byteAt}
-use Rattle.rules.specs.Description.{Format, byte, word, only, zeroWord, text, listed, give, next, textLength, character, reads, here}
+use Rattle.rules.specs.Description.{Format, byte, word, only, zeroWord, text, cellText, listed, give, next, textLength, character, characters, reads, here}
 -- the next field's position, or the refusal, as src/lib.rt declares it
 pub use Rattle.rules.specs.declared.Step.{Step}
 pub use Rattle.rules.specs.declared.Step.the-variants.{At, Refused}
@@ -43,6 +43,7 @@ after word s y = readFrom (reads word) s y
 after (only good fault x) s y = readFrom (reads (only good fault x)) s y
 after zeroWord s y = readFrom (reads zeroWord) s y
 after (text low high good) s y = times (byteOf s y) (readFrom (character good) s) (readFrom (textLength low high) s y)
+after (cellText low high) s y = readFrom (characters (byteOf s y)) s (readFrom (textLength low high) s y)
 after (listed count x) s y = times (hereOf count s y) (λ z. after x s z) (after count s y)
 after (give a) s y = y
 after (next of x g) s y = after (g (hereOf x s y)) s (after x s y)

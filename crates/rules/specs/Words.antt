@@ -6,7 +6,7 @@ use mathlib.Core.List.{List}
 use mathlib.Core.Bool.{Bool, true, false, not, _||_}
 use lib.ListN.{length, getD, take}
 use lib.Dec.{eqb, ltb}
-use Rattle.rules.specs.Text.{flat, keep}
+use Rattle.rules.specs.Text.{charactersIn, flat, keep}
 use Rattle.rules.specs.Sheet.{Row, Table, columnAt, cellAt, noRow, allRows}
 use Rattle.rules.specs.Field.{got}
 use Rattle.rules.specs.Format.{sheet}
@@ -71,7 +71,7 @@ Uncut t i c = (rowAt t i .limit ≡ 0) ⊎ (length (wrapped t (contents t) (rowA
 
 -- "a cell's characters are those of its lines in the sheet, before wrapping, one line after another"; a missing cell holds none
 abbrev pub characters : Table → ℕ → ℕ → List ℕ
-characters t i c = flat (cellAt (rowAt t i) (columnOf t c) .lines)
+characters t i c = charactersIn (flat (cellAt (rowAt t i) (columnOf t c) .lines))
 
 -- ch is the delimiter that the rules choose for the cell; "a missing cell has none to leave out"
 abbrev pub isDelimiter : Table → ℕ → ℕ → ℕ → Bool
@@ -85,6 +85,6 @@ isDelimiter t i c ch =
 abbrev pub leftOut : Table → Table → ℕ → ℕ → ℕ → Bool
 leftOut t u i c ch = eqb ch 32 || isDelimiter t i c ch || isDelimiter u i c ch
 
--- what stays of a text once spaces and both cells' delimiters are left out
+-- what stays of some characters once spaces and both cells' delimiters are left out
 abbrev pub letters : Table → Table → ℕ → ℕ → List ℕ → List ℕ
 letters t u i c l = keep (λ ch. not (leftOut t u i c ch)) l

@@ -27,14 +27,13 @@ glue d [] p = p
 glue d (x ∷ xs) p = (x ∷ xs) ++ (d ∷ p)
 
 -- the columns free on a line, after a delimiter if the line isn't empty
-unfoldable pub room : ℕ → List ℕ → ℕ
-room w [] = w
-room w (x ∷ xs) = w - (textWidth (x ∷ xs) + 1)
+unfoldable pub room : ℕ → ℕ → List ℕ → ℕ
+room w d l = w - textWidth (glue d l [])
 
 -- a nonempty line with at most 2 columns free after a delimiter
-unfoldable pub tight : ℕ → List ℕ → Bool
-tight w [] = false
-tight w (x ∷ xs) = leb (room w (x ∷ xs)) 2
+unfoldable pub tight : ℕ → ℕ → List ℕ → Bool
+tight w d [] = false
+tight w d (x ∷ xs) = leb (room w d (x ∷ xs)) 2
 
 -- a line longer than width less 2 (not below 0)
 unfoldable pub full : ℕ → List ℕ → Bool
@@ -48,7 +47,7 @@ unfoldable pub act : ℕ → ℕ → List ℕ → List ℕ → Act
 act w d l p =
     elim (leb (textWidth (glue d l p)) w) [
       | true ↦ join
-      | false ↦ elim (tight w l) [
+      | false ↦ elim (tight w d l) [
         | true ↦ retry
         | false ↦ elim (ltb w (textWidth p)) [ true ↦ fill | false ↦ begin ]
       ]
@@ -67,7 +66,7 @@ place (suc n) w d l (p ∷ ps) =
     elim (act w d l p) [
       | join ↦ elim (full w (glue d l p)) [ true ↦ glue d l p ∷ place n w d [] ps | false ↦ place n w d (glue d l p) ps ]
       | retry ↦ l ∷ place n w d [] (p ∷ ps)
-      | fill ↦ glue d l (firstOf (room w l) p) ∷ place n w d [] (restOf (room w l) p ∷ ps)
+      | fill ↦ glue d l (firstOf (room w d l) p) ∷ place n w d [] (restOf (room w d l) p ∷ ps)
       | begin ↦ l ∷ elim (full w p) [ true ↦ p ∷ place n w d [] ps | false ↦ place n w d p ps ]
     ]
 
