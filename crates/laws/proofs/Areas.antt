@@ -5,7 +5,7 @@ use mathlib.Core.List.{List, [], map}
 use native.Mathlib.Omega.{arith}
 use lib.ListN.{length, getD, length-map}
 use lib.Seq.{ext-getD}
-use Rattle.rules.specs.Text.{upFrom, All}
+use Rattle.rules.specs.Text.{charactersIn, upFrom, All}
 use Rattle.rules.specs.Sheet.{Row, Table, noRow, allRows}
 use Rattle.rules.specs.Widths.{numbers, visible, contents}
 use Rattle.rules.specs.Page.{visibleWidth, visibleWidths, height, areaAt, areas}
@@ -100,7 +100,8 @@ module _ (t u : Table) where
     lines-alike : (i : ℕ) → i < length (allRows t) → linesOf t i ≡ linesOf u i
     lines-alike i h = sym (length-areas t (contents t) (rowAt t i)) ∙ ap length (row-alike i h) ∙ length-areas u (contents u) (rowAt u i)
 
-    area-alike : (i k c : ℕ) → i < length (allRows t) → k < linesOf t i → c < length (visible t) → areaOf t i k c ≡ areaOf u i k c
+    -- area by area, byte for byte
+    pub area-alike : (i k c : ℕ) → i < length (allRows t) → k < linesOf t i → c < length (visible t) → areaOf t i k c ≡ areaOf u i k c
     area-alike i k c h l m =
         sym (area-at t (contents t) (rowAt t i) k c l m) ∙ ap (λ x. getD (getD x k []) c []) (row-alike i h)
         ∙ area-at u (contents u) (rowAt u i) k c (omega (arith, lines-alike i h)) (omega (arith, as-many-columns (a .widths)))
@@ -112,10 +113,11 @@ module _ (t u : Table) where
       widths = a .widths;
       rows = as-many-rows;
       lines = lines-alike;
-      areas = area-alike;
+      areas = λ i k c h l m. ap charactersIn (area-alike i k c h l m);
     }
 
-  module _ (a : Agree t u) where
+  -- where the areas' characters tell their bytes
+  module _ (a : Agree t u) (told : (i k c : ℕ) → i < length (allRows t) → k < linesOf t i → c < length (visible t) → areaOf t i k c ≡ areaOf u i k c) where
     rows-agree : map (shownIn t) (allRows t) ≡ map (shownIn u) (allRows u)
     rows-agree = ext-getD [] (map (shownIn t) (allRows t)) (map (shownIn u) (allRows u))
         (length-map (allRows t) (shownIn t) ∙ a .rows ∙ sym (length-map (allRows u) (shownIn u)))
@@ -124,8 +126,7 @@ module _ (t u : Table) where
         row : (i : ℕ) → i < length (allRows t) → getD (map (shownIn t) (allRows t)) i [] ≡ getD (map (shownIn u) (allRows u)) i []
         row i h =
             getD-map (shownIn t) (allRows t) i noRow [] h
-            ∙ areas-same t u (contents t) (contents u) (rowAt t i) (rowAt u i) (as-many-columns (a .widths)) (a .lines i h)
-            (λ k c l m. a .areas i k c h l m)
+            ∙ areas-same t u (contents t) (contents u) (rowAt t i) (rowAt u i) (as-many-columns (a .widths)) (a .lines i h) (λ k c l m. told i k c h l m)
             ∙ sym (getD-map (shownIn u) (allRows u) i noRow [] (omega (arith, a .rows)))
 
     -- and the other way round

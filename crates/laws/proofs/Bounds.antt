@@ -10,18 +10,11 @@ use native.Mathlib.Omega.{arith}
 use lib.ListN.{length, getD, take, set}
 use lib.Dec.{eqb, ltb, leb}
 use borrow.Author.Tests.{eqb-true, leb-true}
-use Rattle.rules.specs.Text.{textWidth, greatest, orElse, keep, All}
-use Rattle.rules.specs.Sheet.{Cell, Row, Table, columnAt, cellAt, noCell, noColumn, allRows, padding, isHidden}
-use Rattle.rules.specs.declared.Width.{Width}
-use Rattle.rules.specs.declared.Column.{Column}
+use Rattle.rules.specs.Text.{textWidth, greatest, orElse, oneIf, keep, All}
+use Rattle.rules.specs.Sheet.{Width, Column, Cell, Row, Table, columnAt, cellAt, noCell, noColumn, allRows, padding, isHidden}
 use Rattle.rules.specs.Limits.{WidthLimits, ColumnLimits, LineLimits, CellLimits, RowLimits, TableLimits}
-use Rattle.rules.specs.Widths.{State, Rule, cellsOf, cellLongest, longest, numbers, visible, borders, percentOf, widthOf, valueOf, lowerWidth}
-use Rattle.rules.specs.Widths.{upperWidth, absoluteWidth, lower, upper, absolute, covering, evaluate, noted, first, untargeted, zeros, undecided}
-use Rattle.rules.specs.Widths.{average, averageIsSome, isUndecided, start, fix, fixAt, visit, pass, passes, aboveAverage, withinAverage}
-use Rattle.rules.specs.Widths.{fittingAverage, longestPart, shorterBy3, splitAtAverage, step1, step2, step3, share, shared, widened, step4, contents}
-use Rattle.rules.specs.Widths.{lifted, contentOf}
-use Rattle.laws.proofs.Cases.{oneIf-le}
-use Rattle.laws.proofs.Text.{width-length}
+use Rattle.rules.specs.Widths.{State, Rule, cellsOf, cellLongest, longest, numbers, visible, borders, percentOf, widthOf, valueOf, lowerWidth, upperWidth, absoluteWidth, lower, upper, absolute, covering, evaluate, noted, first, untargeted, zeros, undecided, average, averageIsSome, isUndecided, start, fix, fixAt, visit, pass, passes, aboveAverage, withinAverage, fittingAverage, longestPart, shorterBy3, splitAtAverage, step1, step2, step3, share, shared, widened, step4, contents, lifted, contentOf}
+use Rattle.laws.proofs.Text.{width-nil, width-le}
 use Rattle.laws.proofs.Settled.{zeros-le}
 use Rattle.laws.proofs.Contents.{length-steps}
 use Rattle.laws.proofs.Lists.{all-map, all-default, all-imp, all-append}
@@ -47,7 +40,7 @@ all-set P (x ∷ xs) (suc j) v h k = (k .0, all-set P xs j v h (k .1))
 
 line-200 : (ls : List (List ℕ)) → All LineLimits ls → All (Most 200) (map textWidth ls)
 line-200 [] h = tt
-line-200 (l ∷ ls) h = (omega (arith, width-length l, h .0 .length), line-200 ls (h .1))
+line-200 (l ∷ ls) h = (omega (arith, width-le l, h .0 .length), line-200 ls (h .1))
 
 cell-200 : (x : Cell) → CellLimits x → cellLongest x ≤ 200
 unfolding cellLongest
@@ -55,7 +48,7 @@ cell-200 x h = omega (arith, greatest-le 200 (map textWidth (x .lines)) (line-20
 
 blank-200 : cellLongest noCell ≤ 200
 unfolding cellLongest greatest
-blank-200 = omega (arith, width-length [])
+blank-200 = omega (arith, width-nil)
 
 cell-at-200 : (n : ℕ) (r : Row) (j : ℕ) → RowLimits n r → cellLongest (cellAt r j) ≤ 200
 cell-at-200 n r j h = all-default (λ x. cellLongest x ≤ 200) (r .cells) j noCell blank-200

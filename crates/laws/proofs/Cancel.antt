@@ -1,4 +1,4 @@
--- Lists that are put together can be taken apart again: at a first stop, at a known length, at a closing byte, at junctions. Assumes nothing.
+-- Lists that are put together can be taken apart again: at a first stop, at a known length or width, at a closing byte, at junctions. Assumes nothing.
 use Prim.Native.Nat.{ℕ, _<_}
 use mathlib.Core.Path.{_≡_, refl, ap}
 use mathlib.Core.Logic.{_≢_}
@@ -6,9 +6,11 @@ use mathlib.Core.List.{List, [], _∷_, _++_, map, append-cancel-left, append-ca
 use native.Mathlib.Nat.{suc-inj, not-suc-le-zero}
 use native.Mathlib.Omega.{arith}
 use lib.ListN.{length, replicate, length-replicate}
-use Rattle.rules.specs.Text.{All}
+use Rattle.rules.specs.Text.{textWidth, All}
+use Rattle.rules.specs.Limits.{IsText}
 use Rattle.rules.specs.Page.{joinedMore, joined, lineOf, closed}
 use Rattle.laws.proofs.Lists.{all-replicate}
+use Rattle.laws.proofs.Texts.{at-width}
 
 -- a list that is empty or begins with a stop
 abbrev pub Stops : {A : Type 0} → (A → Type 0) → List A → Type 0
@@ -55,30 +57,30 @@ line-joined : (l j r : List ℕ) (ps qs : List (List ℕ)) → lineOf l j r ps �
 unfolding lineOf
 line-joined l j r ps qs e = append-cancel-right (joined j ps) (joined j qs) r (append-cancel-left l _ _ e)
 
--- parts of known lengths
-more-cancel : (j : List ℕ) (ps qs : List (List ℕ)) → map length ps ≡ map length qs → joinedMore j ps ≡ joinedMore j qs → ps ≡ qs
+-- texts of known widths
+more-cancel : (j : List ℕ) (ps qs : List (List ℕ)) → All IsText ps → All IsText qs → map textWidth ps ≡ map textWidth qs → joinedMore j ps ≡ joinedMore j qs → ps ≡ qs
 unfolding joinedMore
-more-cancel j [] [] n e = refl
-more-cancel j [] (q ∷ qs) n e = cc
-more-cancel j (p ∷ ps) [] n e = cc
-more-cancel j (p ∷ ps) (q ∷ qs) n e =
-    let r : (p ≡ q) × (joinedMore j ps ≡ joinedMore j qs) = at-length p q (joinedMore j ps) (joinedMore j qs) (cc) (append-cancel-left j _ _ e) in
-    let s : ps ≡ qs = more-cancel j ps qs (cc) (r .1) in
+more-cancel j [] [] h k n e = refl
+more-cancel j [] (q ∷ qs) h k n e = cc
+more-cancel j (p ∷ ps) [] h k n e = cc
+more-cancel j (p ∷ ps) (q ∷ qs) h k n e =
+    let r : (p ≡ q) × (joinedMore j ps ≡ joinedMore j qs) = at-width (joinedMore j ps) (joinedMore j qs) (h .0) (k .0) (cc) (append-cancel-left j _ _ e) in
+    let s : ps ≡ qs = more-cancel j ps qs (h .1) (k .1) (cc) (r .1) in
     cc
 
-joined-cancel : (j : List ℕ) (ps qs : List (List ℕ)) → map length ps ≡ map length qs → joined j ps ≡ joined j qs → ps ≡ qs
+joined-cancel : (j : List ℕ) (ps qs : List (List ℕ)) → All IsText ps → All IsText qs → map textWidth ps ≡ map textWidth qs → joined j ps ≡ joined j qs → ps ≡ qs
 unfolding joined
-joined-cancel j [] [] n e = refl
-joined-cancel j [] (q ∷ qs) n e = cc
-joined-cancel j (p ∷ ps) [] n e = cc
-joined-cancel j (p ∷ ps) (q ∷ qs) n e =
-    let r : (p ≡ q) × (joinedMore j ps ≡ joinedMore j qs) = at-length p q (joinedMore j ps) (joinedMore j qs) (cc) e in
-    let s : ps ≡ qs = more-cancel j ps qs (cc) (r .1) in
+joined-cancel j [] [] h k n e = refl
+joined-cancel j [] (q ∷ qs) h k n e = cc
+joined-cancel j (p ∷ ps) [] h k n e = cc
+joined-cancel j (p ∷ ps) (q ∷ qs) h k n e =
+    let r : (p ≡ q) × (joinedMore j ps ≡ joinedMore j qs) = at-width (joinedMore j ps) (joinedMore j qs) (h .0) (k .0) (cc) e in
+    let s : ps ≡ qs = more-cancel j ps qs (h .1) (k .1) (cc) (r .1) in
     cc
 
--- a line whose parts have known lengths tells them
-pub line-cancel : (l j r : List ℕ) (ps qs : List (List ℕ)) → map length ps ≡ map length qs → lineOf l j r ps ≡ lineOf l j r qs → ps ≡ qs
-line-cancel l j r ps qs n e = joined-cancel j ps qs n (line-joined l j r ps qs e)
+-- a line whose parts are texts of known widths tells them
+pub line-cancel : (l j r : List ℕ) (ps qs : List (List ℕ)) → All IsText ps → All IsText qs → map textWidth ps ≡ map textWidth qs → lineOf l j r ps ≡ lineOf l j r qs → ps ≡ qs
+line-cancel l j r ps qs h k n e = joined-cancel j ps qs h k n (line-joined l j r ps qs e)
 
 -- runs of one fill
 abbrev pub runs : ℕ → List ℕ → List (List ℕ)

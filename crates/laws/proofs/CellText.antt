@@ -1,4 +1,4 @@
--- The areas of a place, one below the other, hold an uncut cell's characters, spaces and its delimiter left out. Assumes nothing.
+-- The areas of a place, one below the other, hold an uncut cell's bytes, spaces and its delimiter left out. Assumes nothing.
 use Prim.Native.Nat.{ℕ, zero, suc, _-_, _≤_, _<_}
 use mathlib.Core.Path.{_≡_, refl, ap, sym, _∙_}
 use mathlib.Core.Logic.{_⊎_, inl, inr}
@@ -10,12 +10,11 @@ use lib.ListN.{length, getD, List·getD-eq-default}
 use lib.Dec.{ltb}
 use borrow.Author.Tests.{ltb-false, le-ltb}
 use Rattle.rules.specs.Text.{blank, upFrom, keep, flat}
-use Rattle.rules.specs.Sheet.{Row, Table, noCell, columnAt, cellAt}
-use Rattle.rules.specs.declared.Column.{Column}
+use Rattle.rules.specs.Sheet.{Column, Row, Table, noCell, columnAt, cellAt}
 use Rattle.rules.specs.Wrap.{delimiterOf, wrapLines, exceeds, cut}
 use Rattle.rules.specs.Widths.{visible, contents}
 use Rattle.rules.specs.Page.{alignmentOf, area, wrapped, cellLines, height, areaAt}
-use Rattle.rules.specs.Words.{rowAt, columnOf, linesOf, areaOf, Uncut, characters}
+use Rattle.rules.specs.Words.{rowAt, columnOf, linesOf, areaOf, Uncut}
 use Rattle.laws.proofs.Lists.{keep-append, all-getD, map-shift, le-greatest}
 use Rattle.laws.proofs.Text.{width-nil}
 use Rattle.laws.proofs.Split.{wrap-short}
@@ -85,9 +84,8 @@ module _ (q : ℕ → Bool) (t : Table) (ws : List ℕ) (r : Row) (j : ℕ) (som
 
 -- the text of a place
 pub place-text : (q : ℕ → Bool) → q 32 ≡ true → (t : Table) (i c : ℕ) → c < length (visible t)
-    → (ltb (columnOf t c) (length (rowAt t i .cells)) ≡ true → q (delimiterOf t (columnAt t (columnOf t c)) (cellAt (rowAt t i) (columnOf t c))) ≡
-    true) → Uncut t i c
-    → keep (λ ch. not (q ch)) (flat (map (λ k. areaOf t i k c) (upFrom 0 (linesOf t i)))) ≡ keep (λ ch. not (q ch)) (characters t i c)
+    → (ltb (columnOf t c) (length (rowAt t i .cells)) ≡ true → q (delimiterOf t (columnAt t (columnOf t c)) (cellAt (rowAt t i) (columnOf t c))) ≡ true) → Uncut t i c
+    → keep (λ ch. not (q ch)) (flat (map (λ k. areaOf t i k c) (upFrom 0 (linesOf t i)))) ≡ keep (λ ch. not (q ch)) (flat (cellAt (rowAt t i) (columnOf t c) .lines))
 unfolding areaAt height
 place-text q space t i c h d o =
     let ws = contents t in

@@ -1,41 +1,40 @@
--- Every character of the page of an accepted sheet is printable. Assumes nothing.
+-- Every line of the page of an accepted sheet is text: printable characters, and pairs. Assumes nothing.
 use Prim.Native.Nat.{ℕ, zero, suc, _+_, _-_}
 use mathlib.Core.Logic.{inl, inr}
 use mathlib.Core.Path.{refl}
-use mathlib.Core.List.{List, [], _∷_, _++_, map}
+use mathlib.Core.List.{List, [], _∷_, map}
 use mathlib.Core.Bool.{Bool, true, false}
 use native.Mathlib.Omega.{arith}
 use lib.ListN.{getD, replicate}
 use lib.Dec.{leb}
-use Rattle.rules.specs.Text.{textWidth, firstOf, orElse, upFrom, All}
-use Rattle.rules.specs.Sheet.{Cell, Row, Table, noCell, noColumn, columnAt, cellAt}
-use Rattle.rules.specs.declared.Column.{Column}
-use Rattle.rules.specs.Limits.{Printable, Optional, ColumnLimits, LineLimits, CellLimits, RowLimits, TableLimits}
+use Rattle.rules.specs.Text.{textWidth, blank, orElse, upFrom, All}
+use Rattle.rules.specs.Sheet.{Column, Cell, Row, Table, noCell, noColumn, columnAt, cellAt}
+use Rattle.rules.specs.Limits.{Printable, IsText, nothing, plain, Optional, ColumnLimits, LineLimits, CellLimits, RowLimits, TableLimits}
 use Rattle.rules.specs.Style.{glyphAt, glyph, isVisible}
-use Rattle.rules.specs.Wrap.{delimiterOf, shownIndicator, cutLine}
+use Rattle.rules.specs.Wrap.{delimiterOf, fitting, cutLine}
 use Rattle.rules.specs.Widths.{visible, contents}
-use Rattle.rules.specs.Page.{alignmentOf, area, wrapped, cellLines, height, areaAt, areas, joinedMore, joined, lineOf, edge, ruled, textLine, shown, rowText, framed, pageLines}
+use Rattle.rules.specs.Page.{alignmentOf, before, area, wrapped, cellLines, height, areaAt, areas, joinedMore, joined, lineOf, edge, ruled, textLine, shown, rowText, framed, pageLines}
 use Rattle.laws.proofs.Lists.{all-imp, all-append, all-map, all-map-imp, all-replicate, all-default}
-use Rattle.laws.proofs.Text.{all-first}
-use Rattle.laws.proofs.Split.{all-wrapLines}
+use Rattle.laws.proofs.Texts.{text-all, text-append, text-first}
+use Rattle.laws.proofs.Split.{text-wrapLines}
 use Rattle.laws.proofs.Fits.{all-cut}
 use Rattle.laws.proofs.Rows.{all-headed, all-ruledRows}
 
--- a property of every character of a line, from its parts
-all-joinedMore : (P : ℕ → Type 0) (j : List ℕ) → All P j → (ps : List (List ℕ)) → All (All P) ps → All P (joinedMore j ps)
+-- a line is text, from its parts
+text-joinedMore : (j : List ℕ) → IsText j → (ps : List (List ℕ)) → All IsText ps → IsText (joinedMore j ps)
 unfolding joinedMore
-all-joinedMore P j h [] k = tt
-all-joinedMore P j h (p ∷ ps) k = all-append P j (p ++ joinedMore j ps) h (all-append P p (joinedMore j ps) (k .0) (all-joinedMore P j h ps (k .1)))
+text-joinedMore j h [] k = nothing
+text-joinedMore j h (p ∷ ps) k = text-append h (text-append (k .0) (text-joinedMore j h ps (k .1)))
 
-all-joined : (P : ℕ → Type 0) (j : List ℕ) → All P j → (ps : List (List ℕ)) → All (All P) ps → All P (joined j ps)
+text-joined : (j : List ℕ) → IsText j → (ps : List (List ℕ)) → All IsText ps → IsText (joined j ps)
 unfolding joined
-all-joined P j h [] k = tt
-all-joined P j h (p ∷ ps) k = all-append P p (joinedMore j ps) (k .0) (all-joinedMore P j h ps (k .1))
+text-joined j h [] k = nothing
+text-joined j h (p ∷ ps) k = text-append (k .0) (text-joinedMore j h ps (k .1))
 
--- and so of the whole line
-pub all-lineOf : (P : ℕ → Type 0) (l j r : List ℕ) → All P l → All P j → All P r → (ps : List (List ℕ)) → All (All P) ps → All P (lineOf l j r ps)
+-- and so the whole line
+pub text-lineOf : (l j r : List ℕ) → IsText l → IsText j → IsText r → (ps : List (List ℕ)) → All IsText ps → IsText (lineOf l j r ps)
 unfolding lineOf
-all-lineOf P l j r hl hj hr ps k = all-append P l (joined j ps ++ r) hl (all-append P (joined j ps) r (all-joined P j hj ps k) hr)
+text-lineOf l j r hl hj hr ps k = text-append hl (text-append (text-joined j hj ps k) hr)
 
 -- an unset character prints as a space
 pub printable-glyph : (c : ℕ) → Optional c → Printable (glyph c)
@@ -43,7 +42,8 @@ printable-glyph zero h = omega arith
 printable-glyph (suc c) (inl e) = absurd (omega arith)
 printable-glyph (suc c) (inr h) = h
 
-printable-orElse : (a b : ℕ) → Optional a → Printable b → Printable (orElse a b)
+-- a code that stands in for another
+pub printable-orElse : (a b : ℕ) → Optional a → Printable b → Printable (orElse a b)
 printable-orElse zero b h k = k
 printable-orElse (suc a) b (inl e) k = absurd (omega arith)
 printable-orElse (suc a) b (inr h) k = h
@@ -53,56 +53,57 @@ module _ (S : List ℕ) (chars : All Optional S) where
   printable-at : (k : ℕ) → Printable (glyph (glyphAt S k))
   printable-at k = printable-glyph (glyphAt S k) (all-default Optional S k 0 (inl refl) chars)
 
-  printable-edge : (b : Bool) (k : ℕ) → All Printable (edge b (glyphAt S k))
-  printable-edge true k = (printable-at k, tt)
-  printable-edge false k = tt
+  printable-edge : (b : Bool) (k : ℕ) → IsText (edge b (glyphAt S k))
+  printable-edge true k = plain (glyph (glyphAt S k)) [] (printable-at k) nothing
+  printable-edge false k = nothing
 
-  printable-runs : (k : ℕ) (vs : List ℕ) → All (All Printable) (map (λ v. replicate v (glyph (glyphAt S k))) vs)
-  printable-runs k vs = all-map (All Printable) (λ v. replicate v (glyph (glyphAt S k)))
-      (λ v. all-replicate Printable (glyph (glyphAt S k)) v (printable-at k)) vs
+  printable-runs : (k : ℕ) (vs : List ℕ) → All IsText (map (λ v. replicate v (glyph (glyphAt S k))) vs)
+  printable-runs k vs = all-map IsText (λ v. replicate v (glyph (glyphAt S k))) (λ v. text-all (replicate v (glyph (glyphAt S k))) (all-replicate Printable (glyph (glyphAt S k)) v (printable-at k))) vs
 
-  pub printable-ruled : (always : Bool) (k : ℕ) (vs : List ℕ) → All Printable (ruled S always k vs)
+  pub printable-ruled : (always : Bool) (k : ℕ) (vs : List ℕ) → IsText (ruled S always k vs)
   unfolding ruled
-  printable-ruled always k vs = search (all-lineOf, printable-edge, printable-runs)
+  printable-ruled always k vs = search (text-lineOf, printable-edge, printable-runs)
 
-  pub printable-shown : (always : Bool) (k : ℕ) (vs : List ℕ) → All (All Printable) (shown S always k vs)
+  pub printable-shown : (always : Bool) (k : ℕ) (vs : List ℕ) → All IsText (shown S always k vs)
   unfolding shown
   printable-shown always k vs = go (isVisible S k)
     where
-      go : (b : Bool) → All (All Printable) (elim b as (λ x. List (List ℕ)) [ true ↦ ruled S always k vs ∷ [] | false ↦ [] ])
+      go : (b : Bool) → All IsText (elim b as (λ x. List (List ℕ)) [ true ↦ ruled S always k vs ∷ [] | false ↦ [] ])
       go true = (printable-ruled always k vs, tt)
       go false = tt
 
   -- a text line, of printable areas
-  pub printable-textLine : (k : ℕ) (ps : List (List ℕ)) → All (All Printable) ps → All Printable (textLine S k ps)
+  pub printable-textLine : (k : ℕ) (ps : List (List ℕ)) → All IsText ps → IsText (textLine S k ps)
   unfolding textLine
-  printable-textLine k ps h = search (all-lineOf, printable-edge)
+  printable-textLine k ps h = search (text-lineOf, printable-edge)
 
 -- an area's characters
-pub printable-area : (c : Column) (w a : ℕ) (l : List ℕ) → All Printable l → All Printable (area c w a l)
-unfolding area
-printable-area c w a l h = let space : Printable 32 = omega arith in search (all-append, all-replicate)
+text-blank : (n : ℕ) → IsText (blank n)
+text-blank n = text-all (blank n) (all-replicate Printable 32 n (omega arith, omega arith))
 
-printable-cutLine : (w : ℕ) (i l : List ℕ) → All Printable i → All Printable l → All Printable (cutLine w i l)
-unfolding cutLine shownIndicator
-printable-cutLine w i l h k = all-append Printable (firstOf (w - textWidth (shownIndicator w i)) l) (shownIndicator w i)
-    (all-first Printable (w - textWidth (shownIndicator w i)) l k) (go (leb (textWidth i) w))
+pub printable-area : (c : Column) (w a : ℕ) (l : List ℕ) → IsText l → IsText (area c w a l)
+unfolding area
+printable-area c w a l h = text-append (text-blank (c .left + before a (w - textWidth l))) (text-append h (text-blank ((w - textWidth l - before a (w - textWidth l)) + c .right)))
+
+printable-cutLine : (w : ℕ) (i l : List ℕ) → All Printable i → IsText l → IsText (cutLine w i l)
+unfolding cutLine fitting
+printable-cutLine w i l h k = text-append (text-first (w - textWidth (fitting w i)) k) (go (leb (textWidth i) w))
   where
-    go : (b : Bool) → All Printable (elim b as (λ x. List ℕ) [ true ↦ i | false ↦ [] ])
-    go true = h
-    go false = tt
+    go : (b : Bool) → IsText (elim b as (λ x. List ℕ) [ true ↦ i | false ↦ [] ])
+    go true = text-all i h
+    go false = nothing
 
 -- what a cell, missing or not, has
 abbrev Plain : Cell → Type 0
-Plain x = Optional (x .delimiter) × All (All Printable) (x .lines)
+Plain x = Optional (x .delimiter) × All IsText (x .lines)
 
-plain : (x : Cell) → CellLimits x → Plain x
-plain x h = (h .delimiter, all-imp LineLimits (All Printable) (λ l k. k .characters) (x .lines) (h .texts))
+plain-cell : (x : Cell) → CellLimits x → Plain x
+plain-cell x h = (h .delimiter, all-imp LineLimits IsText (λ l k. k .characters) (x .lines) (h .texts))
 
 module _ (t : Table) (T : TableLimits t) (ws : List ℕ) where
   module _ (r : Row) (R : All CellLimits (r .cells)) where
     plain-at : (j : ℕ) → Plain (cellAt r j)
-    plain-at j = all-default Plain (r .cells) j noCell (inl refl, (tt, tt)) (all-imp CellLimits Plain plain (r .cells) R)
+    plain-at j = all-default Plain (r .cells) j noCell (inl refl, (nothing, tt)) (all-imp CellLimits Plain plain-cell (r .cells) R)
 
     -- the delimiter chosen, the cell's lines, its areas
     pub printable-delimiter : (j : ℕ) → Printable (delimiterOf t (columnAt t j) (cellAt r j))
@@ -113,42 +114,37 @@ module _ (t : Table) (T : TableLimits t) (ws : List ℕ) where
         printable-orElse (cellAt r j .delimiter) _ (plain-at j .0) (printable-orElse (columnAt t j .delimiter) _ c
         (printable-orElse (t .delimiter) 32 (T .delimiter) space))
 
-    pub printable-cell : (j : ℕ) → All (All Printable) (cellLines t ws r j)
+    pub printable-cell : (j : ℕ) → All IsText (cellLines t ws r j)
     unfolding cellLines wrapped
     printable-cell j =
-        all-cut (All Printable) (getD ws j 0) (t .indicator) (r .limit) (wrapped t ws r j) tt
-        (λ l k. printable-cutLine (getD ws j 0) (t .indicator) l (T .indicator-characters) k)
-        (all-wrapLines Printable (delimiterOf t (columnAt t j) (cellAt r j)) (printable-delimiter j) (getD ws j 0) (cellAt r j .lines)
-        (plain-at j .1))
+        all-cut IsText (getD ws j 0) (t .indicator) (r .limit) (wrapped t ws r j) nothing (λ l k. printable-cutLine (getD ws j 0) (t .indicator) l (T .indicator-characters) k)
+        (text-wrapLines (delimiterOf t (columnAt t j) (cellAt r j)) (printable-delimiter j) (getD ws j 0) (cellAt r j .lines) (plain-at j .1))
 
-    pub printable-areaAt : (k j : ℕ) → All Printable (areaAt t ws r k j)
+    pub printable-areaAt : (k j : ℕ) → IsText (areaAt t ws r k j)
     unfolding areaAt
     printable-areaAt k j =
         printable-area (columnAt t j) (getD ws j 0) (alignmentOf (columnAt t j) (cellAt r j)) (getD (cellLines t ws r j) k [])
-        (all-default (All Printable) (cellLines t ws r j) k [] tt (printable-cell j))
+        (all-default IsText (cellLines t ws r j) k [] nothing (printable-cell j))
 
-    printable-rowText : (k : ℕ) → All (All Printable) (rowText t ws k r)
+    printable-rowText : (k : ℕ) → All IsText (rowText t ws k r)
     unfolding rowText areas
     printable-rowText k =
-        all-map-imp (All (All Printable)) (All Printable) (textLine (t .style) k) (printable-textLine (t .style) (T .style-characters) k)
-        (areas t ws r)
-        (all-map (All (All Printable)) (λ n. map (areaAt t ws r n) (visible t))
-        (λ n. all-map (All Printable) (areaAt t ws r n) (printable-areaAt n) (visible t)) (upFrom 0 (height t ws r)))
+        all-map-imp (All IsText) IsText (textLine (t .style) k) (printable-textLine (t .style) (T .style-characters) k) (areas t ws r)
+        (all-map (All IsText) (λ n. map (areaAt t ws r n) (visible t)) (λ n. all-map IsText (areaAt t ws r n) (printable-areaAt n) (visible t)) (upFrom 0 (height t ws r)))
 
   rows-cells : (rs : List Row) (n : ℕ) → All (RowLimits n) rs → All (λ r. All CellLimits (r .cells)) rs
   rows-cells rs n h = all-imp (RowLimits n) (λ r. All CellLimits (r .cells)) (λ r k. k .each) rs h
 
   -- over any of its rows
-  pub printable-framed : (rs : List Row) → All (λ r. All CellLimits (r .cells)) rs → All (All Printable) (framed t ws rs)
+  pub printable-framed : (rs : List Row) → All (λ r. All CellLimits (r .cells)) rs → All IsText (framed t ws rs)
   unfolding framed
   printable-framed rs h =
       let shows = printable-shown (t .style) (T .style-characters) in
-      let text : (k : ℕ) (qs : List Row) → All (λ r. All CellLimits (r .cells)) qs → All (λ r. All (All Printable) (rowText t ws k r)) qs = λ k qs g.
-      all-imp (λ r. All CellLimits (r .cells)) (λ r. All (All Printable) (rowText t ws k r)) (λ r c. printable-rowText r c k) qs g in
+      let text : (k : ℕ) (qs : List Row) → All (λ r. All CellLimits (r .cells)) qs → All (λ r. All IsText (rowText t ws k r)) qs = λ k qs g. all-imp (λ r. All CellLimits (r .cells)) (λ r. All IsText (rowText t ws k r)) (λ r c. printable-rowText r c k) qs g in
       let header = rows-cells (t .header) _ (T .header-row) in
       search (all-append, all-headed, all-ruledRows, shows, text, header)
 
--- the page's lines are printable
-pub printable-page : (t : Table) → TableLimits t → All (All Printable) (pageLines t)
+-- the page's lines are text
+pub printable-page : (t : Table) → TableLimits t → All IsText (pageLines t)
 unfolding pageLines
 printable-page t T = printable-framed t T (contents t) (t .rows) (rows-cells t T (contents t) (t .rows) _ (T .each-row))

@@ -8,22 +8,22 @@ use native.Mathlib.Omega.{arith}
 use lib.ListN.{length, getD, take, length-append, length-take, length-map}
 use lib.Dec.{ltb, eqb}
 use borrow.Author.Tests.{ltb-true, ltb-false}
-use Rattle.rules.specs.Text.{textWidth, restOf, sum, upFrom, keep, flat, All}
+use Rattle.rules.specs.Text.{textWidth, restOf, sum, oneIf, upFrom, keep, flat, All}
 use Rattle.rules.specs.Sheet.{Cell, Row, Table, noCell, noColumn, columnAt, cellAt, padding, isHidden}
-use Rattle.rules.specs.Limits.{longestLine, ColumnLimits, LineLimits, CellLimits, RowLimits, TableLimits, mostLines}
+use Rattle.rules.specs.Limits.{ColumnLimits, LineLimits, CellLimits, RowLimits, TableLimits}
 use Rattle.rules.specs.Style.{topBorder, headerLines, headerRule, contentLines, rowRule, bottomBorder, anyLeft, anyRight, anyJunction, isVisible, bordersOf}
-use Rattle.rules.specs.Wrap.{Act, join, retry, fill, begin, onto, pieces, glue, room, full, act, last, place, weight, split, wrapLine, wrapLines}
-use Rattle.rules.specs.Wrap.{exceeds, cutLine, cut, delimiterOf}
+use Rattle.rules.specs.Wrap.{Act, join, retry, fill, begin, onto, pieces, glue, room, full, act, last, place, weight, split, wrapLine, wrapLines, exceeds, cutLine, cut, delimiterOf}
 use Rattle.rules.specs.Widths.{numbers, visible, borders, contents}
-use Rattle.rules.specs.Page.{visibleWidth, visibleWidths, wrapped, cellLines, height, areaAt, areas, ruled, textLine, lineLength, borderLength, shown}
-use Rattle.rules.specs.Page.{headed, ruledMore, ruledRows, rowText, framed, pageLines, closed, lineCount}
-use Rattle.laws.proofs.Cases.{oneIf-le}
+use Rattle.rules.specs.Page.{visibleWidth, visibleWidths, wrapped, cellLines, height, areaAt, areas, ruled, textLine, shown, headed, ruledMore, ruledRows, rowText, framed, pageLines, closed, lineAt, lineCount, byteCount}
 use Rattle.laws.proofs.Lists.{all-map, all-map-imp, all-imp, all-append, all-default, all-getD, all-keep, length-upFrom, keep-yes, keep-no}
 use Rattle.laws.proofs.Bounds.{Most, greatest-le, contents-801}
 use Rattle.laws.proofs.Areas.{visible-below, length-widths, length-areas}
 use Rattle.laws.proofs.Rows.{all-headed, all-ruledRows}
-use Rattle.laws.proofs.Lines.{text-length, rule-length, border-length}
-use Rattle.laws.proofs.Sizes.{length-closed}
+use Rattle.laws.proofs.Lines.{lineLength, borderLength, text-length, rule-length, border-length}
+use Rattle.laws.proofs.Sizes.{length-closed, byte-count-closed}
+use Rattle.laws.proofs.Texts.{text-length}
+use Rattle.laws.proofs.Fits.{width-areaAt}
+use Rattle.laws.proofs.Characters.{printable-areaAt}
 
 -- ---- lines of a cell
 
@@ -44,7 +44,7 @@ length-place (suc n) w d l (p ∷ ps) = go (act w d l p) refl (λ m qs. length-p
         ≤ 2 * suc n
     go join e ih = rw (e, place) (omega (arith, ended (glue d l p) (full w (glue d l p)) ih))
     go retry e ih = rw (e, place) (omega (arith, ih [] (p ∷ ps)))
-    go fill e ih = rw (e, place) (omega (arith, ih [] (restOf (room w l) p ∷ ps)))
+    go fill e ih = rw (e, place) (omega (arith, ih [] (restOf (room w d l) p ∷ ps)))
     go begin e ih = rw (e, place) (omega (arith, ended p (full w p) ih))
 
 -- three steps at least, and as many more as each character takes at most
@@ -319,58 +319,77 @@ module _ (t : Table) (T : TableLimits t) where
   unfolding borderLength
   border-length-bound = omega (arith, oneIf-le (anyLeft (t .style)), oneIf-le (anyRight (t .style)), widths-bound, visible-count t, T .columns)
 
--- every line has one of the two lengths
+-- every line has one of the two lengths, or is text of at most two bytes a column
 abbrev Drawn : Table → List ℕ → List ℕ → Type 0
-Drawn t ws l = (length l ≡ lineLength t ws) ⊎ (length l ≡ borderLength t ws)
+Drawn t ws l = (length l ≤ 2 * lineLength t ws) ⊎ (length l ≡ borderLength t ws)
 
-module _ (t : Table) (ws : List ℕ) where
+module _ (t : Table) (T : TableLimits t) (ws : List ℕ) where
+  area-bytes : (r : Row) → All CellLimits (r .cells) → (k : ℕ) (js : List ℕ) → sum (map length (map (areaAt t ws r k) js)) ≤ 2 * sum (map (visibleWidth t ws) js)
+  unfolding sum
+  area-bytes r R k [] = omega arith
+  area-bytes r R k (j ∷ js) = omega (arith, text-length (printable-areaAt t T ws r R k j), width-areaAt t ws r k j, area-bytes r R k js)
+
+  -- a text line of a row
+  pub text-bound : (r : Row) → All CellLimits (r .cells) → (i k : ℕ) → length (textLine (t .style) i (map (areaAt t ws r k) (visible t))) ≤ 2 * lineLength t ws
+  unfolding lineLength visibleWidths
+  text-bound r R i k = omega (arith, text-length t ws r i k, area-bytes r R k (visible t))
+
   shown-lengths : (always : Bool) (k : ℕ) → All (Drawn t ws) (shown (t .style) always k (visibleWidths t ws))
   unfolding shown
   shown-lengths always k = go always (isVisible (t .style) k)
     where
       go : (a b : Bool) → All (Drawn t ws) (elim b as (λ x. List (List ℕ)) [ true ↦ ruled (t .style) a k (visibleWidths t ws) ∷ [] | false ↦ [] ])
       go true true = (inr (border-length t ws k), tt)
-      go false true = (inl (rule-length t ws k), tt)
+      go false true = (inl (omega (arith, rule-length t ws k)), tt)
       go a false = tt
 
-  text-lengths : (k : ℕ) (rs : List Row) → All (λ r. All (Drawn t ws) (rowText t ws k r)) rs
+  text-lengths : (k n : ℕ) (rs : List Row) → All (RowLimits n) rs → All (λ r. All (Drawn t ws) (rowText t ws k r)) rs
   unfolding rowText areas
-  text-lengths k [] = tt
-  text-lengths k (r ∷ rs) = (
+  text-lengths k n [] h = tt
+  text-lengths k n (r ∷ rs) h = (
     all-map-imp (λ x. Drawn t ws (textLine (t .style) k x)) (Drawn t ws) (textLine (t .style) k) (λ x h. h) (areas t ws r)
-        (all-map (λ x. Drawn t ws (textLine (t .style) k x)) (λ i. map (areaAt t ws r i) (visible t)) (λ i. inl (text-length t ws r k i))
-        (upFrom 0 (height t ws r))),
-    text-lengths k rs,
+        (all-map (λ x. Drawn t ws (textLine (t .style) k x)) (λ i. map (areaAt t ws r i) (visible t)) (λ i. inl (text-bound r (h .0 .each) k i)) (upFrom 0 (height t ws r))),
+    text-lengths k n rs (h .1),
   )
 
   -- over some of the rows
-  pub framed-line-lengths : (rs : List Row) → All (λ l. (length l ≡ lineLength t ws) ⊎ (length l ≡ borderLength t ws)) (framed t ws rs)
+  pub framed-line-lengths : (rs : List Row) → All (RowLimits (length (t .columns))) rs → All (Drawn t ws) (framed t ws rs)
   unfolding framed
-  framed-line-lengths rs = search (all-append, all-headed, all-ruledRows, shown-lengths, text-lengths)
+  framed-line-lengths rs h =
+      let head = text-lengths headerLines (length (t .columns)) (t .header) (T .header-row) in
+      let rest = text-lengths contentLines (length (t .columns)) rs h in
+      search (all-append, all-headed, all-ruledRows, shown-lengths, head, rest)
 
-bytes-longest : (ls : List (List ℕ)) → All (λ l. length l ≤ longestLine) ls → sum (map (λ l. length l + 1) ls) ≤ (longestLine + 1) * length ls
+-- the whole page
+pub page-line-lengths : (t : Table) → TableLimits t → All (Drawn t (contents t)) (pageLines t)
+unfolding pageLines
+page-line-lengths t T = framed-line-lengths t T (contents t) (t .rows) (T .each-row)
+
+bytes-20401 : (ls : List (List ℕ)) → All (λ l. length l ≤ 20400) ls → sum (map (λ l. length l + 1) ls) ≤ 20401 * length ls
 unfolding sum
-bytes-longest [] h = omega arith
-bytes-longest (l ∷ ls) h = omega (arith, bytes-longest ls (h .1), h .0)
+bytes-20401 [] h = omega arith
+bytes-20401 (l ∷ ls) h = omega (arith, bytes-20401 ls (h .1), h .0)
 
 module _ (t : Table) (T : TableLimits t) where
   -- no line is longer, over some of the rows
-  pub framed-line-bound : (rs : List Row) → All (λ l. length l ≤ longestLine) (framed t (contents t) rs)
-  framed-line-bound rs = all-imp (Drawn t (contents t)) (λ l. length l ≤ longestLine) go (framed t (contents t) rs)
-      (framed-line-lengths t (contents t) rs)
+  pub framed-line-bound : (rs : List Row) → All (RowLimits (length (t .columns))) rs → All (λ l. length l ≤ 20400) (framed t (contents t) rs)
+  framed-line-bound rs h = all-imp (Drawn t (contents t)) (λ l. length l ≤ 20400) go (framed t (contents t) rs) (framed-line-lengths t T (contents t) rs h)
     where
-      go : (l : List ℕ) → Drawn t (contents t) l → length l ≤ longestLine
+      go : (l : List ℕ) → Drawn t (contents t) l → length l ≤ 20400
       go l (inl e) = omega (arith, line-length-bound t T)
       go l (inr e) = omega (arith, border-length-bound t T)
 
+  -- line k of the page, its 0A included
+  pub line-at-bound : (k : ℕ) → length (lineAt t k) ≤ 20401
+  unfolding lineAt pageLines
+  line-at-bound k = simp length-append (omega (arith, all-default (λ l. length l ≤ 20400) (pageLines t) k [] (omega arith) (framed-line-bound (t .rows) (T .each-row))))
+
   -- the bytes of lines over some of the rows
-  pub framed-byte-bound : (rs : List Row) → length rs ≤ 100 → All (RowLimits (length (t .columns))) rs → length (closed (framed t (contents t) rs)) ≤
-      mostLines * (longestLine + 1)
+  pub framed-byte-bound : (rs : List Row) → length rs ≤ 100 → All (RowLimits (length (t .columns))) rs → length (closed (framed t (contents t) rs)) ≤ 1000000 * 20401
   framed-byte-bound rs n h =
-      omega (
-        arith,
-        length-closed (framed t (contents t) rs),
-        bytes-longest (framed t (contents t) rs) (framed-line-bound rs),
-        framed-count t T
-            (contents t) rs n h,
-      )
+      omega (arith, length-closed (framed t (contents t) rs), bytes-20401 (framed t (contents t) rs) (framed-line-bound rs h), framed-count t T (contents t) rs n h)
+
+  -- and those of the page
+  pub byte-count-bound : byteCount t ≤ 1000000 * 20401
+  unfolding pageLines
+  byte-count-bound = omega (arith, byte-count-closed t, framed-byte-bound (t .rows) (T .rows) (T .each-row))

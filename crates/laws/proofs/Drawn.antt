@@ -6,15 +6,17 @@ use mathlib.Core.List.{List, [], _∷_, _++_, map, append-assoc, append-cancel-l
 use mathlib.Core.Bool.{Bool, true, false}
 use native.Mathlib.Nat.{not-suc-le-zero}
 use lib.ListN.{length}
-use Rattle.rules.specs.Text.{upFrom, All}
+use Rattle.rules.specs.Text.{textWidth, upFrom, All}
+use Rattle.rules.specs.Limits.{IsText, CellLimits, TableLimits}
 use Rattle.rules.specs.Sheet.{Row, Table}
-use Rattle.rules.specs.Style.{topBorder, headerLines, headerRule, contentLines, rowRule, bottomBorder, glyphAt, isSet, glyph, anyLeft, anyRight, anyJunction, isVisible}
+use Rattle.rules.specs.Style.{topBorder, headerLines, headerRule, contentLines, rowRule, bottomBorder, glyphAt, given, glyph, anyLeft, anyRight, anyJunction, isVisible}
 use Rattle.rules.specs.Widths.{visible}
 use Rattle.rules.specs.Page.{visibleWidth, visibleWidths, height, areaAt, areas, lineOf, joined, edge, ruled, textLine, shown, headed, ruledRows, rowText, framed}
 use Rattle.rules.specs.Words.{Readable}
-use Rattle.laws.proofs.Lists.{all-map}
+use Rattle.laws.proofs.Lists.{all-map, all-imp}
 use Rattle.laws.proofs.Cancel.{line-cancel, border-cancel, runs}
-use Rattle.laws.proofs.Fits.{area-lengths}
+use Rattle.laws.proofs.Fits.{area-widths}
+use Rattle.laws.proofs.Characters.{printable-areaAt}
 use Rattle.laws.proofs.Rows.{Tells, apart, headed-same, rows-same}
 
 given-set : (c : ℕ) → c ≢ 0 → isSet c ≡ true
@@ -26,11 +28,14 @@ pub shown-visible : (S : List ℕ) (always : Bool) (k : ℕ) (vs : List ℕ) →
 unfolding shown
 shown-visible S always k vs h = rw (h, shown)
 
--- a text line tells its areas, where their lengths are known
-text-tells : (S : List ℕ) (k : ℕ) (vs : List ℕ) → Tells (λ x. map length x ≡ vs) (textLine S k)
+-- texts of known widths
+abbrev pub Fits : List ℕ → List (List ℕ) → Type 0
+Fits vs x = (map textWidth x ≡ vs) × All IsText x
+
+-- a text line tells its areas
+text-tells : (S : List ℕ) (k : ℕ) (vs : List ℕ) → Tells (Fits vs) (textLine S k)
 unfolding textLine
-text-tells S k vs x y f g e = line-cancel (edge (anyLeft S) (glyphAt S k)) (edge (anyJunction S) (glyphAt S (k + 1)))
-    (edge (anyRight S) (glyphAt S (k + 2))) x y (f ∙ sym g) e
+text-tells S k vs x y f g e = line-cancel (edge (anyLeft S) (glyphAt S k)) (edge (anyJunction S) (glyphAt S (k + 1))) (edge (anyRight S) (glyphAt S (k + 2))) x y (f .1) (g .1) (f .0 ∙ sym (g .0)) e
 
 -- a line that begins with neither of two characters
 abbrev Unlike : ℕ → ℕ → List ℕ → Type 0
@@ -89,11 +94,15 @@ module _ (S : List ℕ) (R : Readable S) where
       (edge (anyRight S) (glyphAt S (headerRule + 3))) (edge (anyRight S) (glyphAt S (rowRule + 3))) (rw left-drawn at e))
 
 -- every line of a row's areas has the visible widths
-pub areas-fit : (t : Table) (ws : List ℕ) (r : Row) → All (λ x. map length x ≡ visibleWidths t ws) (areas t ws r)
+pub areas-fit : (t : Table) → TableLimits t → (ws : List ℕ) (r : Row) → All CellLimits (r .cells) → All (Fits (visibleWidths t ws)) (areas t ws r)
 unfolding areas visibleWidths
-areas-fit t ws r =
-    all-map (λ x. map length x ≡ map (visibleWidth t ws) (visible t)) (λ k. map (areaAt t ws r k) (visible t))
-    (λ k. area-lengths t ws r k (visible t)) (upFrom 0 (height t ws r))
+areas-fit t T ws r R =
+    all-map (Fits (map (visibleWidth t ws) (visible t))) (λ k. map (areaAt t ws r k) (visible t))
+    (λ k. (area-widths t ws r k (visible t), all-map IsText (areaAt t ws r k) (printable-areaAt t T ws r R k) (visible t))) (upFrom 0 (height t ws r))
+
+-- of all rows
+pub rows-fit : (t : Table) → TableLimits t → (ws : List ℕ) (rs : List Row) → All (λ r. All CellLimits (r .cells)) rs → All (λ r. All (Fits (visibleWidths t ws)) (areas t ws r)) rs
+rows-fit t T ws rs h = all-imp (λ r. All CellLimits (r .cells)) (λ r. All (Fits (visibleWidths t ws)) (areas t ws r)) (areas-fit t T ws) rs h
 
 -- the lines drawn in a style S, for visible widths vs and what each row shows
 unfoldable pub drawn : List ℕ → List ℕ → (Row → List (List (List ℕ))) → List Row → List Row → List (List ℕ)
@@ -129,11 +138,10 @@ module _ (S : List ℕ) (a b : Row → List (List (List ℕ))) (hs is rs qs : Li
 
     -- the others tell the rest
     pub drawn-shown : (vs : List ℕ) → 0 < length vs → All (λ v. 1 ≤ v) vs
-        → ((r : Row) → All (λ x. map length x ≡ vs) (a r)) → ((r : Row) → All (λ x. map length x ≡ vs) (b r)) → All (λ r. 0 < length (a r)) rs → All
-        (λ r. 0 < length (b r)) qs
+        → All (λ r. All (Fits vs) (a r)) hs → All (λ r. All (Fits vs) (b r)) is → All (λ r. All (Fits vs) (a r)) rs → All (λ r. All (Fits vs) (b r)) qs → All (λ r. 0 < length (a r)) rs → All (λ r. 0 < length (b r)) qs
         → drawn S vs a hs rs ≡ drawn S vs b is qs → (map a hs ≡ map b is) × (map a rs ≡ map b qs)
     unfolding drawn
-    drawn-shown vs some wide fa fb la lb e =
+    drawn-shown vs some wide fh fi fr fq la lb e =
         let H = ruled S false headerRule vs in
         let Q = ruled S false rowRule vs in
         let x : shown S false headerRule vs ≡ H ∷ [] = shown-visible S false headerRule vs (R .header-rule) in
@@ -145,7 +153,6 @@ module _ (S : List ℕ) (a b : Row → List (List (List ℕ))) (hs is rs qs : Li
         let ra = ruledRows (λ r. map (textLine S contentLines) (a r)) (Q ∷ []) rs in
         let rb = ruledRows (λ r. map (textLine S contentLines) (b r)) (Q ∷ []) qs in
         let z = shown S true bottomBorder vs in
-        apart (λ x. map length x ≡ vs) (Rule S R) (textLine S headerLines) (textLine S contentLines) H Q (text-tells S headerLines vs)
-        (text-tells S contentLines vs)
-        (header-text S R) (content-text S R) (header-rule S R vs) (row-rule S R vs) (rules-differ S R vs some wide) a b fa fb hs is rs qs la lb
+        apart (Fits vs) (Rule S R) (textLine S headerLines) (textLine S contentLines) H Q (text-tells S headerLines vs) (text-tells S contentLines vs)
+        (header-text S R) (content-text S R) (header-rule S R vs) (row-rule S R vs) (rules-differ S R vs some wide) a b hs is rs qs fh fi fr fq la lb
         (append-cancel-right (ta ++ ra) (tb ++ rb) z (append-assoc ta ra z ∙ g ∙ sym (append-assoc tb rb z)))

@@ -9,11 +9,11 @@ use lib.Dec.{leb}
 use borrow.Author.Tests.{leb-true}
 use Rattle.rules.specs.Text.{textWidth, All}
 use Rattle.rules.specs.Sheet.{Row, Table, columnAt, cellAt}
-use Rattle.rules.specs.Wrap.{wrapLines, shownIndicator, cutLine, cut, exceeds, delimiterOf}
+use Rattle.rules.specs.Wrap.{wrapLines, fitting, cutLine, cut, exceeds, delimiterOf}
 use Rattle.rules.specs.Page.{areaAt, cellLines, wrapped, visibleWidth, alignmentOf}
 use Rattle.laws.proofs.Lists.{all-append, all-take, all-default}
 use Rattle.laws.proofs.Text.{width-nil, width-append, width-first}
-use Rattle.laws.proofs.Sizes.{length-area}
+use Rattle.laws.proofs.Sizes.{width-area}
 use Rattle.laws.proofs.Split.{Short, short-lines}
 
 -- a property of lines that cutting a line to its width and indicator gives, cutting a cell keeps
@@ -52,13 +52,13 @@ short-cell t ws r j =
     (short-lines (getD ws j 0) (delimiterOf t (columnAt t j) (cellAt r j)) (cellAt r j .lines))
 
 -- a cell area has as many characters as its visible width
-pub length-areaAt : (t : Table) (ws : List ℕ) (r : Row) (k j : ℕ) → length (areaAt t ws r k j) ≡ visibleWidth t ws j
+pub width-areaAt : (t : Table) (ws : List ℕ) (r : Row) (k j : ℕ) → textWidth (areaAt t ws r k j) ≡ visibleWidth t ws j
 unfolding areaAt
-length-areaAt t ws r k j =
-    length-area (columnAt t j) (getD ws j 0) (alignmentOf (columnAt t j) (cellAt r j)) (getD (cellLines t ws r j) k [])
+width-areaAt t ws r k j =
+    width-area (columnAt t j) (getD ws j 0) (alignmentOf (columnAt t j) (cellAt r j)) (getD (cellLines t ws r j) k [])
     (all-default (Short (getD ws j 0)) (cellLines t ws r j) k [] (rw width-nil (omega arith)) (short-cell t ws r j))
 
 -- so have the areas of a line, each its own
-pub area-lengths : (t : Table) (ws : List ℕ) (r : Row) (k : ℕ) (js : List ℕ) → map length (map (areaAt t ws r k) js) ≡ map (visibleWidth t ws) js
-area-lengths t ws r k [] = refl
-area-lengths t ws r k (j ∷ js) = let e = length-areaAt t ws r k j in let i = area-lengths t ws r k js in cc
+pub area-widths : (t : Table) (ws : List ℕ) (r : Row) (k : ℕ) (js : List ℕ) → map textWidth (map (areaAt t ws r k) js) ≡ map (visibleWidth t ws) js
+area-widths t ws r k [] = refl
+area-widths t ws r k (j ∷ js) = let e = width-areaAt t ws r k j in let i = area-widths t ws r k js in cc

@@ -10,21 +10,21 @@ use lib.Dec.{ltb, leb}
 use borrow.Author.Tests.{leb-true, leb-false, ltb-true, ltb-false, le-leb, lt-leb, lt-ltb, le-ltb}
 use Rattle.rules.specs.Text.{textWidth, firstOf, restOf}
 use Rattle.rules.specs.Wrap.{Act, join, retry, fill, begin, split, place, pieces, glue, room, tight, full, act, last, weight}
-use Rattle.laws.proofs.Text.{rest-shorter}
+use Rattle.laws.proofs.Text.{width-nil, rest-shorter}
 
 -- what each choice tells of the line l and the next piece p
 pub data View (w d : ℕ) (l p : List ℕ) : Act → Type 0 where
   joins : textWidth (glue d l p) ≤ w → View w d l p join
-  retries : w < textWidth (glue d l p) → tight w l ≡ true → View w d l p retry
-  fills : w < textWidth (glue d l p) → tight w l ≡ false → w < textWidth p → View w d l p fill
-  begins : w < textWidth (glue d l p) → tight w l ≡ false → textWidth p ≤ w → View w d l p begin
+  retries : w < textWidth (glue d l p) → tight w d l ≡ true → View w d l p retry
+  fills : w < textWidth (glue d l p) → tight w d l ≡ false → w < textWidth p → View w d l p fill
+  begins : w < textWidth (glue d l p) → tight w d l ≡ false → textWidth p ≤ w → View w d l p begin
 
 -- and each choice tells it
 pub view : (w d : ℕ) (l p : List ℕ) → View w d l p (act w d l p)
 unfolding act
-view w d l p = go (leb (textWidth (glue d l p)) w) (tight w l) (ltb w (textWidth p)) refl refl refl
+view w d l p = go (leb (textWidth (glue d l p)) w) (tight w d l) (ltb w (textWidth p)) refl refl refl
   where
-    go : (a b c : Bool) → leb (textWidth (glue d l p)) w ≡ a → tight w l ≡ b → ltb w (textWidth p) ≡ c
+    go : (a b c : Bool) → leb (textWidth (glue d l p)) w ≡ a → tight w d l ≡ b → ltb w (textWidth p) ≡ c
         → View w d l p (elim a [ true ↦ join | false ↦ elim b [ true ↦ retry | false ↦ elim c [ true ↦ fill | false ↦ begin ] ] ])
     go true b c i j k = joins (leb-true _ _ i)
     go false true c i j k = retries (leb-false _ _ i) j
@@ -49,16 +49,16 @@ weight-some [] = omega arith
 weight-some (p ∷ ps) = omega (arith, weight-some ps)
 
 -- a line that is tight isn't empty
-pub tight-held : (w : ℕ) (l : List ℕ) → tight w l ≡ true → held l ≡ 1
+pub tight-held : (w d : ℕ) (l : List ℕ) → tight w d l ≡ true → held l ≡ 1
 unfolding tight held
-tight-held w [] e = let z : _≡_ {A = ℕ} 0 1 = cc in absurd (omega arith)
-tight-held w (x ∷ xs) e = refl
+tight-held w d [] e = let z : _≡_ {A = ℕ} 0 1 = cc in absurd (omega arith)
+tight-held w d (x ∷ xs) e = refl
 
 -- where a piece fills a line, some of it goes there
-pub room-some : (w : ℕ) (l : List ℕ) → 0 < w → tight w l ≡ false → 0 < room w l
-unfolding tight
-room-some w [] h e = unfold room in h
-room-some w (x ∷ xs) h e = omega (arith, leb-false (room w (x ∷ xs)) 2 e)
+pub room-some : (w d : ℕ) (l : List ℕ) → 0 < w → tight w d l ≡ false → 0 < room w d l
+unfolding tight room glue
+room-some w d [] h e = omega (arith, width-nil)
+room-some w d (x ∷ xs) h e = omega (arith, leb-false (room w d (x ∷ xs)) 2 e)
 
 module _ (w d : ℕ) (some : 0 < w) where
   abbrev Same : ℕ → ℕ → Type 0
@@ -78,11 +78,11 @@ module _ (w d : ℕ) (some : 0 < w) where
       go : (a : Act) → act w d l p ≡ a → View w d l p a → place (suc f) w d l (p ∷ ps) ≡ place (suc g) w d l (p ∷ ps)
       go join e (joins h) = rw (e, place) (ended (glue d l p) (omega arith) (omega arith) (full w (glue d l p)))
       go retry e (retries h t) =
-          let k = tight-held w l t in
+          let k = tight-held w d l t in
           rw (e, place) (ap (λ r. l ∷ r) (same [] (p ∷ ps) (omega arith) (omega arith)))
       go fill e (fills h t n) =
-          let q = rest-shorter (room w l) p (room-some w l some t) (omega arith) in
-          rw (e, place) (ap (λ r. glue d l (firstOf (room w l) p) ∷ r) (same [] (restOf (room w l) p ∷ ps) (omega arith) (omega arith)))
+          let q = rest-shorter (room w d l) p (room-some w d l some t) (omega arith) in
+          rw (e, place) (ap (λ r. glue d l (firstOf (room w d l) p) ∷ r) (same [] (restOf (room w d l) p ∷ ps) (omega arith) (omega arith)))
       go begin e (begins h t n) = rw (e, place) (ap (λ r. l ∷ r) (ended p (omega arith) (omega arith) (full w p)))
 
   -- two sufficient counts of steps agree
@@ -129,25 +129,24 @@ module _ (w d : ℕ) (some : 0 < w) where
       (omega (arith, held-le (glue d l p))))
 
   -- a line with at most 2 columns free is flushed, and the piece tried again
-  pub run-retry : (l p : List ℕ) (ps : List (List ℕ)) → w < textWidth (glue d l p) → tight w l ≡ true → run w d l (p ∷ ps) ≡ l ∷ run w d [] (p ∷ ps)
+  pub run-retry : (l p : List ℕ) (ps : List (List ℕ)) → w < textWidth (glue d l p) → tight w d l ≡ true → run w d l (p ∷ ps) ≡ l ∷ run w d [] (p ∷ ps)
   unfolding place act held weight
   run-retry l p ps h t =
       let e : act w d l p ≡ retry = rw (lt-leb _ _ h, t, act) in
-      let k = tight-held w l t in
+      let k = tight-held w d l t in
       run-step l p ps ∙ rw (e, place) (ap (λ r. l ∷ r) (place-run (held l + (length p + 1 + weight ps)) [] (p ∷ ps) (omega arith)))
 
   -- a piece longer than the width fills the line, and its rest is tried next
-  pub run-fill : (l p : List ℕ) (ps : List (List ℕ)) → w < textWidth (glue d l p) → tight w l ≡ false → w < textWidth p
-      → run w d l (p ∷ ps) ≡ glue d l (firstOf (room w l) p) ∷ run w d [] (restOf (room w l) p ∷ ps)
+  pub run-fill : (l p : List ℕ) (ps : List (List ℕ)) → w < textWidth (glue d l p) → tight w d l ≡ false → w < textWidth p
+      → run w d l (p ∷ ps) ≡ glue d l (firstOf (room w d l) p) ∷ run w d [] (restOf (room w d l) p ∷ ps)
   unfolding place act held weight
   run-fill l p ps h t n =
       let e : act w d l p ≡ fill = rw (lt-leb _ _ h, t, lt-ltb _ _ n, act) in
-      let q = rest-shorter (room w l) p (room-some w l some t) (omega arith) in
-      run-step l p ps ∙ rw (e, place) (ap (λ r. glue d l (firstOf (room w l) p) ∷ r)
-      (place-run (held l + (length p + 1 + weight ps)) [] (restOf (room w l) p ∷ ps) (omega arith)))
+      let q = rest-shorter (room w d l) p (room-some w d l some t) (omega arith) in
+      run-step l p ps ∙ rw (e, place) (ap (λ r. glue d l (firstOf (room w d l) p) ∷ r) (place-run (held l + (length p + 1 + weight ps)) [] (restOf (room w d l) p ∷ ps) (omega arith)))
 
   -- the line is flushed, the piece begins another, and that one is flushed after it
-  pub run-begin-full : (l p : List ℕ) (ps : List (List ℕ)) → w < textWidth (glue d l p) → tight w l ≡ false → textWidth p ≤ w → w - 2 < textWidth p
+  pub run-begin-full : (l p : List ℕ) (ps : List (List ℕ)) → w < textWidth (glue d l p) → tight w d l ≡ false → textWidth p ≤ w → w - 2 < textWidth p
       → run w d l (p ∷ ps) ≡ l ∷ (p ∷ run w d [] ps)
   unfolding place act full held
   run-begin-full l p ps h t n k =
@@ -155,7 +154,7 @@ module _ (w d : ℕ) (some : 0 < w) where
       run-step l p ps ∙ rw (e, place, lt-ltb _ _ k) (ap (λ r. l ∷ (p ∷ r)) (place-run (held l + (length p + 1 + weight ps)) [] ps (omega arith)))
 
   -- the line is flushed, and the piece begins another, which stays open
-  pub run-begin : (l p : List ℕ) (ps : List (List ℕ)) → w < textWidth (glue d l p) → tight w l ≡ false → textWidth p ≤ w → textWidth p ≤ w - 2
+  pub run-begin : (l p : List ℕ) (ps : List (List ℕ)) → w < textWidth (glue d l p) → tight w d l ≡ false → textWidth p ≤ w → textWidth p ≤ w - 2
       → run w d l (p ∷ ps) ≡ l ∷ run w d p ps
   unfolding place act full
   run-begin l p ps h t n k =

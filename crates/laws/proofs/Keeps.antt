@@ -71,21 +71,14 @@ module _ (q : ℕ → Bool) (d : ℕ) (out : q d ≡ true) where
         go join e (joins i) =
             rw (e, place) (ended (glue d l p) (full w (glue d l p)) (omega arith) ∙ rw (rest-glue l p, append-assoc, rest-append p (flat ps)))
         go retry e (retries i t) =
-            let k = tight-held w l t in
+            let k = tight-held w d l t in
             rw (e, place) (rest-append l (flat (place n w d [] (p ∷ ps))) ∙ ap (λ r. rest l ++ r) (fresh n keeping (p ∷ ps) (omega arith)))
         go fill e (fills i t j) =
-            let s = rest-shorter (room w l) p (room-some w l some t) (omega arith) in
-            let f = fresh n keeping (restOf (room w l) p ∷ ps) (omega arith) in
+            let s = rest-shorter (room w d l) p (room-some w d l some t) (omega arith) in
+            let f = fresh n keeping (restOf (room w d l) p ∷ ps) (omega arith) in
             rw (e, place) (
-            rest-append (glue d l (firstOf (room w l) p)) (flat (place n w d [] (restOf (room w l) p ∷ ps)))
-            ∙ rw (
-              f,
-              rest-glue l (firstOf (room w l) p),
-              rest-append (restOf (room w l) p) (flat ps),
-              rest-append p (flat ps),
-              ← rest-cut (room w l)
-                  p,
-            )
+            rest-append (glue d l (firstOf (room w d l) p)) (flat (place n w d [] (restOf (room w d l) p ∷ ps)))
+            ∙ rw (f, rest-glue l (firstOf (room w d l) p), rest-append (restOf (room w d l) p) (flat ps), rest-append p (flat ps), ← rest-cut (room w d l) p)
             simp append-assoc
             )
         go begin e (begins i t j) =

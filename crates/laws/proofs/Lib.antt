@@ -1,5 +1,6 @@
 pub mod Cases
 pub mod Text
+pub mod Texts
 pub mod Lists
 pub mod Fuel
 pub mod Split

@@ -1,4 +1,4 @@
--- How long the lines of a page are: text lines and rules have one length, borders another. Assumes nothing.
+-- How many bytes the lines of a page have: rules have one length, borders another, text lines that of rules and a byte more for each pair. Assumes nothing.
 use Prim.Native.Nat.{ℕ, _+_, _-_}
 use mathlib.Core.Path.{_≡_, refl, _∙_}
 use mathlib.Core.List.{List, [], _∷_, map}
@@ -9,8 +9,7 @@ use Rattle.rules.specs.Text.{sum, oneIf}
 use Rattle.rules.specs.Sheet.{Row, Table}
 use Rattle.rules.specs.Style.{glyphAt, glyph, anyLeft, anyRight, anyJunction, bordersOf}
 use Rattle.rules.specs.Widths.{visible, borders}
-use Rattle.rules.specs.Page.{edge, joinedMore, joined, lineOf, ruled, textLine, areaAt, visibleWidths, lineLength, borderLength}
-use Rattle.laws.proofs.Fits.{area-lengths}
+use Rattle.rules.specs.Page.{edge, joinedMore, joined, lineOf, ruled, textLine, areaAt, visibleWidths}
 
 length-edge : (b : Bool) (c : ℕ) → length (edge b c) ≡ oneIf b
 length-edge true c = refl
@@ -56,11 +55,19 @@ pub length-textLine : (S : List ℕ) (k : ℕ) (ps : List (List ℕ)) → length
 unfolding textLine bordersOf
 length-textLine S k ps = length-lineOf (anyLeft S) (anyJunction S) (anyRight S) (glyphAt S k) (glyphAt S (k + 1)) (glyphAt S (k + 2)) ps
 
--- a text line of a row
-pub text-length : (t : Table) (ws : List ℕ) (r : Row) (i k : ℕ) → length (textLine (t .style) i (map (areaAt t ws r k) (visible t))) ≡ lineLength t ws
-unfolding lineLength borders visibleWidths
+-- the length of rules, and the columns of text lines: borders drawn and visible widths
+unfoldable pub lineLength : Table → List ℕ → ℕ
+lineLength t ws = borders t + sum (visibleWidths t ws)
+
+-- the length of borders, whose junctions are always drawn
+unfoldable pub borderLength : Table → List ℕ → ℕ
+borderLength t ws = oneIf (anyLeft (t .style)) + oneIf (anyRight (t .style)) + (length (visible t) - 1) + sum (visibleWidths t ws)
+
+-- a text line of a row: borders drawn and the bytes of its areas
+pub text-length : (t : Table) (ws : List ℕ) (r : Row) (i k : ℕ) → length (textLine (t .style) i (map (areaAt t ws r k) (visible t))) ≡ borders t + sum (map length (map (areaAt t ws r k) (visible t)))
+unfolding borders
 text-length t ws r i k =
-    length-textLine (t .style) i (map (areaAt t ws r k) (visible t)) ∙ rw (area-lengths t ws r k (visible t), length-map)
+    length-textLine (t .style) i (map (areaAt t ws r k) (visible t)) ∙ rw length-map
 
 -- a rule
 pub rule-length : (t : Table) (ws : List ℕ) (k : ℕ) → length (ruled (t .style) false k (visibleWidths t ws)) ≡ lineLength t ws

@@ -182,3 +182,16 @@ keep-yes p n h = let e : 0 + n ≡ n = omega arith in rw (upFrom-last 0 n, e) (k
 -- and column n stays out where it fails
 pub keep-no : (p : ℕ → Bool) (n : ℕ) → p n ≡ false → keep p (upFrom 0 (suc n)) ≡ keep p (upFrom 0 n)
 keep-no p n h = let e : 0 + n ≡ n = omega arith in rw (upFrom-last 0 n, e) (keep-append p (upFrom 0 n) (n ∷ []) ∙ rw (one-no p n h, append-nil))
+
+-- two tests, in either order
+pub keep-swap : {A : Type 0} (p q : A → Bool) (xs : List A) → keep p (keep q xs) ≡ keep q (keep p xs)
+unfolding keep
+keep-swap p q [] = refl
+keep-swap {A} p q (x ∷ xs) = go (p x) (q x) refl refl (keep-swap p q xs)
+  where
+    go : (a b : Bool) → p x ≡ a → q x ≡ b → keep p (keep q xs) ≡ keep q (keep p xs)
+        → keep p (elim b as (λ c. List A) [ true ↦ x ∷ keep q xs | false ↦ keep q xs ]) ≡ keep q (elim a as (λ c. List A) [ true ↦ x ∷ keep p xs | false ↦ keep p xs ])
+    go true true e f h = rw (e, f, keep, h)
+    go true false e f h = rw (f, keep, h)
+    go false true e f h = rw (e, keep, h)
+    go false false e f h = h

@@ -82,29 +82,30 @@ map-tells Fits draw tells (x ∷ xs) (y ∷ ys) h k e =
 module _ {X : Type 0} (Fits : X → Type 0) (Rule : List ℕ → Type 0) (head text : X → List ℕ) (hr rr : List ℕ) (head-tells : Tells Fits head)
     (text-tells : Tells Fits text)
     (head-text : (x : X) → ¬ Rule (head x)) (row-text : (x : X) → ¬ Rule (text x)) (hr-rule : Rule hr) (rr-rule : Rule rr) (differ : hr ≢ rr)
-    (a b : Row → List X) (a-fits : (r : Row) → All Fits (a r)) (b-fits : (r : Row) → All Fits (b r)) where
+    (a b : Row → List X) where
+  -- what rows show fits
+  abbrev pub Fitting : (Row → List X) → List Row → Type 0
+  Fitting c rs = All (λ r. All Fits (c r)) rs
+
   stops : (c : Row → List X) (rs : List Row) → Stops Rule (ruledMore (λ r. map text (c r)) (rr ∷ []) rs)
   unfolding ruledMore
   stops c [] = tt
   stops c (r ∷ rs) = rr-rule
 
   -- a row and what follows it
-  row-apart : (r q : Row) (us vs : List (List ℕ)) → Stops Rule us → Stops Rule vs → map text (a r) ++ us ≡ map text (b q) ++ vs → (a r ≡ b q) ×
-      (us ≡ vs)
-  row-apart r q us vs s t e =
-      let c = at-stop Rule (map text (a r)) (map text (b q)) us vs (all-map (λ x. ¬ Rule x) text row-text (a r))
-      (all-map (λ x. ¬ Rule x) text row-text (b q)) s t e in
-      (map-tells Fits text text-tells (a r) (b q) (a-fits r) (b-fits q) (c .0), c .1)
+  row-apart : (r q : Row) → All Fits (a r) → All Fits (b q) → (us vs : List (List ℕ)) → Stops Rule us → Stops Rule vs → map text (a r) ++ us ≡ map text (b q) ++ vs → (a r ≡ b q) × (us ≡ vs)
+  row-apart r q f g us vs s t e =
+      let c = at-stop Rule (map text (a r)) (map text (b q)) us vs (all-map (λ x. ¬ Rule x) text row-text (a r)) (all-map (λ x. ¬ Rule x) text row-text (b q)) s t e in
+      (map-tells Fits text text-tells (a r) (b q) f g (c .0), c .1)
 
-  more-apart : (rs qs : List Row) → ruledMore (λ r. map text (a r)) (rr ∷ []) rs ≡ ruledMore (λ q. map text (b q)) (rr ∷ []) qs → map a rs ≡ map b qs
+  more-apart : (rs qs : List Row) → Fitting a rs → Fitting b qs → ruledMore (λ r. map text (a r)) (rr ∷ []) rs ≡ ruledMore (λ q. map text (b q)) (rr ∷ []) qs → map a rs ≡ map b qs
   unfolding ruledMore
-  more-apart [] [] e = refl
-  more-apart [] (q ∷ qs) e = cc
-  more-apart (r ∷ rs) [] e = cc
-  more-apart (r ∷ rs) (q ∷ qs) e =
-      let c = row-apart r q (ruledMore (λ r. map text (a r)) (rr ∷ []) rs) (ruledMore (λ q. map text (b q)) (rr ∷ []) qs) (stops a rs) (stops b qs) cc
-      in
-      let i = more-apart rs qs (c .1) in
+  more-apart [] [] f g e = refl
+  more-apart [] (q ∷ qs) f g e = cc
+  more-apart (r ∷ rs) [] f g e = cc
+  more-apart (r ∷ rs) (q ∷ qs) f g e =
+      let c = row-apart r q (f .0) (g .0) (ruledMore (λ r. map text (a r)) (rr ∷ []) rs) (ruledMore (λ q. map text (b q)) (rr ∷ []) qs) (stops a rs) (stops b qs) cc in
+      let i = more-apart rs qs (f .1) (g .1) (c .1) in
       cc
 
   -- no row with a line is no row
@@ -115,16 +116,15 @@ module _ {X : Type 0} (Fits : X → Type 0) (Rule : List ℕ → Type 0) (head t
       go [] h e = not-suc-le-zero h
       go (x ∷ xs) h e = let z : _≡_ {A = ℕ} 0 1 = cc in omega arith
 
-  rows-apart : (rs qs : List Row) → All (λ r. 0 < length (a r)) rs → All (λ q. 0 < length (b q)) qs
+  rows-apart : (rs qs : List Row) → Fitting a rs → Fitting b qs → All (λ r. 0 < length (a r)) rs → All (λ q. 0 < length (b q)) qs
       → ruledRows (λ r. map text (a r)) (rr ∷ []) rs ≡ ruledRows (λ q. map text (b q)) (rr ∷ []) qs → map a rs ≡ map b qs
   unfolding ruledRows
-  rows-apart [] [] h k e = refl
-  rows-apart [] (q ∷ qs) h k e = absurd (some-row b q (ruledMore (λ q. map text (b q)) (rr ∷ []) qs) (k .0) cc)
-  rows-apart (r ∷ rs) [] h k e = absurd (some-row a r (ruledMore (λ q. map text (a q)) (rr ∷ []) rs) (h .0) e)
-  rows-apart (r ∷ rs) (q ∷ qs) h k e =
-      let c = row-apart r q (ruledMore (λ r. map text (a r)) (rr ∷ []) rs) (ruledMore (λ q. map text (b q)) (rr ∷ []) qs) (stops a rs) (stops b qs) e
-      in
-      let i = more-apart rs qs (c .1) in
+  rows-apart [] [] f g h k e = refl
+  rows-apart [] (q ∷ qs) f g h k e = absurd (some-row b q (ruledMore (λ q. map text (b q)) (rr ∷ []) qs) (k .0) cc)
+  rows-apart (r ∷ rs) [] f g h k e = absurd (some-row a r (ruledMore (λ q. map text (a q)) (rr ∷ []) rs) (h .0) e)
+  rows-apart (r ∷ rs) (q ∷ qs) f g h k e =
+      let c = row-apart r q (f .0) (g .0) (ruledMore (λ r. map text (a r)) (rr ∷ []) rs) (ruledMore (λ q. map text (b q)) (rr ∷ []) qs) (stops a rs) (stops b qs) e in
+      let i = more-apart rs qs (f .1) (g .1) (c .1) in
       cc
 
   -- the header rule tells that there is a header
@@ -144,21 +144,20 @@ module _ {X : Type 0} (Fits : X → Type 0) (Rule : List ℕ → Type 0) (head t
       next (q ∷ qs) e = unfold ruledMore in differ cc
 
   -- the lines between the borders tell what every row shows, and which of the rows are the header
-  pub apart : (hs is rs qs : List Row) → All (λ r. 0 < length (a r)) rs → All (λ q. 0 < length (b q)) qs
-      → headed (λ r. map head (a r)) (hr ∷ []) hs ++ ruledRows (λ r. map text (a r)) (rr ∷ []) rs ≡ headed (λ q. map head (b q)) (hr ∷ []) is ++
-      ruledRows (λ q. map text (b q)) (rr ∷ []) qs
+  pub apart : (hs is rs qs : List Row) → Fitting a hs → Fitting b is → Fitting a rs → Fitting b qs → All (λ r. 0 < length (a r)) rs → All (λ q. 0 < length (b q)) qs
+      → headed (λ r. map head (a r)) (hr ∷ []) hs ++ ruledRows (λ r. map text (a r)) (rr ∷ []) rs ≡ headed (λ q. map head (b q)) (hr ∷ []) is ++ ruledRows (λ q. map text (b q)) (rr ∷ []) qs
       → (map a hs ≡ map b is) × (map a rs ≡ map b qs)
   unfolding headed
-  apart [] [] rs qs h k e = (refl, rows-apart rs qs h k e)
-  apart [] (i ∷ is) rs qs h k e =
+  apart [] [] rs qs fh fi fr fq h k e = (refl, rows-apart rs qs fr fq h k e)
+  apart [] (i ∷ is) rs qs fh fi fr fq h k e =
       let us = headed (λ q. map head (b q)) (hr ∷ []) is in
       let vs = ruledRows (λ q. map text (b q)) (rr ∷ []) qs in
       absurd (headless b a i (us ++ vs) rs (sym (e ∙ append-assoc (map head (b i)) (hr ∷ us) vs)))
-  apart (j ∷ hs) [] rs qs h k e =
+  apart (j ∷ hs) [] rs qs fh fi fr fq h k e =
       let us = headed (λ r. map head (a r)) (hr ∷ []) hs in
       let vs = ruledRows (λ r. map text (a r)) (rr ∷ []) rs in
       absurd (headless a b j (us ++ vs) qs (sym (append-assoc (map head (a j)) (hr ∷ us) vs) ∙ e))
-  apart (j ∷ hs) (i ∷ is) rs qs h k e =
+  apart (j ∷ hs) (i ∷ is) rs qs fh fi fr fq h k e =
       let us = headed (λ r. map head (a r)) (hr ∷ []) hs in
       let vs = ruledRows (λ r. map text (a r)) (rr ∷ []) rs in
       let ys = headed (λ q. map head (b q)) (hr ∷ []) is in
@@ -166,8 +165,8 @@ module _ {X : Type 0} (Fits : X → Type 0) (Rule : List ℕ → Type 0) (head t
       let c = at-stop Rule (map head (a j)) (map head (b i)) (hr ∷ (us ++ vs)) (hr ∷ (ys ++ zs)) (all-map (λ x. ¬ Rule x) head head-text (a j))
       (all-map (λ x. ¬ Rule x) head head-text (b i))
       hr-rule hr-rule (sym (append-assoc (map head (a j)) (hr ∷ us) vs) ∙ e ∙ append-assoc (map head (b i)) (hr ∷ ys) zs) in
-      let m : a j ≡ b i = map-tells Fits head head-tells (a j) (b i) (a-fits j) (b-fits i) (c .0) in
+      let m : a j ≡ b i = map-tells Fits head head-tells (a j) (b i) (fh .0) (fi .0) (c .0) in
       let n : us ++ vs ≡ ys ++ zs = tail-eq-of-cons-eq (c .1) in
-      let f = apart hs is rs qs h k n in
+      let f = apart hs is rs qs (fh .1) (fi .1) fr fq h k n in
       let g : map a hs ≡ map b is = f .0 in
       (cc, f .1)
