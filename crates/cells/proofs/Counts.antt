@@ -4,18 +4,20 @@ use mathlib.Core.Path.{_≡_, refl, sym, ap, _∙_}
 use mathlib.Core.List.{List, [], _∷_}
 use mathlib.Core.Bool.{Bool, true, false}
 use native.Mathlib.Omega.{arith}
-use lib.ListN.{length, drop, length-append, length-drop}
+use lib.ListN.{length, drop, length-append}
 use lib.Dec.{ltb, eqb}
 use borrow.Author.Tests.{ltb-true}
-use Rattle.rules.specs.Text.{textWidth, restOf}
+use Rattle.rules.specs.Text.{All, textWidth, firstOf, restOf}
 use Rattle.rules.specs.Wrap.{Act, join, retry, fill, begin, onto, pieces, glue, room, tight, full, act, last, place, weight, split, wrapLine, wrapLines}
-use Rattle.laws.proofs.Text.{width-length}
+use Rattle.laws.proofs.Lists.{all-drop}
+use Rattle.laws.proofs.Text.{width-nil, width-le, first-rest, rest-shorter}
 use Rattle.laws.proofs.Fuel.{View, joins, retries, fills, begins, view}
 use Rattle.laws.proofs.Split.{wrap-short, wrap-long}
 use Rattle.rules.specs.Places.{past, parts, byteAt, textAt, lineStop}
 use Rattle.laws.proofs.Stands.{past-onward, lines-onward, text-length}
 use Rattle.table.specs.Walk.{linesIn, linesEnd, firstLine, LinesNext}
 use Rattle.table.specs.declared.records.Lines.{Lines}
+use Rattle.cells.specs.Cell.{TextIs}
 use Rattle.cells.proofs.Laws.{wrap-more, wrap-none, lines-none, lines-some}
 
 -- ---- a line wraps into no more lines than it has bytes, its length included
@@ -30,16 +32,17 @@ unfolding glue
 glue-most d [] p = omega arith
 glue-most d (x ∷ l) p = simp length-append (omega arith)
 
-tight-some : (w : ℕ) (l : List ℕ) → tight w l ≡ true → 0 < length l
+tight-some : (w d : ℕ) (l : List ℕ) → tight w d l ≡ true → 0 < length l
 unfolding tight
-tight-some w [] e = let z : _≡_ {A = ℕ} 0 1 = cc in absurd (omega arith)
-tight-some w (x ∷ l) e = omega arith
+tight-some w d [] e = let z : _≡_ {A = ℕ} 0 1 = cc in absurd (omega arith)
+tight-some w d (x ∷ l) e = omega arith
 
 -- a line that is filled takes a byte of its piece, or has one
-rest-less : (w : ℕ) (l p : List ℕ) → 0 < w → w < textWidth p → length (restOf (room w l) p) + 1 ≤ length l + length p
-unfolding restOf room
-rest-less w [] p pos h = omega (arith, length-drop w p, width-length p)
-rest-less w (x ∷ l) p pos h = omega (arith, length-drop (room w (x ∷ l)) p)
+rest-less : (w d : ℕ) (l p : List ℕ) → 0 < w → w < textWidth p → length (restOf (room w d l) p) + 1 ≤ length l + length p
+rest-less w d [] p pos h = unfold room glue in omega (arith, rest-shorter (w - textWidth []) p (omega (arith, width-nil)) (omega arith))
+rest-less w d (x ∷ l) p pos h =
+    let n = room w d (x ∷ l) in
+    omega (arith, ap length (first-rest n p), length-append (firstOf n p) (restOf n p))
 
 place-most : (n w d : ℕ) → 0 < w → (l : List ℕ) (ps : List (List ℕ)) → length (place n w d l ps) ≤ length l + span ps
 unfolding place last span
@@ -51,14 +54,14 @@ place-most (suc n) w d pos l (p ∷ ps) = go (act w d l p) refl (view w d l p) (
     ended : (m : List ℕ) (b : Bool) → ltb (w - 2) (textWidth m) ≡ b →
         ((m : List ℕ) (qs : List (List ℕ)) → length (place n w d m qs) ≤ length m + span qs)
         → length {A = List ℕ} (elim b as (λ x. List (List ℕ)) [ true ↦ m ∷ place n w d [] ps | false ↦ place n w d m ps ]) ≤ length m + span ps
-    ended m true e ih = omega (arith, ih [] ps, ltb-true (w - 2) (textWidth m) e, width-length m)
+    ended m true e ih = omega (arith, ih [] ps, ltb-true (w - 2) (textWidth m) e, width-le m)
     ended m false e ih = ih m ps
 
     go : (a : Act) → act w d l p ≡ a → View w d l p a → ((m : List ℕ) (qs : List (List ℕ)) → length (place n w d m qs) ≤ length m + span qs)
         → length (place (suc n) w d l (p ∷ ps)) ≤ length l + span (p ∷ ps)
     go join e (joins i) ih = rw (e, place) (omega (arith, ended (glue d l p) (full w (glue d l p)) (unfold full in refl) ih, glue-most d l p))
-    go retry e (retries i t) ih = rw (e, place) (omega (arith, ih [] (p ∷ ps), tight-some w l t))
-    go fill e (fills i t j) ih = rw (e, place) (omega (arith, ih [] (restOf (room w l) p ∷ ps), rest-less w l p pos j))
+    go retry e (retries i t) ih = rw (e, place) (omega (arith, ih [] (p ∷ ps), tight-some w d l t))
+    go fill e (fills i t j) ih = rw (e, place) (omega (arith, ih [] (restOf (room w d l) p ∷ ps), rest-less w d l p pos j))
     go begin e (begins i t j) ih = rw (e, place) (omega (arith, ended p (full w p) (unfold full in refl) ih))
 
 onto-span : (b : ℕ) (ps : List (List ℕ)) → 0 < span ps → span (onto b ps) ≡ suc (span ps)
@@ -83,14 +86,14 @@ split-most w d t pos = omega (arith, place-most (weight (pieces d t)) w d pos []
 -- ---- one cell line
 
 module _ (w d : ℕ) (pos : 0 < w) (t : List ℕ) where
-  pub line-long : (r : ℕ) → w < length t → r ≡ length (split w d t) → (r ≡ length (wrapLine w d t)) × (r ≤ length t + 1)
+  pub line-long : (r : ℕ) → w < textWidth t → r ≡ length (split w d t) → (r ≡ length (wrapLine w d t)) × (r ≤ length t + 1)
   line-long r h e =
-      let k = wrap-long w d t (omega (arith, width-length t)) in
+      let k = wrap-long w d t h in
       (e ∙ sym (ap length k), omega (arith, split-most w d t pos))
 
-  pub line-short : length t ≤ w → (1 ≡ length (wrapLine w d t)) × (1 ≤ length t + 1)
+  pub line-short : textWidth t ≤ w → (1 ≡ length (wrapLine w d t)) × (1 ≤ length t + 1)
   line-short h =
-      let k = wrap-short w d t (omega (arith, width-length t)) in
+      let k = wrap-short w d t h in
       (sym (ap length k), omega arith)
 
 -- ---- some cell lines
@@ -109,22 +112,23 @@ unfolding linesIn linesEnd
 span-most s c h = omega (arith, lines-span s (c .left) (c .at) h)
 
 -- n lines are counted, and these cell lines are left
-pub record Counting (s : List ℕ) (w d : ℕ) (all : Lines) (n : ℕ) (c : Lines) : Type 0 where
+pub record Counting (s : List ℕ) (w d : ℕ) (plain : Bool) (all : Lines) (n : ℕ) (c : Lines) : Type 0 where
   pub count : length (wrapLines w d (linesIn s all)) ≡ n + length (wrapLines w d (linesIn s c))
   pub few : n + span (linesIn s c) ≤ length s
   pub ends : linesEnd s c ≤ length s
+  pub texts : All (TextIs plain) (linesIn s c)
 
-module _ (s : List ℕ) (w d : ℕ) (all : Lines) where
-  pub counting-begins : linesEnd s all ≤ length s → Counting s w d all 0 all
-  counting-begins h = record { count = omega arith; few = omega (arith, span-most s all h); ends = h }
+module _ (s : List ℕ) (w d : ℕ) (plain : Bool) (all : Lines) where
+  pub counting-begins : linesEnd s all ≤ length s → All (TextIs plain) (linesIn s all) → Counting s w d plain all 0 all
+  counting-begins h k = record { count = omega arith; few = omega (arith, span-most s all h); ends = h; texts = k }
 
-  module _ (n : ℕ) (c : Lines) (C : Counting s w d all n c) where
+  module _ (n : ℕ) (c : Lines) (C : Counting s w d plain all n c) where
     pub counting-room : 0 < c .left → (m : ℕ) → m ≤ length (firstLine s c) + 1 → n + m ≤ length s
     unfolding span
     counting-room h m l = omega (arith, C .few, ap span (lines-some s c h))
 
     pub counting-on : 0 < c .left → (m k : ℕ) → m ≡ length (wrapLine w d (firstLine s c)) → m ≤ length (firstLine s c) + 1 → k ≡ n + m → (r : Lines) →
-        LinesNext s c r → Counting s w d all k r
+        LinesNext s c r → Counting s w d plain all k r
     unfolding span
     counting-on h m k e l i r x =
         let z : length (wrapLines w d (linesIn s c)) ≡ m + length (wrapLines w d (drop 1 (linesIn s c))) =
@@ -134,6 +138,7 @@ module _ (s : List ℕ) (w d : ℕ) (all : Lines) where
           count = rw (x .lines) (omega (arith, C .count, z));
           few = rw (x .lines) (omega (arith, C .few, ap span (lines-some s c h)));
           ends = omega (arith, C .ends, x .ends);
+          texts = rw (x .lines) (all-drop (TextIs plain) 1 (linesIn s c) (C .texts));
         }
 
     pub counting-done : c .left ≤ 0 → n ≡ length (wrapLines w d (linesIn s all))

@@ -2,15 +2,18 @@
 use Prim.Native.Nat.{ℕ, suc, _+_, _-_, _≤_, _<_}
 use mathlib.Core.Path.{_≡_, refl, sym, ap, subst, _∙_}
 use mathlib.Core.List.{List, [], _∷_, _++_}
-use mathlib.Core.Bool.{true, false, false≢true}
+use mathlib.Core.Bool.{Bool, true, false, false≢true}
 use native.Mathlib.Omega.{arith}
-use lib.ListN.{length, drop, getD}
-use lib.Seq.{slice, length-slice, take-all, drop-nil, drop-drop}
+use lib.ListN.{length, drop, getD, List·getD-eq-default}
+use lib.Seq.{slice, take-all, drop-nil, drop-drop}
 use lib.Dec.{ltb}
 use borrow.Author.Tests.{lt-ltb}
-use Rattle.rules.specs.Text.{textWidth, flat}
+use Rattle.rules.specs.Text.{All, isSecond, textWidth, flat}
+use Rattle.rules.specs.Limits.{Printable}
 use Rattle.rules.specs.Wrap.{split, wrapLine, wrapLines}
-use Rattle.laws.proofs.Text.{width-length}
+use Rattle.laws.proofs.Lists.{all-drop}
+use Rattle.laws.proofs.Text.{width-nil}
+use Rattle.laws.proofs.Texts.{text-begins}
 use Rattle.laws.proofs.Split.{wrap-short, wrap-long}
 use Rattle.rules.specs.Places.{parts}
 use Rattle.table.specs.Walk.{linesIn, linesEnd, firstLine, LinesNext}
@@ -20,7 +23,7 @@ use Rattle.content_split.specs.Parts.{PartIs}
 use Rattle.content_split.specs.declared.Part.{Part}
 use Rattle.content_split.specs.declared.Part.the-variants.{Line, Nothing}
 use Rattle.content_split.proofs.Steps.{none-at-end}
-use Rattle.cells.specs.Cell.{rest, Inside, Head, HeadIs, noLine, taken, FirstOf, Further}
+use Rattle.cells.specs.Cell.{rest, TextIs, Inside, Head, HeadIs, PartIn, noLine, taken, FirstOf, Further}
 use Rattle.cells.specs.declared.CellCursor.{CellCursor}
 use Rattle.cells.specs.declared.Next.{Next}
 
@@ -37,27 +40,36 @@ module _ (w d : ℕ) (pos : 0 < w) (t : List ℕ) where
         order = omega arith;
         onward = o;
         within = i;
-        fits = omega (arith, l .fits, width-length (slice s e t), length-slice s e t (omega arith));
+        begins = l .whole;
+        fits = l .fits;
         wraps = l .wraps;
       }
   split-head a Nothing e = e
 
   -- a text no wider than the content is one line
-  pub whole-head : length t ≤ w → HeadIs w d t (wrapLine w d t) (Line 0 (length t) (length t))
-  whole-head h =
-      let k : textWidth t ≤ w = omega (arith, width-length t) in
+  pub whole-head : textWidth t ≤ w → HeadIs w d t (wrapLine w d t) (Line 0 (length t) (length t))
+  whole-head k =
       let whole : slice 0 (length t) t ≡ t = take-all (length t) t (omega arith) in
       record {
         order = omega arith;
         onward = omega arith;
         within = omega arith;
+        begins = ap isSecond (List·getD-eq-default t 0 (omega arith));
         fits = rw whole k;
         wraps = wrap-short w d t k ∙ rw (whole, none-at-end w d pos t (length t) (omega arith));
       }
 
   -- a wider one is split
-  pub long-head : w < length t → (p : Part) → PartIs w d t 0 p → HeadIs w d t (wrapLine w d t) p
-  long-head h p q = rw (wrap-long w d t (omega (arith, width-length t))) (split-head 0 p q)
+  pub long-head : w < textWidth t → (p : Part) → PartIs w d t 0 p → HeadIs w d t (wrapLine w d t) p
+  long-head h p q = rw (wrap-long w d t h) (split-head 0 p q)
+
+-- what is found lies in the text
+pub head-in : (w d : ℕ) (t : List ℕ) (ls : List (List ℕ)) (p : Part) → HeadIs w d t ls p → PartIn t p
+head-in w d t ls (Line a e n) l =
+    let o = l .onward in
+    let i = l .within in
+    (l .order, omega arith)
+head-in w d t ls Nothing l = tt
 
 -- ---- some cell lines
 
@@ -81,106 +93,129 @@ lines-none s c h = let e : c .left ≡ 0 = omega arith in rw e
 pub lines-some : (s : List ℕ) (c : Lines) → 0 < c .left → linesIn s c ≡ firstLine s c ∷ drop 1 (linesIn s c)
 lines-some s c h = first-others [] (linesIn s c) (omega (arith, lines-number s c))
 
+-- the first of them is known as they all are
+pub first-known : (plain : Bool) (s : List ℕ) (c : Lines) → 0 < c .left → All (TextIs plain) (linesIn s c) → TextIs plain (firstLine s c)
+first-known plain s c h a = subst (All (TextIs plain)) (lines-some s c h) a .0
+
 some-line : (n : ℕ) → ltb 0 (suc n) ≡ true
 some-line n = lt-ltb 0 (suc n) (omega arith)
 
 module _ (s : List ℕ) (w d : ℕ) where
-  -- the cell lines' first line is found in the first of them, where that comes to the lines ls
-  found-first : (c : Lines) → linesEnd s c ≤ length s → (ls : List (List ℕ)) (a e n : ℕ) → Head w d (firstLine s c) ls a e n
-      → FirstOf s w d (ls ++ wrapLines w d (drop 1 (linesIn s c))) (taken c (Line a e n))
+  -- no cell line is left
+  pub rest-none : (c : CellCursor) → 0 < w → c .lines .left ≤ 0 → rest s w d c ≡ []
   unfolding rest
-  found-first c h ls a e n l =
+  rest-none c pos h = rw (lines-none s (c .lines) h, wrap-none w d, drop-nil, none-at-end w d pos [] 0 (omega arith))
+
+module _ (s : List ℕ) (w d : ℕ) (plain : Bool) where
+  -- the cell lines' first line is found in the first of them, where that comes to the lines ls
+  found-first : (c : Lines) → linesEnd s c ≤ length s → All (TextIs plain) (linesIn s c) → (ls : List (List ℕ)) (a e n : ℕ)
+      → Head w d (firstLine s c) ls a e n → FirstOf s w d (ls ++ wrapLines w d (drop 1 (linesIn s c))) (taken (firstLine s c) c plain (Line a e n))
+  unfolding rest
+  found-first c h k ls a e n l =
       let o = l .onward in
       let i = l .within in
       record {
         first = rw (l .wraps);
         others = rw (l .wraps);
         found = rw (l .wraps) (sym (some-line (length (split w d (drop n (firstLine s c)) ++ wrapLines w d (drop 1 (linesIn s c))))));
-        inside = record { ends = h; from = i };
+        inside = record { ends = h; from = i; begins = l .begins; texts = k };
         order = l .order;
         within = omega arith;
+        columns = refl;
         fits = l .fits;
       }
 
-  -- no cell line is left
-  pub rest-none : (c : CellCursor) → 0 < w → c .lines .left ≤ 0 → rest s w d c ≡ []
-  unfolding rest
-  rest-none c pos h = rw (lines-none s (c .lines) h, wrap-none w d, drop-nil, none-at-end w d pos [] 0 (omega arith))
-
-  pub blank-first : (c : Lines) → 0 < w → linesEnd s c ≤ length s → c .left ≤ 0 → FirstOf s w d [] (noLine c)
+  pub blank-first : (c : Lines) → 0 < w → linesEnd s c ≤ length s → c .left ≤ 0 → FirstOf s w d [] (noLine c plain)
   blank-first c pos h z =
+      let none = lines-none s c z in
       record {
         first = refl;
-        others = sym (rest-none (record { lines = c; from = 0 }) pos z);
+        others = sym (rest-none s w d (record { lines = c; from = 0; plain = plain }) pos z);
         found = refl;
-        inside = record { ends = h; from = omega arith };
+        inside = record { ends = h; from = omega arith; begins = rw none refl; texts = rw none tt };
         order = omega arith;
         within = omega arith;
-        fits = omega (arith, width-length []);
+        columns = sym width-nil;
+        fits = omega (arith, width-nil);
       }
 
-  pub taken-found : (c : Lines) → linesEnd s c ≤ length s → (ls : List (List ℕ)) (p : Part) (r : Next) → HeadIs w d (firstLine s c) ls p → r ≡ taken c
-      p → r .found ≡ true
+  pub taken-found : (c : Lines) → linesEnd s c ≤ length s → All (TextIs plain) (linesIn s c) → (ls : List (List ℕ)) (p : Part) (r : Next)
+      → HeadIs w d (firstLine s c) ls p → r ≡ taken (firstLine s c) c plain p → r .found ≡ true
       → FirstOf s w d (ls ++ wrapLines w d (drop 1 (linesIn s c))) r
-  taken-found c h ls (Line a e n) r l q f = rw q (found-first c h ls a e n l)
-  taken-found c h ls Nothing r l q f = absurd (false≢true (sym (ap (λ (x : Next). x .found) q) ∙ f))
+  taken-found c h k ls (Line a e n) r l q f = rw q (found-first c h k ls a e n l)
+  taken-found c h k ls Nothing r l q f = absurd (false≢true (sym (ap (λ (x : Next). x .found) q) ∙ f))
 
-  pub taken-none : (c : Lines) (t : List ℕ) (ls : List (List ℕ)) (p : Part) (r : Next) → HeadIs w d t ls p → r ≡ taken c p → r .found ≡ false → ls ≡
-      []
+  pub taken-none : (c : Lines) (t : List ℕ) (ls : List (List ℕ)) (p : Part) (r : Next) → HeadIs w d t ls p → r ≡ taken t c plain p → r .found ≡ false
+      → ls ≡ []
   taken-none c t ls (Line a e n) r l q f = absurd (false≢true (sym f ∙ ap (λ (x : Next). x .found) q))
   taken-none c t ls Nothing r l q f = l
 
 -- ---- the first line of some cell lines
 
 -- those before c wrap into no line
-pub record Seeking (s : List ℕ) (w d : ℕ) (all c : Lines) : Type 0 where
+pub record Seeking (s : List ℕ) (w d : ℕ) (plain : Bool) (all c : Lines) : Type 0 where
   pub same : wrapLines w d (linesIn s all) ≡ wrapLines w d (linesIn s c)
   pub ends : linesEnd s c ≤ length s
+  pub texts : All (TextIs plain) (linesIn s c)
 
-module _ (s : List ℕ) (w d : ℕ) (pos : 0 < w) (all : Lines) where
-  pub seeking-begins : linesEnd s all ≤ length s → Seeking s w d all all
-  seeking-begins h = record { same = refl; ends = h }
+module _ (s : List ℕ) (w d : ℕ) (plain : Bool) (pos : 0 < w) (all : Lines) where
+  pub seeking-begins : linesEnd s all ≤ length s → All (TextIs plain) (linesIn s all) → Seeking s w d plain all all
+  seeking-begins h k = record { same = refl; ends = h; texts = k }
 
-  module _ (c : Lines) (S : Seeking s w d all c) where
+  module _ (c : Lines) (S : Seeking s w d plain all c) where
     pub seeking-here : 0 < c .left → wrapLines w d (linesIn s all) ≡ wrapLine w d (firstLine s c) ++ wrapLines w d (drop 1 (linesIn s c))
     seeking-here h = S .same ∙ ap (wrapLines w d) (lines-some s c h) ∙ wrap-more w d (firstLine s c) (drop 1 (linesIn s c))
 
-    module _ (some : 0 < c .left) (t : List ℕ) (e : t ≡ firstLine s c) (p : Part) (l : HeadIs w d t (wrapLine w d t) p) (r : Next) (q : r ≡ taken c p)
-      where
+    module _ (some : 0 < c .left) (t : List ℕ) (e : t ≡ firstLine s c) (p : Part) (l : HeadIs w d t (wrapLine w d t) p) (r : Next)
+      (q : r ≡ taken t c plain p) where
         head-here : HeadIs w d (firstLine s c) (wrapLine w d (firstLine s c)) p
         head-here = subst (λ (x : List ℕ). HeadIs w d x (wrapLine w d x) p) e l
 
-        pub seeking-found : r .found ≡ true → FirstOf s w d (wrapLines w d (linesIn s all)) r
-        seeking-found f = rw (seeking-here some) (taken-found s w d c (S .ends) (wrapLine w d (firstLine s c)) p r head-here q f)
+        taken-here : r ≡ taken (firstLine s c) c plain p
+        taken-here = subst (λ (x : List ℕ). r ≡ taken x c plain p) e q
 
-        pub seeking-on : r .found ≡ false → (k : Lines) → LinesNext s c k → Seeking s w d all k
+        pub seeking-found : r .found ≡ true → FirstOf s w d (wrapLines w d (linesIn s all)) r
+        seeking-found f =
+            rw (seeking-here some)
+            (taken-found s w d plain c (S .ends) (S .texts) (wrapLine w d (firstLine s c)) p r head-here taken-here f)
+
+        pub seeking-on : r .found ≡ false → (k : Lines) → LinesNext s c k → Seeking s w d plain all k
         seeking-on f k n = record {
-          same = seeking-here some ∙ rw (taken-none s w d c (firstLine s c) (wrapLine w d (firstLine s c)) p r head-here q f, ← n .lines);
+          same =
+              seeking-here some
+              ∙ rw (taken-none s w d plain c (firstLine s c) (wrapLine w d (firstLine s c)) p r head-here taken-here f, ← n .lines);
           ends = omega (arith, S .ends, n .ends);
+          texts = rw (n .lines) (all-drop (TextIs plain) 1 (linesIn s c) (S .texts));
         }
 
-    pub seeking-done : c .left ≤ 0 → (r : Next) → r ≡ noLine c → FirstOf s w d (wrapLines w d (linesIn s all)) r
-    seeking-done h r q = rw (S .same, lines-none s c h, wrap-none w d, q) (blank-first s w d c pos (S .ends) h)
+    pub seeking-done : c .left ≤ 0 → (r : Next) → r ≡ noLine c plain → FirstOf s w d (wrapLines w d (linesIn s all)) r
+    seeking-done h r q = rw (S .same, lines-none s c h, wrap-none w d, q) (blank-first s w d plain c pos (S .ends) h)
 
 -- ---- the next line of a cell
 
 module _ (s : List ℕ) (w d : ℕ) (pos : 0 < w) (c : CellCursor) (I : Inside s c) where
-  pub next-ended : c .lines .left ≡ 0 → (r : Next) → r ≡ noLine (c .lines) → FirstOf s w d (rest s w d c) r
-  next-ended h r q = rw (rest-none s w d c pos (omega arith), q) (blank-first s w d (c .lines) pos (I .ends) (omega arith))
+  pub next-ended : c .lines .left ≡ 0 → (r : Next) → r ≡ noLine (c .lines) (c .plain) → FirstOf s w d (rest s w d c) r
+  next-ended h r q =
+      rw (rest-none s w d c pos (omega arith), q) (blank-first s w d (c .plain) (c .lines) pos (I .ends) (omega arith))
 
   rest-is : rest s w d c ≡ split w d (drop (c .from) (firstLine s (c .lines))) ++ wrapLines w d (drop 1 (linesIn s (c .lines)))
   unfolding rest
   rest-is = refl
 
-  module _ (t : List ℕ) (e : t ≡ firstLine s (c .lines)) (p : Part) (l : PartIs w d t (c .from) p) (r : Next) (q : r ≡ taken (c .lines) p) where
-    head-at : HeadIs w d (firstLine s (c .lines)) (split w d (drop (c .from) (firstLine s (c .lines)))) p
-    head-at = subst (λ (x : List ℕ). HeadIs w d x (split w d (drop (c .from) x)) p) e (split-head w d pos t (c .from) p l)
+  module _ (t : List ℕ) (e : t ≡ firstLine s (c .lines)) (p : Part) (l : PartIs w d t (c .from) p) (r : Next)
+    (q : r ≡ taken t (c .lines) (c .plain) p) where
+      head-at : HeadIs w d (firstLine s (c .lines)) (split w d (drop (c .from) (firstLine s (c .lines)))) p
+      head-at = subst (λ (x : List ℕ). HeadIs w d x (split w d (drop (c .from) x)) p) e (split-head w d pos t (c .from) p l)
 
-    pub next-found : r .found ≡ true → FirstOf s w d (rest s w d c) r
-    next-found f = rw rest-is (taken-found s w d (c .lines) (I .ends) _ p r head-at q f)
+      taken-at : r ≡ taken (firstLine s (c .lines)) (c .lines) (c .plain) p
+      taken-at = subst (λ (x : List ℕ). r ≡ taken x (c .lines) (c .plain) p) e q
 
-    pub next-further : r .found ≡ false → (k : Lines) → LinesNext s (c .lines) k → rest s w d c ≡ wrapLines w d (linesIn s k)
-    next-further f k n = rest-is ∙ rw (taken-none s w d (c .lines) (firstLine s (c .lines)) _ p r head-at q f, ← n .lines)
+      pub next-found : r .found ≡ true → FirstOf s w d (rest s w d c) r
+      next-found f = rw rest-is (taken-found s w d (c .plain) (c .lines) (I .ends) (I .texts) _ p r head-at taken-at f)
+
+      pub next-further : r .found ≡ false → (k : Lines) → LinesNext s (c .lines) k → rest s w d c ≡ wrapLines w d (linesIn s k)
+      next-further f k n =
+          rest-is ∙ rw (taken-none s w d (c .plain) (c .lines) (firstLine s (c .lines)) _ p r head-at taken-at f, ← n .lines)
 
 -- ---- lines further on
 

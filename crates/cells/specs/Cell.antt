@@ -2,11 +2,12 @@
 use Prim.Native.Nat.{ℕ, _≤_}
 use mathlib.Core.Path.{_≡_}
 use mathlib.Core.List.{List, [], _∷_, _++_}
-use mathlib.Core.Bool.{true, false}
+use mathlib.Core.Bool.{Bool, true, false}
 use lib.ListN.{length, drop, getD}
 use lib.Seq.{slice}
 use lib.Dec.{ltb}
-use Rattle.rules.specs.Text.{textWidth}
+use Rattle.rules.specs.Text.{All, isSecond, textWidth}
+use Rattle.rules.specs.Limits.{IsText, Plain}
 use Rattle.rules.specs.Wrap.{split, wrapLines}
 use Rattle.table.specs.Walk.{linesIn, linesEnd, firstLine}
 use Rattle.table.specs.declared.records.Lines.{Lines}
@@ -19,10 +20,17 @@ use Rattle.cells.specs.declared.Next.{Next}
 unfoldable pub rest : List ℕ → ℕ → ℕ → CellCursor → List (List ℕ)
 rest s w d c = split w d (drop (c .from) (firstLine s (c .lines))) ++ wrapLines w d (drop 1 (linesIn s (c .lines)))
 
--- a cursor whose cell lines lie in the sheet
+-- what is known of a cell line before it is wrapped: it is a text, without a pair where it is said to be plain
+pub record TextIs (plain : Bool) (t : List ℕ) : Type 0 where
+  pub text : IsText t
+  pub plain : plain ≡ true → Plain t
+
+-- a cursor whose cell lines lie in the sheet; a character begins where it stands
 pub record Inside (s : List ℕ) (c : CellCursor) : Type 0 where
   pub ends : linesEnd s (c .lines) ≤ length s
   pub from : c .from ≤ length (firstLine s (c .lines))
+  pub begins : isSecond (getD (firstLine s (c .lines)) (c .from) 0) ≡ false
+  pub texts : All (TextIs (c .plain)) (linesIn s (c .lines))
 
 -- a wrapped line's text: bytes a to e of the cell line that the cursor stands in
 abbrev pub textOf : List ℕ → CellCursor → ℕ → ℕ → List ℕ
@@ -33,6 +41,7 @@ pub record Head (w d : ℕ) (t : List ℕ) (ls : List (List ℕ)) (a e n : ℕ) 
   pub order : a ≤ e
   pub onward : e ≤ n
   pub within : n ≤ length t
+  pub begins : isSecond (getD t n 0) ≡ false
   pub fits : textWidth (slice a e t) ≤ w
   pub wraps : ls ≡ slice a e t ∷ split w d (drop n t)
 
@@ -40,14 +49,20 @@ abbrev pub HeadIs : ℕ → ℕ → List ℕ → List (List ℕ) → Part → Ty
 HeadIs w d t ls (Line a e n) = Head w d t ls a e n
 HeadIs w d t ls Nothing = ls ≡ []
 
--- no line
-abbrev pub noLine : Lines → Next
-noLine c = record { found = false; start = 0; end = 0; cursor = record { lines = c; from = 0 } }
+-- a part that lies in the text t
+abbrev pub PartIn : List ℕ → Part → Type 0
+PartIn t (Line a e n) = (a ≤ e) × (e ≤ length t)
+PartIn t Nothing = Unit {0}
 
--- what was found in the first of some cell lines
-abbrev pub taken : Lines → Part → Next
-taken c (Line a e n) = record { found = true; start = a; end = e; cursor = record { lines = c; from = n } }
-taken c Nothing = noLine c
+-- no line
+abbrev pub noLine : Lines → Bool → Next
+noLine c plain = record { found = false; start = 0; end = 0; columns = 0; cursor = record { lines = c; from = 0; plain = plain } }
+
+-- what was found in the first of some cell lines, the text t
+abbrev pub taken : List ℕ → Lines → Bool → Part → Next
+taken t c plain (Line a e n) =
+    record { found = true; start = a; end = e; columns = textWidth (slice a e t); cursor = record { lines = c; from = n; plain = plain } }
+taken t c plain Nothing = noLine c plain
 
 -- r is the first of the lines ls, a blank one where there is none, and the cursor has the others before it
 pub record FirstOf (s : List ℕ) (w d : ℕ) (ls : List (List ℕ)) (r : Next) : Type 0 where
@@ -57,6 +72,7 @@ pub record FirstOf (s : List ℕ) (w d : ℕ) (ls : List (List ℕ)) (r : Next) 
   pub inside : Inside s (r .cursor)
   pub order : r .start ≤ r .end
   pub within : r .end ≤ length (firstLine s (r .cursor .lines))
+  pub columns : r .columns ≡ textWidth (textOf s (r .cursor) (r .start) (r .end))
   pub fits : textWidth (textOf s (r .cursor) (r .start) (r .end)) ≤ w
 
 -- wherever t is the first of some lines, r is the first of those n lines further on

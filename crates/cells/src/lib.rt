@@ -4,22 +4,30 @@ use table::records::Lines;
 use table::walk;
 ghost use mathlib.Core.Path.{_≡_};
 ghost use Prim.Native.Nat.{_+_, _≤_, _<_};
+ghost use lib.Dec.{leb};
 ghost use lib.ListN.{length};
+ghost use Rattle.rules.specs.Text.{All, textWidth};
+ghost use Rattle.rules.specs.Limits.{Printable};
 ghost use Rattle.rules.specs.Wrap.{wrapLine, wrapLines};
+ghost use Rattle.text_width.specs.Measure.{IsPlain};
 ghost use Rattle.table.specs.Walk.{linesIn, linesEnd, firstLine};
-ghost use Rattle.cells.specs.Cell.{rest, Inside, HeadIs, taken, noLine, FirstOf, Further};
+ghost use Rattle.cells.specs.Cell.{rest, TextIs, Inside, HeadIs, PartIn, taken, noLine, FirstOf, Further};
 
 // Where the next wrapped line of a cell is looked for: in the first of its cell lines from byte `from` on, and then in those that follow.
+// Plain lines have no pair: their columns are their bytes and needn't be counted.
 pub struct CellCursor {
     pub lines: Lines,
     pub from: usize,
+    pub plain: bool,
 }
 
-// A wrapped line, if there was one: bytes `start` to `end` of the cell line that the cursor stands in. The cursor says where to go on.
+// A wrapped line, if there was one: bytes `start` to `end` of the cell line that the cursor stands in, and their columns. The cursor says where
+// to go on.
 pub struct Next {
     pub found: bool,
     pub start: usize,
     pub end: usize,
+    pub columns: usize,
     pub cursor: CellCursor,
 }
 
@@ -35,86 +43,120 @@ pub fn line_at(sheet: &[u8], lines: Lines) -> &[u8]
 }
 
 // No line, with nothing to come.
-pub fn no_line(lines: Lines) -> Next
-    ensures { λ r. ⌜ r ≡ noLine lines ⌝ }
+fn no_line(lines: Lines, plain: bool) -> Next
+    ensures { λ r. ⌜ r ≡ noLine lines plain ⌝ }
 {
     Next {
         found: false,
         start: 0,
         end: 0,
-        cursor: CellCursor { lines, from: 0 },
+        columns: 0,
+        cursor: CellCursor {
+            lines,
+            from: 0,
+            plain,
+        },
     }
 }
 
-// What was found in the first of some cell lines.
-fn take_part(part: Part, lines: Lines) -> Next
-    ensures { λ r. ⌜ r ≡ taken lines part ⌝ }
+// What was found in the first of some cell lines, which is `text`.
+fn take_part(text: &[u8], part: Part, lines: Lines, plain: bool) -> Next
+    requires { ⌜ PartIn (now text) part × IsPlain plain (now text) ⌝ }
+    ensures { λ r. ⌜ r ≡ taken (now (text .entry)) lines plain part ⌝ }
 {
     match part {
-        Part::Line { start, end, next } => Next {
-            found: true,
-            start,
-            end,
-            cursor: CellCursor { lines, from: next },
-        },
-        Part::Nothing => no_line(lines),
+        Part::Line { start, end, next } => {
+            let columns = text_width::columns(text, start, end, plain);
+            Next {
+                found: true,
+                start,
+                end,
+                columns,
+                cursor: CellCursor {
+                    lines,
+                    from: next,
+                    plain,
+                },
+            }
+        }
+        Part::Nothing => no_line(lines, plain),
     }
+}
+
+// A text with no more bytes than the content has columns fits, whatever stands in it.
+fn fits(text: &[u8], width: usize, plain: bool) -> bool
+    requires { ⌜ IsPlain plain (now text) ⌝ }
+    ensures { λ r. ⌜ r ≡ leb (textWidth (now (text .entry))) width ⌝ }
+{
+    let n = text.len();
+    if n <= width {
+        return true;
+    }
+    text_width::columns(text, 0, n, plain) <= width
 }
 
 // The first line that a cell line wraps into: all of it, where it is no wider than the content.
-fn first_part(text: &[u8], width: usize, delimiter: u8) -> Part
-    requires { ⌜ 0 < width ⌝ }
+fn first_part(text: &[u8], width: usize, delimiter: u8, plain: bool) -> Part
+    requires { ⌜ (0 < width) × (Printable delimiter × TextIs plain (now text)) ⌝ }
     ensures { λ r. ⌜ HeadIs width delimiter (now (text .entry)) (wrapLine width delimiter (now (text .entry))) r ⌝ }
 {
-    if text.len() <= width {
+    if fits(text, width, plain) {
         return Part::Line {
             start: 0,
             end: text.len(),
             next: text.len(),
         };
     }
-    content_split::split_line(text, 0, width, delimiter)
+    content_split::split_line(text, 0, width, delimiter, plain)
 }
 
 // The first wrapped line of some cell lines. One that is made of delimiters alone may wrap into none.
-pub fn first_line(sheet: &[u8], lines: Lines, width: usize, delimiter: u8) -> Next
-    requires { ⌜ (linesEnd (now sheet) lines ≤ length (now sheet)) × (0 < width) ⌝ }
+pub fn first_line(
+    sheet: &[u8],
+    lines: Lines,
+    width: usize,
+    delimiter: u8,
+    plain: bool,
+) -> Next
+    requires { ⌜ (linesEnd (now sheet) lines ≤ length (now sheet)) × All (TextIs plain) (linesIn (now sheet) lines) ⌝ }
+    requires { ⌜ (0 < width) × Printable delimiter ⌝ }
     ensures { λ r. ⌜ FirstOf (now (sheet .entry)) width delimiter (wrapLines width delimiter (linesIn (now (sheet .entry)) lines)) r ⌝ }
 {
     let mut c = lines;
     while 0 < c.left {
-        let part = first_part(walk::line(sheet, c), width, delimiter);
-        let r = take_part(part, c);
+        let text = walk::line(sheet, c);
+        let part = first_part(text, width, delimiter, plain);
+        let r = take_part(text, part, c, plain);
         if r.found {
             return r;
         }
         c = walk::next_line(sheet, c);
     }
-    no_line(c)
+    no_line(c, plain)
 }
 
 // The next wrapped line of a cell.
 pub fn next_line(sheet: &[u8], c: CellCursor, width: usize, delimiter: u8) -> Next
-    requires { ⌜ Inside (now sheet) c × (0 < width) ⌝ }
+    requires { ⌜ Inside (now sheet) c × ((0 < width) × Printable delimiter) ⌝ }
     ensures { λ r. ⌜ FirstOf (now (sheet .entry)) width delimiter (rest (now (sheet .entry)) width delimiter c) r ⌝ }
 {
     let lines = c.lines;
     if lines.left == 0 {
-        return no_line(lines);
+        return no_line(lines, c.plain);
     }
     let text = walk::line(sheet, lines);
-    let part = content_split::split_line(text, c.from, width, delimiter);
-    let r = take_part(part, lines);
+    let part = content_split::split_line(text, c.from, width, delimiter, c.plain);
+    let r = take_part(text, part, lines, c.plain);
     if r.found {
         return r;
     }
     let others = walk::next_line(sheet, lines);
-    first_line(sheet, others, width, delimiter)
+    first_line(sheet, others, width, delimiter, c.plain)
 }
 
 // The line that comes n lines after t, if there is one.
 pub fn further(sheet: &[u8], t: Next, width: usize, delimiter: u8, n: usize) -> Next
-    requires { ⌜ Inside (now sheet) (t .cursor) × (0 < width) ⌝ }
+    requires { ⌜ Inside (now sheet) (t .cursor) × ((0 < width) × Printable delimiter) ⌝ }
     ensures { λ r. ⌜ Further (now (sheet .entry)) width delimiter n t r ⌝ }
 {
     let mut r = t;
@@ -130,26 +172,33 @@ pub fn further(sheet: &[u8], t: Next, width: usize, delimiter: u8, n: usize) -> 
 }
 
 // How many lines a cell line wraps into: no more than it has bytes, its length byte included.
-fn line_height(text: &[u8], width: usize, delimiter: u8) -> usize
-    requires { ⌜ 0 < width ⌝ }
+fn line_height(text: &[u8], width: usize, delimiter: u8, plain: bool) -> usize
+    requires { ⌜ (0 < width) × (Printable delimiter × TextIs plain (now text)) ⌝ }
     ensures { λ r. ⌜ (r ≡ length (wrapLine width delimiter (now (text .entry)))) × (r ≤ length (now (text .entry)) + 1) ⌝ }
 {
-    if width < text.len() {
-        return content_split::count_parts(text, width, delimiter);
+    if fits(text, width, plain) {
+        return 1;
     }
-    1
+    content_split::count_parts(text, width, delimiter, plain)
 }
 
 // How many lines some cell lines wrap into.
-pub fn cell_height(sheet: &[u8], lines: Lines, width: usize, delimiter: u8) -> usize
-    requires { ⌜ (linesEnd (now sheet) lines ≤ length (now sheet)) × (0 < width) ⌝ }
+pub fn cell_height(
+    sheet: &[u8],
+    lines: Lines,
+    width: usize,
+    delimiter: u8,
+    plain: bool,
+) -> usize
+    requires { ⌜ (linesEnd (now sheet) lines ≤ length (now sheet)) × All (TextIs plain) (linesIn (now sheet) lines) ⌝ }
+    requires { ⌜ (0 < width) × Printable delimiter ⌝ }
     ensures { λ r. ⌜ r ≡ length (wrapLines width delimiter (linesIn (now (sheet .entry)) lines)) ⌝ }
 {
     let mut c = lines;
     let mut n: usize = 0;
     while 0 < c.left {
         let text = walk::line(sheet, c);
-        let more = line_height(text, width, delimiter);
+        let more = line_height(text, width, delimiter, plain);
         n += more;
         c = walk::next_line(sheet, c);
     }

@@ -36,7 +36,7 @@ use Rattle.table.proofs.Walks.{rows-number}
 use Rattle.arrangement.specs.declared.Widths.{Widths}
 use Rattle.arrangement.specs.Widths.{styleFrom, arrangedWidths}
 use Rattle.row.specs.View.{View, noColumn as noVisible, visibleAt, shownOf, numberOf, Views}
-use Rattle.row.specs.Open.{Rising, WideAll}
+use Rattle.row.specs.Open.{Rising, UsableAll}
 use Rattle.row.specs.Packed.{columnFrom, viewOf}
 use Rattle.formatting.specs.RowText.{Marks}
 use Rattle.row.proofs.Lent.{set-each}
@@ -238,7 +238,7 @@ module _ (t : Table) (view : View) (T : TableLimits t) (W : Views t (contents t)
         rw (number-at i (omega arith), number-at k l) (visible-rising t i k h (omega arith));
   }
 
-  pub view-wide : WideAll view
+  pub view-wide : UsableAll view
   unfolding shownOf
   view-wide i h = rw (W .each i h) (content-some t (numberOf t i) (inside i h))
 

@@ -11,7 +11,7 @@ use Rattle.rules.specs.Widths.{contents}
 use Rattle.table.specs.Held.{IsAccepted, tableOf}
 use Rattle.table.specs.Walk.{rowsIn, rowsEnd}
 use Rattle.table.specs.declared.records.Rows.{Rows}
-use Rattle.row.specs.Open.{Rising, WideAll}
+use Rattle.row.specs.Open.{Rising, UsableAll}
 use Rattle.row.specs.Packed.{viewOf}
 use Rattle.formatting.specs.RowText.{Marks}
 use Rattle.borders.specs.Rule.{NarrowAll, ruleStyleOf}
@@ -45,7 +45,7 @@ pub record Opened (s : List ℕ) (columns : List (List ℕ)) (p : Page) : Type 0
   pub passes : IsAccepted s
   pub views : Views (tableOf s) (widthsIn s) (viewOf columns (p .count))
   pub rising : Rising (viewOf columns (p .count))
-  pub wide : WideAll (viewOf columns (p .count))
+  pub wide : UsableAll (viewOf columns (p .count))
   pub narrow : NarrowAll (viewOf columns (p .count))
   pub marks : Marks s (p .indicator)
   pub styles : p .styles ≡ stylesOf (tableOf s .style)

@@ -12,7 +12,7 @@ ghost use Rattle.arrangement.specs.Widths.{styleFrom, arrangedWidths};
 ghost use Rattle.row.specs.View.{Views};
 ghost use Rattle.formatting.specs.Stand.{textStyleOf};
 ghost use Rattle.borders.specs.Rule.{ruleStyleOf, NarrowAll};
-ghost use Rattle.row.specs.Open.{Rising, WideAll};
+ghost use Rattle.row.specs.Open.{Rising, UsableAll};
 ghost use Rattle.row.specs.Packed.{viewOf};
 ghost use Rattle.display_info.specs.Opened.{stylesOf, Opened};
 ghost use Rattle.display_info.specs.Opening.{showing};
@@ -194,7 +194,7 @@ fn show_columns(sheet: &[u8], widths: Widths, columns: &mut [[usize; 6]; MOST_CO
     requires { ⌜ IsAccepted (now sheet) × ((widths ≡ arrangedWidths (tableOf (now sheet))) × (length (now columns) ≡ mostColumns)) ⌝ }
     ensures { λ r.
         ⌜ Views (tableOf (now (sheet .entry))) (contents (tableOf (now (sheet .entry)))) (viewOf (now (columns .exit)) r)
-        × (Rising (viewOf (now (columns .exit)) r) × (WideAll (viewOf (now (columns .exit)) r) × NarrowAll (viewOf (now (columns .exit)) r))) ⌝ }
+        × (Rising (viewOf (now (columns .exit)) r) × (UsableAll (viewOf (now (columns .exit)) r) × NarrowAll (viewOf (now (columns .exit)) r))) ⌝ }
 {
     let head = settings::settings(sheet);
     let delimiter = numbers::or_else(head.delimiter, 32);

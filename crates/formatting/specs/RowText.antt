@@ -15,7 +15,7 @@ use Rattle.table.specs.declared.records.Rows.{Rows}
 use Rattle.table.specs.declared.records.Indicator.{Indicator}
 use Rattle.buffer.specs.Put.{byteIf}
 use Rattle.row.specs.View.{View, Views}
-use Rattle.row.specs.Open.{Rising, WideAll}
+use Rattle.row.specs.Open.{Rising, UsableAll}
 use Rattle.row.specs.declared.Pending.{Pending}
 use Rattle.formatting.specs.Stand.{StandsRow}
 use Rattle.formatting.specs.declared.content_format.TextStyle.{TextStyle}
@@ -38,7 +38,7 @@ pub record Drawable (s : List ℕ) (view : View) (c : Rows) : Type 0 where
   pub ends : rowsEnd s c ≤ length s
   pub views : Views (tableOf s) (contents (tableOf s)) view
   pub rising : Rising view
-  pub wide : WideAll view
+  pub wide : UsableAll view
 
 -- the table's indicator
 pub record Marks (s : List ℕ) (i : Indicator) : Type 0 where

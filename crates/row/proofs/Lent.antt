@@ -6,17 +6,19 @@ use mathlib.Core.Bool.{Bool, _||_}
 use native.Mathlib.Omega.{arith}
 use lib.ListN.{length, drop, set, getD, length-map}
 use lib.Dec.{eqb}
+use Rattle.rules.specs.Text.{All}
+use Rattle.rules.specs.Limits.{Printable}
 use Rattle.rules.specs.Sheet.{Cell}
 use Rattle.table.specs.Walk.{cellsIn, cellsEnd, firstCell}
 use Rattle.table.specs.declared.records.Cells.{Cells}
 use Rattle.row.specs.Pending.{noPending, pendingAt}
 use Rattle.row.specs.Height.{cellHeight}
 use Rattle.row.specs.View.{noColumn, visibleAt}
-use Rattle.row.specs.Open.{OpenedAt, Rising, WideAll}
+use Rattle.row.specs.Open.{CellKnown, OpenedAt, Rising, UsableAll}
 use Rattle.row.specs.Packed.{columnFrom, pendingFrom, viewOf, pendingsOf}
 use Rattle.row.specs.declared.VisibleColumn.{VisibleColumn}
 use Rattle.row.specs.declared.Pending.{Pending}
-use Rattle.row.proofs.Open.{Opening, opening-on}
+use Rattle.row.proofs.Open.{Passing, Opening, cells-known, opening-on}
 use Rattle.row.proofs.Heights.{Measuring, measuring-on}
 
 -- ---- one column, one line
@@ -31,33 +33,34 @@ pub column-packed : (v : VisibleColumn) (d a : ℕ) → (d ≡ v .delimiter) × 
 unfolding columnFrom
 column-packed v d a e f = rw (← e .1, ← f .1, e .0, f .0)
 
-pub pending-is : (x : List ℕ) (f : Bool) (d a : ℕ) → f ≡ eqb (getD x 0 0) 1 → d ≡ getD x 6 0 % 256 → a ≡ getD x 7 0 % 256
+pub pending-is : (x : List ℕ) (f p : Bool) (d a : ℕ) → f ≡ eqb (getD x 0 0) 1 → p ≡ eqb (getD x 7 0) 1 → d ≡ getD x 8 0 % 256 → a ≡ getD x 9 0 % 256
     → record {
       line = record {
         found = f;
         start = getD x 1 0;
         end = getD x 2 0;
-        cursor = record
-            { lines = record { at = getD x 3 0; left = getD x 4 0 }; from = getD x 5 0 };
+        columns = getD x 3 0;
+        cursor = record { lines = record { at = getD x 4 0; left = getD x 5 0 }; from = getD x 6 0; plain = p };
       };
       delimiter = d;
       alignment = a;
     } ≡ pendingFrom x
 unfolding pendingFrom
-pending-is x f d a g e h = rw (g, e, h)
+pending-is x f p d a g i e h = rw (g, i, e, h)
 
-pub pending-packed : (t : Pending) (f d a : ℕ) → t .line .found ≡ eqb f 1 → (d ≡ t .delimiter) × (d ≡ d % 256) → (a ≡ t .alignment) × (a ≡ a % 256)
-    → t ≡ pendingFrom (f ∷ t .line .start ∷ t .line .end ∷ t .line .cursor .lines .at ∷ t .line .cursor .lines .left ∷ t .line .cursor .from ∷ d ∷ a ∷
-    [])
+pub pending-packed : (t : Pending) (f p d a : ℕ) → t .line .found ≡ eqb f 1 → t .line .cursor .plain ≡ eqb p 1 → (d ≡ t .delimiter) × (d ≡ d % 256)
+    → (a ≡ t .alignment) × (a ≡ a % 256)
+    → t ≡ pendingFrom (f ∷ t .line .start ∷ t .line .end ∷ t .line .columns ∷ t .line .cursor .lines .at ∷ t .line .cursor .lines .left
+    ∷ t .line .cursor .from ∷ p ∷ d ∷ a ∷ [])
 unfolding pendingFrom
-pending-packed t f d a g e h = rw (← g, ← e .1, ← h .1, e .0, h .0)
+pending-packed t f p d a g i e h = rw (← g, ← i, ← e .1, ← h .1, e .0, h .0)
 
-pub pending-repacked : (x : List ℕ) (t : Pending) (f : ℕ) → t .line .found ≡ eqb f 1
+pub pending-repacked : (x : List ℕ) (t : Pending) (f p : ℕ) → t .line .found ≡ eqb f 1 → t .line .cursor .plain ≡ eqb p 1
     → (t .delimiter ≡ pendingFrom x .delimiter) × (t .alignment ≡ pendingFrom x .alignment)
-    → t ≡ pendingFrom (f ∷ t .line .start ∷ t .line .end ∷ t .line .cursor .lines .at ∷ t .line .cursor .lines .left ∷ t .line .cursor .from ∷
-    getD x 6 0 ∷ getD x 7 0 ∷ [])
+    → t ≡ pendingFrom (f ∷ t .line .start ∷ t .line .end ∷ t .line .columns ∷ t .line .cursor .lines .at ∷ t .line .cursor .lines .left
+    ∷ t .line .cursor .from ∷ p ∷ getD x 8 0 ∷ getD x 9 0 ∷ [])
 unfolding pendingFrom
-pending-repacked x t f g e = rw (← g, ← e .0, ← e .1)
+pending-repacked x t f p g i e = rw (← g, ← i, ← e .0, ← e .1)
 
 -- ---- lists of them
 
@@ -93,14 +96,19 @@ pendings-length st = length-map st pendingFrom
 
 -- ---- the loops: what they have read is the column and the line that their invariants speak of
 
-module _ (s : List ℕ) (cols : List (List ℕ)) (n : ℕ) (R : Rising (viewOf cols n)) (W : WideAll (viewOf cols n)) (xs : List Cell) (left : Cells)
+module _ (s : List ℕ) (cols : List (List ℕ)) (n : ℕ) (R : Rising (viewOf cols n)) (W : UsableAll (viewOf cols n)) (xs : List Cell) (left : Cells)
     (passed : ℕ) (i : ℕ)
     (h : i < n) (v : VisibleColumn) (e : v ≡ columnFrom (getD cols i [])) where
   at-i : v ≡ visibleAt (viewOf cols n) i
   at-i = e ∙ sym (column-at cols n i)
 
-  pub cell-wide : 0 < v .width
+  pub cell-wide : (0 < v .width) × Printable (v .delimiter)
   cell-wide = rw at-i (W i h)
+
+  -- the cells from visible column i on
+  pub known-here : (plain : Bool) → All (CellKnown plain) xs → Passing s (viewOf cols n) xs left passed i
+      → (next : Cells) → cellsIn s next ≡ drop (v .number - passed) (cellsIn s left) → All (CellKnown plain) (cellsIn s next)
+  known-here plain k P next a = cells-known s (viewOf cols n) xs left passed i P h next (rw at-i at a) plain k
 
   module _ (st : List (List ℕ)) (more : Bool) (k : ℕ) (O : Opening s (viewOf cols n) xs k (pendingsOf st) left passed more i) where
     pub open-order : passed ≤ v .number

@@ -1,8 +1,8 @@
 -- A row's cells opened, exit by exit and column by column. Assumes nothing.
 use Prim.Native.Nat.{ℕ, zero, suc, _+_, _-_, _≤_, _<_}
-use mathlib.Core.Path.{_≡_, refl, sym, ap, _∙_}
+use mathlib.Core.Path.{_≡_, refl, sym, ap, subst, _∙_}
 use mathlib.Core.List.{List, [], _∷_}
-use mathlib.Core.Logic.{⊎-elim}
+use mathlib.Core.Logic.{inl, inr, ⊎-elim}
 use mathlib.Core.Bool.{Bool, true, false, _||_}
 use native.Mathlib.Omega.{arith}
 use native.Mathlib.Numerals.{add-one}
@@ -11,21 +11,24 @@ use lib.ListN.{length, drop, getD, set, length-set}
 use lib.Seq.{getD-set-same, getD-set-other, getD-drop, drop-drop, drop-nil}
 use lib.Dec.{eqb}
 use borrow.Author.Tests.{ne-eqb}
-use Rattle.rules.specs.Text.{orElse}
+use Rattle.rules.specs.Text.{All, orElse}
+use Rattle.rules.specs.Limits.{Printable, Optional}
 use Rattle.rules.specs.Sheet.{Cell, noCell, mostColumns}
 use Rattle.rules.specs.Wrap.{wrapLines}
-use Rattle.laws.proofs.Text.{width-length}
+use Rattle.laws.proofs.Lists.{all-drop}
+use Rattle.laws.proofs.Text.{width-nil}
 use Rattle.laws.proofs.Split.{wrap-short}
 use Rattle.rules.specs.Places.{past, parts}
-use Rattle.cells.specs.Cell.{rest, FirstOf, Further}
+use Rattle.cells.specs.Cell.{TextIs, rest, FirstOf, Further}
 use Rattle.cells.specs.declared.Next.{Next}
-use Rattle.cells.proofs.Laws.{rest-none, wrap-more, wrap-none}
+use Rattle.cells.proofs.Laws.{rest-none, wrap-more, wrap-none, first-others}
+use Rattle.table.proofs.Walks.{cells-number}
 use Rattle.table.specs.Walk.{cellsIn, cellsEnd, linesIn, linesEnd, firstCell, CellIs}
 use Rattle.table.specs.declared.records.Cells.{Cells}
 use Rattle.table.specs.declared.records.Cell as records
 use Rattle.row.specs.View.{View, visibleAt}
 use Rattle.row.specs.Pending.{noPending, pendingAt, anyFound, remaining}
-use Rattle.row.specs.Open.{OpenedAt, OpenedRow, Rising, missing}
+use Rattle.row.specs.Open.{CellKnown, OpenedAt, OpenedRow, Rising, missing}
 use Rattle.row.specs.declared.VisibleColumn.{VisibleColumn}
 use Rattle.row.specs.declared.Pending.{Pending}
 use Rattle.row.proofs.Stand.{stands-next, same-below}
@@ -33,7 +36,7 @@ use Rattle.row.proofs.Stand.{stands-next, same-below}
 -- ---- one cell
 
 pub blank-line : (w d : ℕ) → wrapLines w d ([] ∷ []) ≡ [] ∷ []
-blank-line w d = wrap-more w d [] [] ∙ rw (wrap-short w d [] (omega (arith, width-length [])), wrap-none w d)
+blank-line w d = wrap-more w d [] [] ∙ rw (wrap-short w d [] (omega (arith, width-nil)), wrap-none w d)
 
 pub no-cells : (s : List ℕ) (c : Cells) → c .left ≡ 0 → firstCell s c ≡ noCell
 unfolding cellsIn parts
@@ -44,10 +47,28 @@ only-first : (n : ℕ) (ls : List (List ℕ)) → ls ≡ [] → elim (eqb n 0) a
 only-first zero ls e = ap (λ l. [] ∷ l) e
 only-first (suc n) ls e = rw (ne-eqb (suc n) 0 (λ z. omega arith)) (sym (drop-nil n))
 
+-- a cell's delimiter, or its column's
+pub or-printable : (a b : ℕ) → Optional a → Printable b → Printable (orElse a b)
+or-printable zero b o p = p
+or-printable (suc a) b (inl e) p = absurd (omega arith)
+or-printable (suc a) b (inr h) p = h
+
+-- the first of some cells is known as they all are
+pub cell-known : (plain : Bool) (s : List ℕ) (c : Cells) → 0 < c .left → All (CellKnown plain) (cellsIn s c) → CellKnown plain (firstCell s c)
+cell-known plain s c h k = subst (All (CellKnown plain)) (first-others noCell (cellsIn s c) (omega (arith, cells-number s c))) k .0
+
+module _ (plain : Bool) (s : List ℕ) (c : Cells) (x : records.Cell) (X : CellIs s c x) (K : CellKnown plain (firstCell s c)) where
+  pub texts-here : All (TextIs plain) (linesIn s (x .lines))
+  texts-here = rw (X .lines) (K .texts)
+
+  pub delimiter-here : (v : VisibleColumn) (d : ℕ) → Printable (v .delimiter) → d ≡ orElse (x .delimiter) (v .delimiter) → Printable d
+  delimiter-here v d p e = rw (e, X .delimiter) (or-printable (firstCell s c .delimiter) (v .delimiter) (K .delimiter) p)
+
 -- a missing cell
-pub opened-missing : (s : List ℕ) (c : Cells) (v : VisibleColumn) (n : ℕ) → 0 < v .width → c .left ≡ 0 → OpenedAt s (firstCell s c) v n (missing v n)
+pub opened-missing : (s : List ℕ) (c : Cells) (v : VisibleColumn) (n : ℕ) → 0 < v .width → Printable (v .delimiter) → c .left ≡ 0
+    → OpenedAt s (firstCell s c) v n (missing v n)
 unfolding remaining linesEnd past linesIn parts
-opened-missing s c v n wide h =
+opened-missing s c v n wide prints h =
     let w = v .width in
     let d = v .delimiter in
     let f : rest s w d (missing v n .line .cursor) ≡ [] = rest-none s w d (missing v n .line .cursor) wide (omega arith) in
@@ -58,8 +79,15 @@ opened-missing s c v n wide h =
         none = λ e. (f, refl);
         ready = record {
           wide = wide;
-          line = record { ends = omega arith; order = omega arith; within = omega arith; fits = omega (arith, width-length []) };
-          inside = record { ends = omega arith; from = omega arith };
+          delimiter = prints;
+          line = record {
+            ends = omega arith;
+            order = omega arith;
+            within = omega arith;
+            columns = sym width-nil;
+            fits = omega (arith, width-nil);
+          };
+          inside = record { ends = omega arith; from = omega arith; begins = refl; texts = tt };
         };
       };
       delimiter = refl;
@@ -68,15 +96,16 @@ opened-missing s c v n wide h =
 
 -- a cell at its line n
 pub opened-cell : (s : List ℕ) (c : Cells) (x : records.Cell) → CellIs s c x → (v : VisibleColumn) (n : ℕ) → 0 < v .width → (first : Next) (r : Pending)
+    → Printable (r .delimiter)
     → r .delimiter ≡ orElse (x .delimiter) (v .delimiter) → r .alignment ≡ orElse (x .alignment) (v .alignment)
     → FirstOf s (v .width) (r .delimiter) (wrapLines (v .width) (r .delimiter) (linesIn s (x .lines))) first
     → Further s (v .width) (r .delimiter) n first (r .line) → OpenedAt s (firstCell s c) v n r
-opened-cell s c x X v n wide first r e f g m =
+opened-cell s c x X v n wide first r prints e f g m =
     let y : r .delimiter ≡ orElse (firstCell s c .delimiter) (v .delimiter) = e ∙ ap (λ n. orElse n (v .delimiter)) (X .delimiter) in
     let z : r .alignment ≡ orElse (firstCell s c .alignment) (v .alignment) = f ∙ ap (λ n. orElse n (v .alignment)) (X .alignment) in
     let ls = wrapLines (v .width) (r .delimiter) (firstCell s c .lines) in
     record {
-      stands = rw (← y) (stands-next s v ls n (r .delimiter) (drop n ls) r wide refl (m ls (rw (X .lines) at g)) refl);
+      stands = rw (← y) (stands-next s v ls n (r .delimiter) (drop n ls) r wide prints refl (m ls (rw (X .lines) at g)) refl);
       delimiter = y;
       alignment = z;
     }
@@ -108,6 +137,10 @@ module _ (s : List ℕ) (view : View) (xs : List Cell) (left : Cells) (passed i 
       let n = visibleAt view i .number in
       let y : n + 0 ≡ n = omega arith in
       ap (λ l. getD l 0 noCell) cells-here ∙ getD-drop n xs 0 noCell ∙ ap (λ q. getD xs q noCell) y
+
+  -- what is known of all cells is known of those that are left
+  pub cells-known : (plain : Bool) → All (CellKnown plain) xs → All (CellKnown plain) (cellsIn s next)
+  cells-known plain k = rw cells-here (all-drop (CellKnown plain) (visibleAt view i .number) xs k)
 
   pub passing-on : Rising view → cellsEnd s next ≡ cellsEnd s left → Passing s view xs next (visibleAt view i .number) (i + 1)
   passing-on R f = record { within = omega arith; cells = cells-here; ends = omega (arith, P .ends); order = λ q a b. R .order i q (omega arith) b }

@@ -7,6 +7,7 @@ use native.Mathlib.Omega.{arith}
 use lib.ListN.{length, set, drop}
 use lib.Seq.{getD-set-other}
 use borrow.Author.Tests.{lt-ltb}
+use Rattle.rules.specs.Limits.{Printable}
 use Rattle.cells.specs.Cell.{FirstOf}
 use Rattle.row.specs.Pending.{pendingText, following, noPending, Ready, anyFound, remaining, Stands}
 use Rattle.row.specs.declared.VisibleColumn.{VisibleColumn}
@@ -14,14 +15,15 @@ use Rattle.row.specs.declared.Pending.{Pending}
 
 -- the first of some lines is pending, those being a cell's from j on
 pub stands-next : (s : List ℕ) (v : VisibleColumn) (ls : List (List ℕ)) (j d : ℕ) (next : List (List ℕ)) (r : Pending)
-    → 0 < v .width → next ≡ drop j ls → FirstOf s (v .width) d next (r .line) → r .delimiter ≡ d → Stands s v ls j r
+    → 0 < v .width → Printable d → next ≡ drop j ls → FirstOf s (v .width) d next (r .line) → r .delimiter ≡ d → Stands s v ls j r
 unfolding remaining
-stands-next s v ls j d next r wide e a f = go next refl
+stands-next s v ls j d next r wide prints e a f = go next refl
   where
     ready : Ready s v r
     ready = record {
       wide = wide;
-      line = record { ends = a .inside .ends; order = a .order; within = a .within; fits = a .fits };
+      delimiter = rw f prints;
+      line = record { ends = a .inside .ends; order = a .order; within = a .within; columns = a .columns; fits = a .fits };
       inside = a .inside;
     }
 

@@ -18,17 +18,18 @@ columnFrom x = record {
   alignment = getD x 5 0 % 256;
 }
 
--- a pending line of eight numbers
+-- a pending line of ten numbers
 unfoldable pub pendingFrom : List ℕ → Pending
 pendingFrom x = record {
   line = record {
     found = eqb (getD x 0 0) 1;
     start = getD x 1 0;
     end = getD x 2 0;
-    cursor = record { lines = record { at = getD x 3 0; left = getD x 4 0 }; from = getD x 5 0 };
+    columns = getD x 3 0;
+    cursor = record { lines = record { at = getD x 4 0; left = getD x 5 0 }; from = getD x 6 0; plain = eqb (getD x 7 0) 1 };
   };
-  delimiter = getD x 6 0 % 256;
-  alignment = getD x 7 0 % 256;
+  delimiter = getD x 8 0 % 256;
+  alignment = getD x 9 0 % 256;
 }
 
 abbrev pub viewOf : List (List ℕ) → ℕ → View

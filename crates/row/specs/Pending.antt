@@ -5,6 +5,7 @@ use mathlib.Core.List.{List, [], _∷_}
 use mathlib.Core.Bool.{Bool, true, false, _||_}
 use lib.ListN.{length, getD, drop}
 use Rattle.rules.specs.Text.{textWidth}
+use Rattle.rules.specs.Limits.{Printable}
 use Rattle.table.specs.Walk.{linesEnd, firstLine}
 use Rattle.cells.specs.Cell.{Inside, rest, textOf}
 use Rattle.row.specs.declared.VisibleColumn.{VisibleColumn}
@@ -13,7 +14,13 @@ use Rattle.row.specs.declared.Pending.{Pending}
 -- what a list has past its end
 abbrev pub noPending : Pending
 noPending = record {
-  line = record { found = false; start = 0; end = 0; cursor = record { lines = record { at = 0; left = 0 }; from = 0 } };
+  line = record {
+    found = false;
+    start = 0;
+    end = 0;
+    columns = 0;
+    cursor = record { lines = record { at = 0; left = 0 }; from = 0; plain = false };
+  };
   delimiter = 0;
   alignment = 0;
 }
@@ -30,6 +37,7 @@ pub record InSheet (s : List ℕ) (w : ℕ) (t : Pending) : Type 0 where
   pub ends : linesEnd s (t .line .cursor .lines) ≤ length s
   pub order : t .line .start ≤ t .line .end
   pub within : t .line .end ≤ length (firstLine s (t .line .cursor .lines))
+  pub columns : t .line .columns ≡ textWidth (pendingText s t)
   pub fits : textWidth (pendingText s t) ≤ w
 
 -- the lines that follow the pending one
@@ -39,6 +47,7 @@ following s w t = rest s w (t .delimiter) (t .line .cursor)
 -- the column has a width, and its cell stands in the sheet
 pub record Ready (s : List ℕ) (v : VisibleColumn) (t : Pending) : Type 0 where
   pub wide : 0 < v .width
+  pub delimiter : Printable (t .delimiter)
   pub line : InSheet s (v .width) t
   pub inside : Inside s (t .line .cursor)
 

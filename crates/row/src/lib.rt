@@ -4,11 +4,13 @@ pub mod packed;
 ghost use mathlib.Core.Path.{_≡_};
 ghost use Prim.Native.Nat.{_≤_, _<_};
 ghost use lib.ListN.{length};
+ghost use Rattle.rules.specs.Text.{All};
 ghost use Rattle.rules.specs.Sheet.{mostColumns};
+ghost use Rattle.rules.specs.Limits.{Printable};
 ghost use Rattle.table.specs.Walk.{cellsIn, cellsEnd, firstCell};
 ghost use Rattle.row.specs.Height.{cellHeight, heightUpTo};
 ghost use Rattle.row.specs.Pending.{anyFound};
-ghost use Rattle.row.specs.Open.{OpenedAt, OpenedRow, Rising, WideAll, missing};
+ghost use Rattle.row.specs.Open.{CellKnown, OpenedAt, OpenedRow, Rising, UsableAll, missing};
 ghost use Rattle.row.specs.Packed.{viewOf, pendingsOf};
 use cells::CellCursor;
 use cells::Next;
@@ -39,11 +41,16 @@ fn missing_cell(v: VisibleColumn, n: usize) -> Pending
     ensures { λ r. ⌜ r ≡ missing v n ⌝ }
 {
     let lines = Lines { at: 0, left: 0 };
-    let cursor = CellCursor { lines, from: 0 };
+    let cursor = CellCursor {
+        lines,
+        from: 0,
+        plain: true,
+    };
     let line = Next {
         found: n == 0,
         start: 0,
         end: 0,
+        columns: 0,
         cursor,
     };
     Pending {
@@ -54,8 +61,9 @@ fn missing_cell(v: VisibleColumn, n: usize) -> Pending
 }
 
 // The first of the cells at its line n.
-fn open_cell(sheet: &[u8], cells: Cells, v: VisibleColumn, n: usize) -> Pending
-    requires { ⌜ (0 < v .width) × (cellsEnd (now sheet) cells ≤ length (now sheet)) ⌝ }
+fn open_cell(sheet: &[u8], cells: Cells, v: VisibleColumn, n: usize, plain: bool) -> Pending
+    requires { ⌜ (0 < v .width) × Printable (v .delimiter) ⌝ }
+    requires { ⌜ (cellsEnd (now sheet) cells ≤ length (now sheet)) × All (CellKnown plain) (cellsIn (now sheet) cells) ⌝ }
     ensures { λ r. ⌜ OpenedAt (now (sheet .entry)) (firstCell (now (sheet .entry)) cells) v n r ⌝ }
 {
     if cells.left == 0 {
@@ -65,7 +73,7 @@ fn open_cell(sheet: &[u8], cells: Cells, v: VisibleColumn, n: usize) -> Pending
     let lines = x.lines;
     let delimiter = numbers::or_else(x.delimiter, v.delimiter);
     let alignment = numbers::or_else(x.alignment, v.alignment);
-    let first = cells::first_line(sheet, lines, v.width, delimiter);
+    let first = cells::first_line(sheet, lines, v.width, delimiter, plain);
     let line = cells::further(sheet, first, v.width, delimiter, n);
     Pending {
         line,
@@ -81,10 +89,11 @@ pub fn format_row(
     count: usize,
     cells: Cells,
     n: usize,
-    state: &mut [[usize; 8]; MOST_COLUMNS],
+    plain: bool,
+    state: &mut [[usize; 10]; MOST_COLUMNS],
 ) -> bool
-    requires { ⌜ Rising (viewOf (now columns) count) × (WideAll (viewOf (now columns) count) × (cellsEnd (now sheet) cells ≤ length (now sheet))) ⌝ }
-    requires { ⌜ length (now state) ≡ mostColumns ⌝ }
+    requires { ⌜ Rising (viewOf (now columns) count) × (UsableAll (viewOf (now columns) count) × (length (now state) ≡ mostColumns)) ⌝ }
+    requires { ⌜ (cellsEnd (now sheet) cells ≤ length (now sheet)) × All (CellKnown plain) (cellsIn (now sheet) cells) ⌝ }
     ensures { λ r.
         ⌜ OpenedRow (now (sheet .entry)) (cellsIn (now (sheet .entry)) cells) (viewOf (now (columns .entry)) count) n (pendingsOf (now (state .exit)))
         × (r ≡ anyFound (pendingsOf (now (state .exit))) count) ⌝ }
@@ -99,7 +108,7 @@ pub fn format_row(
         let number = v.number;
         left = walk::skip_cells(sheet, left, number - passed);
         passed = number;
-        let t = open_cell(sheet, left, v, n);
+        let t = open_cell(sheet, left, v, n, plain);
         let line = t.line;
         more = numbers::either(more, line.found);
         let z = packed::pack_pending(t);
@@ -110,8 +119,9 @@ pub fn format_row(
 }
 
 // The lines of the first of the cells, wrapped. A missing cell is one blank line.
-fn open_height(sheet: &[u8], from: Cells, v: VisibleColumn) -> usize
-    requires { ⌜ (0 < v .width) × (cellsEnd (now sheet) from ≤ length (now sheet)) ⌝ }
+fn open_height(sheet: &[u8], from: Cells, v: VisibleColumn, plain: bool) -> usize
+    requires { ⌜ (0 < v .width) × Printable (v .delimiter) ⌝ }
+    requires { ⌜ (cellsEnd (now sheet) from ≤ length (now sheet)) × All (CellKnown plain) (cellsIn (now sheet) from) ⌝ }
     ensures { λ r. ⌜ r ≡ cellHeight (firstCell (now (sheet .entry)) from) v ⌝ }
 {
     if from.left == 0 {
@@ -120,7 +130,7 @@ fn open_height(sheet: &[u8], from: Cells, v: VisibleColumn) -> usize
     let x = walk::cell(sheet, from);
     let lines = x.lines;
     let delimiter = numbers::or_else(x.delimiter, v.delimiter);
-    cells::cell_height(sheet, lines, v.width, delimiter)
+    cells::cell_height(sheet, lines, v.width, delimiter, plain)
 }
 
 // The most lines of a visible column's cell, the row's limit left aside.
@@ -129,8 +139,10 @@ pub fn row_height(
     columns: &[[usize; 6]; MOST_COLUMNS],
     count: usize,
     from: Cells,
+    plain: bool,
 ) -> usize
-    requires { ⌜ Rising (viewOf (now columns) count) × (WideAll (viewOf (now columns) count) × (cellsEnd (now sheet) from ≤ length (now sheet))) ⌝ }
+    requires { ⌜ Rising (viewOf (now columns) count) × UsableAll (viewOf (now columns) count) ⌝ }
+    requires { ⌜ (cellsEnd (now sheet) from ≤ length (now sheet)) × All (CellKnown plain) (cellsIn (now sheet) from) ⌝ }
     ensures { λ r. ⌜ r ≡ heightUpTo (cellsIn (now (sheet .entry)) from) (viewOf (now (columns .entry)) count) count ⌝ }
 {
     let mut left = from;
@@ -143,7 +155,7 @@ pub fn row_height(
         let number = v.number;
         left = walk::skip_cells(sheet, left, number - passed);
         passed = number;
-        let lines = open_height(sheet, left, v);
+        let lines = open_height(sheet, left, v, plain);
         most = numbers::greater(most, lines);
         i += 1;
     }

@@ -50,42 +50,59 @@ pub fn pack_column(v: VisibleColumn) -> [usize; 6]
     [v.number, v.width, v.left, v.right, d, a]
 }
 
-// Whether there is a line, its start and end, the cell lines' place and count, where to go on, delimiter, alignment.
-pub fn pending_from(x: [usize; 8]) -> Pending
+// Whether there is a line, its start, end and columns, the cell lines' place and count, where to go on, whether they are plain, delimiter, alignment.
+pub fn pending_from(x: [usize; 10]) -> Pending
     ensures { λ r. ⌜ r ≡ pendingFrom x ⌝ }
 {
     let lines = Lines {
-        at: x[3],
-        left: x[4],
+        at: x[4],
+        left: x[5],
     };
-    let cursor = CellCursor { lines, from: x[5] };
+    let cursor = CellCursor {
+        lines,
+        from: x[6],
+        plain: x[7] == 1,
+    };
     let line = Next {
         found: x[0] == 1,
         start: x[1],
         end: x[2],
+        columns: x[3],
         cursor,
     };
     Pending {
         line,
-        delimiter: code(x[6]),
-        alignment: code(x[7]),
+        delimiter: code(x[8]),
+        alignment: code(x[9]),
     }
 }
 
-pub fn pack_pending(t: Pending) -> [usize; 8]
+pub fn pack_pending(t: Pending) -> [usize; 10]
     ensures { λ r. ⌜ t ≡ pendingFrom r ⌝ }
 {
     let line = t.line;
     let c = line.cursor;
     let lines = c.lines;
     let f = bit(line.found);
+    let p = bit(c.plain);
     let d = number(t.delimiter);
     let a = number(t.alignment);
-    [f, line.start, line.end, lines.at, lines.left, c.from, d, a]
+    [
+        f,
+        line.start,
+        line.end,
+        line.columns,
+        lines.at,
+        lines.left,
+        c.from,
+        p,
+        d,
+        a,
+    ]
 }
 
 // The entry x with another line of its cell. Delimiter and alignment stay, so that they needn't be stored again.
-pub fn repack_pending(x: [usize; 8], t: Pending) -> [usize; 8]
+pub fn repack_pending(x: [usize; 10], t: Pending) -> [usize; 10]
     requires { ⌜ (t .delimiter ≡ pendingFrom x .delimiter) × (t .alignment ≡ pendingFrom x .alignment) ⌝ }
     ensures { λ r. ⌜ t ≡ pendingFrom r ⌝ }
 {
@@ -93,14 +110,17 @@ pub fn repack_pending(x: [usize; 8], t: Pending) -> [usize; 8]
     let c = line.cursor;
     let lines = c.lines;
     let f = bit(line.found);
+    let p = bit(c.plain);
     [
         f,
         line.start,
         line.end,
+        line.columns,
         lines.at,
         lines.left,
         c.from,
-        x[6],
-        x[7],
+        p,
+        x[8],
+        x[9],
     ]
 }
