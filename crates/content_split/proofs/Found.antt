@@ -4,10 +4,10 @@ use mathlib.Core.Path.{_≡_, subst}
 use mathlib.Core.List.{List, [], map}
 use native.Mathlib.Omega.{arith}
 use lib.ListN.{drop}
-use lib.Seq.{slice, length-slice}
+use lib.Seq.{slice}
 use Rattle.rules.specs.Text.{textWidth, greatest}
 use Rattle.rules.specs.Wrap.{split}
-use Rattle.laws.proofs.Text.{width-length}
+use Rattle.content_split.specs.Cut.{Sound}
 use Rattle.content_split.specs.Parts.{LineIs, PartIs}
 use Rattle.content_split.specs.declared.Part.{Part}
 use Rattle.content_split.specs.declared.Part.the-variants.{Line, Nothing}
@@ -21,12 +21,13 @@ is-none w d T a q h = subst (λ (p : Part). PartIs w d T a p) q h
 
 -- the longest of the lines from a position on
 pub longest-on : {w d : ℕ} {T : List ℕ} {a s e n : ℕ} → LineIs w d T a s e n
-    → greatest (map textWidth (split w d (drop a T))) ≡ max (e - s) (greatest (map textWidth (split w d (drop n T))))
+    → greatest (map textWidth (split w d (drop a T))) ≡ max (textWidth (slice s e T)) (greatest (map textWidth (split w d (drop n T))))
 unfolding greatest
-longest-on {w} {d} {T} {a} {s} {e} {n} l =
-    let o = l .onward in
-    let i = l .within in
-    rw (l .wraps, width-length (slice s e T), length-slice s e T (omega arith))
+longest-on l = rw (l .wraps)
+
+-- the rest is as sound as the text
+pub line-sound : {w d : ℕ} {T : List ℕ} {a s e n : ℕ} → Sound d T a → LineIs w d T a s e n → Sound d T n
+line-sound o l = record { first = o .first; begins = l .whole; after = λ k h e. o .after k (omega (arith, l .after, l .some, l .onward)) e }
 
 pub longest-none : {ls : List (List ℕ)} → ls ≡ [] → greatest (map textWidth ls) ≡ 0
 unfolding greatest

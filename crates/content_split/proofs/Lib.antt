@@ -1,3 +1,4 @@
+pub mod Sounds
 pub mod Rules
 pub mod Text
 pub mod Steps

@@ -8,11 +8,13 @@ use lib.Dec.{eqb, leb}
 use borrow.Author.Tests.{eqb-true, eqb-false, leb-true, leb-false}
 use native.Mathlib.Omega.{arith}
 use native.Mathlib.Nat.{add-zero, add-suc, suc-add, eq-or-lt-of-le, le-of-suc-le-suc}
-use native.Mathlib.Numerals.{add-one}
 use lib.ListN.{length, drop, getD}
 use lib.Seq.{slice}
 use Rattle.rules.specs.Wrap.{split}
-use Rattle.content_split.specs.Cut.{Cut, Near, Start}
+use Rattle.rules.specs.Text.{textWidth}
+use Rattle.text_width.specs.Measure.{col, Reach}
+use Rattle.content_split.specs.Cut.{Cut, Near, Start, Sound}
+use Rattle.text_width.proofs.Measure.{col-slice, end-whole, reach-after}
 use Rattle.content_split.specs.Parts.{LineIs}
 use Rattle.content_split.proofs.Rules.{wrapping, split-is, settled}
 use Rattle.content_split.proofs.Text.{after, none-left, skip-one, first-joins, first-fills, full-ends, text-ends, next-joins, next-tight, next-wraps, next-fills}
@@ -29,7 +31,7 @@ pub record Going (w d : ℕ) (T : List ℕ) (a s m : ℕ) : Type 0 where
   pub from : a ≤ s
   pub some : s < m
   pub within : m ≤ length T
-  pub fits : m - s ≤ w
+  pub fits : col T m ≤ col T s + w
   pub stop : m < length T → getD T m 0 ≡ d
   pub so-far : wrapping w d (drop a T) ≡ settled w d (slice s m T) (after d T m)
 
@@ -94,18 +96,19 @@ module _ (w d : ℕ) (pos : 0 < w) (T : List ℕ) where
   pub none : {a s : ℕ} → Start d T a s → length T ≤ s → split w d (drop a T) ≡ []
   none {a} {s} c h = split-is w d (drop a T) ∙ skipped c ∙ none-left w d pos T s h
 
-  pub fills-cut : {a s e : ℕ} → Start d T a s → Cut d T s e → w < e - s → LineIs w d T a s (s + w) (s + w)
-  fills-cut {a} {s} {e} b c h =
+  pub fills-cut : {a s e z : ℕ} → Start d T a s → Cut d T s e → Reach T s w z → z < e → LineIs w d T a s z z
+  fills-cut {a} {s} {e} {z} b c r h =
       record {
         after = b .from;
-        some = omega arith;
-        fits = omega arith;
+        some = reach-after T pos r;
+        fits = omega (arith, col-slice T s z (r .from), r .columns);
         onward = omega arith;
-        within = omega arith;
-        wraps = rw (split-is, split-is) (skipped b ∙ first-fills w d pos T s e c h);
+        within = r .within;
+        whole = r .whole;
+        wraps = rw (split-is, split-is) (skipped b ∙ first-fills w d pos T s e z c r h);
       }
 
-  pub begins-cut : {a s e : ℕ} → Start d T a s → s < length T → Cut d T s e → e - s ≤ w → Going w d T a s e
+  pub begins-cut : {a s e : ℕ} → Start d T a s → s < length T → Cut d T s e → col T e ≤ col T s + w → Going w d T a s e
   begins-cut {a} {s} {e} b l c h =
       record {
         from = b .from;
@@ -116,53 +119,63 @@ module _ (w d : ℕ) (pos : 0 < w) (T : List ℕ) where
         so-far = skipped b ∙ first-joins w d pos T s e c h;
       }
 
-  module _ {a s m : ℕ} (g : Going w d T a s m) where
+  module _ {a s m : ℕ} (sound : Sound d T a) (g : Going w d T a s m) where
+    line-fits : textWidth (slice s m T) ≤ w
+    line-fits = let i = g .some in omega (arith, col-slice T s m (omega arith), g .fits)
+
     pub ends-text : length T ≤ m → LineIs w d T a s m m
     ends-text h =
         record {
           after = g .from;
           some = g .some;
-          fits = g .fits;
+          fits = line-fits;
           onward = omega arith;
           within = g .within;
+          whole = end-whole T m h;
           wraps = rw (split-is, split-is) (g .so-far ∙ text-ends w d pos T s m (g .some) (omega arith));
         }
 
-    wrapped : m < length T → settled w d (slice s m T) (after d T m) ≡ slice s m T ∷ wrapping w d (drop (suc m) T) → LineIs w d T a s m (m + 1)
+    wrapped : m < length T → settled w d (slice s m T) (after d T m) ≡ slice s m T ∷ wrapping w d (drop (suc m) T) → LineIs w d T a s m (suc m)
     wrapped h q =
-        record { after = g .from; some = g .some; fits = g .fits; onward = omega arith; within = omega arith; wraps = rw (split-is, split-is) (rw add-one (g .so-far ∙ q)) }
+        record {
+          after = g .from;
+          some = g .some;
+          fits = line-fits;
+          onward = omega arith;
+          within = omega arith;
+          whole = sound .after m (omega (arith, g .from, g .some)) (g .stop h);
+          wraps = rw (split-is, split-is) (g .so-far ∙ q);
+        }
 
-    pub ends-full : m < length T → w < m - s + 2 → LineIs w d T a s m (m + 1)
-    ends-full h k = wrapped h (full-ends w d pos T s m (g .within) (omega arith))
+    pub ends-full : m < length T → col T s + (w - 2) < col T m → LineIs w d T a s m (suc m)
+    ends-full h k = let i = g .some in wrapped h (full-ends w d pos T s m (omega arith) k)
 
-    module _ {e : ℕ} (more : m < length T) (free : m - s + 2 ≤ w) (c : Cut d T (m + 1) e) where
-      cut : Cut d T (suc m) e
-      cut = rw add-one at c
-
-      pub joins-cut : e - s ≤ w → Going w d T a s e
+    module _ {e : ℕ} (more : m < length T) (free : col T m ≤ col T s + (w - 2)) (c : Cut d T (suc m) e) where
+      pub joins-cut : col T e ≤ col T s + w → Going w d T a s e
       joins-cut h =
           record {
             from = g .from;
-            some = omega arith;
+            some = omega (arith, g .some, c .from);
             within = c .within;
             fits = h;
             stop = c .stop;
-            so-far = g .so-far ∙ next-joins w d pos T s m e (g .some) more (g .stop more) cut (omega arith) h;
+            so-far = g .so-far ∙ next-joins w d pos T s m e (g .some) more (g .stop more) c free h;
           }
 
-      pub tight-cut : w < e - s → w - (m + 1 - s) ≤ 2 → LineIs w d T a s m (m + 1)
-      tight-cut h k = wrapped more (next-tight w d pos T s m e (g .some) more (g .stop more) cut (omega arith) h (omega arith))
+      pub tight-cut : col T s + w < col T e → col T s + w ≤ col T (suc m) + 2 → LineIs w d T a s m (suc m)
+      tight-cut h k = wrapped more (next-tight w d pos T s m e (g .some) more (g .stop more) c free h k)
 
-      pub wrap-cut : w < e - s → 2 < w - (m + 1 - s) → e - (m + 1) ≤ w → LineIs w d T a s m (m + 1)
-      wrap-cut h k l = wrapped more (next-wraps w d pos T s m e (g .some) more (g .stop more) cut (omega arith) h (omega arith) (omega arith))
+      pub wrap-cut : col T s + w < col T e → col T (suc m) + 2 < col T s + w → col T e ≤ col T (suc m) + w → LineIs w d T a s m (suc m)
+      wrap-cut h k l = wrapped more (next-wraps w d pos T s m e (g .some) more (g .stop more) c free h k l)
 
-      pub fill-cut : w < e - s → 2 < w - (m + 1 - s) → w < e - (m + 1) → LineIs w d T a s (s + w) (s + w)
-      fill-cut h k l =
+      pub fill-cut : {z : ℕ} → Reach T s w z → col T (suc m) + 2 < col T s + w → col T (suc m) + w < col T e → LineIs w d T a s z z
+      fill-cut {z} r k l =
           record {
             after = g .from;
-            some = omega arith;
-            fits = omega arith;
+            some = reach-after T pos r;
+            fits = omega (arith, col-slice T s z (r .from), r .columns);
             onward = omega arith;
-            within = omega arith;
-            wraps = rw (split-is, split-is) (g .so-far ∙ next-fills w d pos T s m e (g .some) more (g .stop more) cut (omega arith) h (omega arith) (omega arith));
+            within = r .within;
+            whole = r .whole;
+            wraps = rw (split-is, split-is) (g .so-far ∙ next-fills w d pos T s m e (g .some) more (g .stop more) c free z r k l);
           }

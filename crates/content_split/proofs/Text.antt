@@ -1,27 +1,23 @@
 -- Wrapping a text from a position on: each step of the code, as an equation of `wrapping`. Assumes nothing.
-use Prim.Native.Nat.{ℕ, zero, suc, _+_, _-_, _≤_, _<_, zero-le, suc-le-suc}
-use mathlib.Core.Path.{_≡_, refl, sym, _∙_}
+use Prim.Native.Nat.{ℕ, zero, suc, _+_, _-_, _≤_, _<_, suc-le-suc}
+use mathlib.Core.Path.{_≡_, refl, sym, ap, _∙_}
 use mathlib.Core.List.{List, [], _∷_, _++_}
 use mathlib.Core.Bool.{true, false}
-use mathlib.Core.Logic.{_⊎_, inl, inr, ⊎-elim}
+use mathlib.Core.Logic.{_⊎_, ⊎-elim}
 use native.Mathlib.Omega.{arith}
 use native.Mathlib.Nat.{le-of-suc-le-suc, zero-add, suc-add}
-use lib.ListN.{length, take, drop, getD, length-drop, drop-of-length-le, take-append-drop}
-use lib.Seq.{slice, slice-empty, slice-cons, length-slice, take-take, drop-drop, getD-drop, take-all, take-nil, drop-append-le, length-take-le}
+use lib.ListN.{length, take, drop, getD, length-drop, drop-of-length-le}
+use lib.Seq.{slice, slice-empty, slice-cons, length-slice, drop-drop, getD-drop, take-all, take-nil}
 use lib.Dec.{ltb, leb}
 use borrow.Author.Tests.{le-leb, lt-leb, lt-ltb, le-ltb, eq-eqb, ne-eqb}
+use Rattle.rules.specs.Text.{textWidth}
 use Rattle.rules.specs.Wrap.{pieces, onto, glue, room, tight, last}
-use Rattle.laws.proofs.Fuel.{run}
-use Rattle.laws.proofs.Text.{width-length}
+use Rattle.laws.proofs.Fuel.{run, run-retry, run-fill, run-end}
+use Rattle.laws.proofs.Text.{width-nil}
+use Rattle.text_width.specs.Measure.{col, Reach}
+use Rattle.text_width.proofs.Measure.{le-or-lt, col-slice, col-le, reach-below, reach-past, reach-on, slice-append, first-reach, rest-reach}
 use Rattle.content_split.specs.Cut.{Cut}
-use Rattle.content_split.proofs.Rules.{wrapping, settled, settled-full, settled-open, run-join, run-retry, run-fill, run-begin, run-last}
-
--- ---- numbers
-
-pub le-or-lt : (a b : ℕ) → (a ≤ b) ⊎ (b < a)
-le-or-lt zero b = inl zero-le
-le-or-lt (suc a) zero = inr (suc-le-suc zero-le)
-le-or-lt (suc a) (suc b) = ⊎-elim (λ p. inl (suc-le-suc p)) (λ q. inr (suc-le-suc q)) (le-or-lt a b)
+use Rattle.content_split.proofs.Rules.{wrapping, settled, settled-full, settled-open, run-join, run-begin}
 
 -- ---- lists
 
@@ -30,32 +26,15 @@ take-drop k zero l = rw zero-add
 take-drop k (suc s) [] = rw (take-nil, take-nil)
 take-drop k (suc s) (x ∷ xs) = rw suc-add (take-drop k s xs)
 
-slice-append : (T : List ℕ) (s m e : ℕ) → s ≤ m → m ≤ e → e ≤ length T → slice s m T ++ slice m e T ≡ slice s e T
-slice-append T s m e h k g =
-    let g₂ : m ≤ length T = omega arith in
-    let n : s ≤ length (take m (take e T)) = rw (take-take m e T k, length-take-le) h in
-    rw (← take-take m e T k, ← drop-append-le s, take-append-drop)
-
-take-slice : (T : List ℕ) (s e k : ℕ) → s + k ≤ e → take k (slice s e T) ≡ slice s (s + k) T
-take-slice T s e k h = rw (take-drop, take-take)
-
-drop-slice : (T : List ℕ) (s e k : ℕ) → drop k (slice s e T) ≡ slice (s + k) e T
-drop-slice T s e k = rw drop-drop
-
 glue-some : (d : ℕ) (l p : List ℕ) → 0 < length l → glue d l p ≡ l ++ (d ∷ p)
 unfolding glue
 glue-some d [] p h = absurd (omega arith)
 glue-some d (x ∷ xs) p h = refl
 
-room-some : (w : ℕ) (l : List ℕ) → 0 < length l → room w l ≡ w - (length l + 1)
-unfolding room
-room-some w [] h = absurd (omega arith)
-room-some w (x ∷ xs) h = rw width-length
-
-tight-some : (w : ℕ) (l : List ℕ) → 0 < length l → tight w l ≡ leb (w - (length l + 1)) 2
+tight-some : (w d : ℕ) (l : List ℕ) → 0 < length l → tight w d l ≡ leb (w - textWidth (glue d l [])) 2
 unfolding tight room
-tight-some w [] h = absurd (omega arith)
-tight-some w (x ∷ xs) h = rw width-length
+tight-some w d [] h = absurd (omega arith)
+tight-some w d (x ∷ xs) h = refl
 
 pub last-some : (l : List ℕ) → 0 < length l → last l ≡ l ∷ []
 unfolding last
@@ -123,11 +102,11 @@ module _ (w d : ℕ) (pos : 0 < w) (T : List ℕ) where
 
   start-empty : (ps : List (List ℕ)) → run w d [] ([] ∷ ps) ≡ run w d [] ps
   unfolding glue
-  start-empty ps = run-join w d pos [] [] ps (omega arith) ∙ settled-open w d [] ps (omega arith)
+  start-empty ps = run-join w d pos [] [] ps (omega (arith, width-nil)) ∙ settled-open w d [] ps (omega (arith, width-nil))
 
   pub none-left : (s : ℕ) → length T ≤ s → from-on s ≡ []
   unfolding wrapping pieces last
-  none-left s h = rw (drop-of-length-le T h) (start-empty [] ∙ run-last w d pos [])
+  none-left s h = rw (drop-of-length-le T h) (start-empty [] ∙ run-end w d pos [])
 
   -- an empty piece leaves an empty line empty
   pub skip-one : (s : ℕ) → s < length T → getD T s 0 ≡ d → from-on s ≡ from-on (suc s)
@@ -137,22 +116,26 @@ module _ (w d : ℕ) (pos : 0 < w) (T : List ℕ) where
       rw (pieces-cut d T s s c, slice-empty, after-more d T s h) (start-empty (pieces d (drop (suc s) T)))
 
   -- the first piece joins the empty line
-  pub first-joins : (s e : ℕ) → Cut d T s e → e - s ≤ w → from-on s ≡ settled w d (slice s e T) (after d T e)
+  pub first-joins : (s e : ℕ) → Cut d T s e → col T e ≤ col T s + w → from-on s ≡ settled w d (slice s e T) (after d T e)
   unfolding wrapping glue
   first-joins s e c h =
-      let n = length-slice s e T (c .within) in
+      let n = col-slice T s e (c .from) in
       rw (pieces-cut d T s e c) (run-join w d pos [] (slice s e T) (after d T e) (omega arith))
 
+  -- what is left of a piece that is cut at z
+  cut-on : (s e z : ℕ) → s ≤ z → z ≤ e → Cut d T s e → Cut d T z e
+  cut-on s e z h k c = record { from = k; within = c .within; clear = λ k a b. c .clear k (omega arith) b; stop = c .stop }
+
   -- the first piece is longer than the line
-  pub first-fills : (s e : ℕ) → Cut d T s e → w < e - s → from-on s ≡ slice s (s + w) T ∷ from-on (s + w)
+  pub first-fills : (s e z : ℕ) → Cut d T s e → Reach T s w z → z < e → from-on s ≡ slice s z T ∷ from-on z
   unfolding wrapping glue tight room
-  first-fills s e c h =
-      let n = length-slice s e T (c .within) in
-      let c₂ : Cut d T (s + w) e =
-      record { from = omega arith; within = c .within; clear = λ k a b. c .clear k (omega arith) b; stop = c .stop } in
-      rw (pieces-cut d T s e c, pieces-cut d T (s + w) e c₂)
+  first-fills s e z c r h =
+      let n = col-slice T s e (c .from) in
+      let p = reach-past T r e h (c .within) in
+      let q : w - textWidth [] ≡ w = omega (arith, width-nil) in
+      rw (pieces-cut d T s e c, pieces-cut d T z e (cut-on s e z (r .from) (omega arith) c))
       (run-fill w d pos [] (slice s e T) (after d T e) (omega arith) refl (omega arith)
-      ∙ rw (take-slice T s e w (omega arith), drop-slice T s e w))
+      ∙ rw (q, first-reach T r e (omega arith) (c .within), rest-reach T r e (omega arith) (c .within)))
 
   -- what follows a flushed line
   after-on : (m : ℕ) → run w d [] (after d T m) ≡ from-on (suc m)
@@ -163,30 +146,30 @@ module _ (w d : ℕ) (pos : 0 < w) (T : List ℕ) where
       goes h = rw (after-more d T m h)
 
       ends : length T ≤ m → run w d [] (after d T m) ≡ from-on (suc m)
-      ends h = rw (after-end d T m h) (run-last w d pos [] ∙ sym (none-left (suc m) (omega arith)))
+      ends h = rw (after-end d T m h) (run-end w d pos [] ∙ sym (none-left (suc m) (omega arith)))
 
   -- a line that is longer than width less 2
-  pub full-ends : (s m : ℕ) → m ≤ length T → w - 2 < m - s → settled w d (slice s m T) (after d T m) ≡ slice s m T ∷ from-on (suc m)
+  pub full-ends : (s m : ℕ) → s ≤ m → col T s + (w - 2) < col T m → settled w d (slice s m T) (after d T m) ≡ slice s m T ∷ from-on (suc m)
   full-ends s m h k =
-      let n = length-slice s m T h in
+      let n = col-slice T s m h in
       settled-full w d (slice s m T) _ (omega arith) ∙ rw (after-on m)
 
   -- no piece is left
   pub text-ends : (s m : ℕ) → s < m → m ≡ length T → settled w d (slice s m T) (after d T m) ≡ slice s m T ∷ from-on m
-  text-ends s m h k = ⊎-elim short long-enough (le-or-lt (m - s) (w - 2))
+  text-ends s m h k = ⊎-elim short long-enough (le-or-lt (col T m) (col T s + (w - 2)))
     where
       here : length (slice s m T) ≡ m - s
       here = length-slice s m T (omega arith)
 
-      short : m - s ≤ w - 2 → settled w d (slice s m T) (after d T m) ≡ slice s m T ∷ from-on m
+      short : col T m ≤ col T s + (w - 2) → settled w d (slice s m T) (after d T m) ≡ slice s m T ∷ from-on m
       short g =
-          settled-open w d (slice s m T) _ (omega (arith, here))
-          ∙ rw (after-end d T m (omega arith), none-left m (omega arith), run-last w d pos) (last-some _ (omega (arith, here)))
+          settled-open w d (slice s m T) _ (omega (arith, col-slice T s m (omega arith)))
+          ∙ rw (after-end d T m (omega arith), none-left m (omega arith), run-end w d pos) (last-some _ (omega (arith, here)))
 
-      long-enough : w - 2 < m - s → settled w d (slice s m T) (after d T m) ≡ slice s m T ∷ from-on m
+      long-enough : col T s + (w - 2) < col T m → settled w d (slice s m T) (after d T m) ≡ slice s m T ∷ from-on m
       long-enough g = full-ends s m (omega arith) g ∙ rw (none-left m (omega arith), none-left (suc m) (omega arith))
 
-  module _ (s m e : ℕ) (ne : s < m) (more : m < length T) (at : getD T m 0 ≡ d) (c : Cut d T (suc m) e) (free : m - s ≤ w - 2) where
+  module _ (s m e : ℕ) (ne : s < m) (more : m < length T) (at : getD T m 0 ≡ d) (c : Cut d T (suc m) e) (free : col T m ≤ col T s + (w - 2)) where
     long : length (slice s m T) ≡ m - s
     long = length-slice s m T (omega arith)
 
@@ -197,47 +180,63 @@ module _ (w d : ℕ) (pos : 0 < w) (T : List ℕ) where
     glued : glue d (slice s m T) (slice (suc m) e T) ≡ slice s e T
     glued = glued-to e (c .from) (c .within)
 
-    tight-here : tight w (slice s m T) ≡ leb (w - (m - s + 1)) 2
-    tight-here = tight-some w _ (omega (arith, long)) ∙ rw long
+    glued-none : glue d (slice s m T) [] ≡ slice s (suc m) T
+    glued-none = ap (glue d (slice s m T)) (sym (slice-empty (suc m) T)) ∙ glued-to (suc m) (omega arith) (omega arith)
+
+    -- the columns of the line and a delimiter, and those of all up to the next piece's end
+    begun : col T s + textWidth (slice s (suc m) T) ≡ col T (suc m)
+    begun = col-slice T s (suc m) (omega arith)
+
+    all-on : col T s + textWidth (slice s e T) ≡ col T e
+    all-on = col-slice T s e (omega (arith, c .from))
+
+    piece-on : col T (suc m) + textWidth (slice (suc m) e T) ≡ col T e
+    piece-on = col-slice T (suc m) e (c .from)
+
+    tight-here : tight w d (slice s m T) ≡ leb (w - textWidth (slice s (suc m) T)) 2
+    tight-here = tight-some w d _ (omega (arith, long)) ∙ rw glued-none
 
     pieces-on : settled w d (slice s m T) (after d T m) ≡ run w d (slice s m T) (slice (suc m) e T ∷ after d T e)
-    pieces-on = settled-open w d (slice s m T) _ (omega (arith, long)) ∙ rw (after-more d T m more, pieces-cut d T (suc m) e c)
+    pieces-on = settled-open w d (slice s m T) _ (omega (arith, col-slice T s m (omega arith))) ∙ rw (after-more d T m more, pieces-cut d T (suc m) e c)
 
-    pub next-joins : e - s ≤ w → settled w d (slice s m T) (after d T m) ≡ settled w d (slice s e T) (after d T e)
+    pub next-joins : col T e ≤ col T s + w → settled w d (slice s m T) (after d T m) ≡ settled w d (slice s e T) (after d T e)
     next-joins h =
         pieces-on
-        ∙ run-join w d pos (slice s m T) (slice (suc m) e T) (after d T e) (rw glued (omega (arith, length-slice s e T (c .within))))
+        ∙ run-join w d pos (slice s m T) (slice (suc m) e T) (after d T e) (rw glued (omega (arith, all-on)))
         ∙ rw glued
 
-    too-long : w < e - s → w < length (glue d (slice s m T) (slice (suc m) e T))
-    too-long h = rw glued (omega (arith, length-slice s e T (c .within)))
+    too-long : col T s + w < col T e → w < textWidth (glue d (slice s m T) (slice (suc m) e T))
+    too-long h = rw glued (omega (arith, all-on))
 
-    pub next-tight : w < e - s → w - (m - s + 1) ≤ 2 → settled w d (slice s m T) (after d T m) ≡ slice s m T ∷ from-on (suc m)
+    pub next-tight : col T s + w < col T e → col T s + w ≤ col T (suc m) + 2 → settled w d (slice s m T) (after d T m) ≡ slice s m T ∷ from-on (suc m)
     unfolding wrapping
     next-tight h k =
-        let t : tight w (slice s m T) ≡ true = tight-here ∙ le-leb _ 2 k in
+        let t : tight w d (slice s m T) ≡ true = tight-here ∙ le-leb (w - textWidth (slice s (suc m) T)) 2 (omega (arith, begun)) in
         pieces-on
         ∙ run-retry w d pos (slice s m T) (slice (suc m) e T) (after d T e) (too-long h) t
         ∙ rw (pieces-cut d T (suc m) e c)
 
-    loose : 2 < w - (m - s + 1) → tight w (slice s m T) ≡ false
-    loose k = tight-here ∙ lt-leb _ 2 k
+    loose : col T (suc m) + 2 < col T s + w → tight w d (slice s m T) ≡ false
+    loose k = tight-here ∙ lt-leb (w - textWidth (slice s (suc m) T)) 2 (omega (arith, begun))
 
-    pub next-wraps : w < e - s → 2 < w - (m - s + 1) → e - suc m ≤ w → settled w d (slice s m T) (after d T m) ≡ slice s m T ∷ from-on (suc m)
+    pub next-wraps : col T s + w < col T e → col T (suc m) + 2 < col T s + w → col T e ≤ col T (suc m) + w → settled w d (slice s m T) (after d T m) ≡ slice s m T ∷ from-on (suc m)
     next-wraps h k l =
         pieces-on
-        ∙ run-begin w d pos (slice s m T) (slice (suc m) e T) (after d T e) (too-long h) (loose k) (omega (arith, length-slice (suc m) e T (c .within)))
+        ∙ run-begin w d pos (slice s m T) (slice (suc m) e T) (after d T e) (too-long h) (loose k) (omega (arith, piece-on))
         ∙ rw (first-joins (suc m) e c l)
 
-    pub next-fills : w < e - s → 2 < w - (m - s + 1) → w < e - suc m → settled w d (slice s m T) (after d T m) ≡ slice s (s + w) T ∷ from-on (s + w)
+    pub next-fills : (z : ℕ) → Reach T s w z → col T (suc m) + 2 < col T s + w → col T (suc m) + w < col T e
+        → settled w d (slice s m T) (after d T m) ≡ slice s z T ∷ from-on z
     unfolding wrapping
-    next-fills h k l =
-        let r : room w (slice s m T) ≡ w - (m - s + 1) = room-some w _ (omega (arith, long)) ∙ rw long in
-        let a : suc m + (w - (m - s + 1)) ≡ s + w = omega arith in
-        let g = c .within in
-        let c₂ : Cut d T (s + w) e =
-        record { from = omega arith; within = c .within; clear = λ j x y. c .clear j (omega arith) y; stop = c .stop } in
+    next-fills z r k l =
+        let x : suc m < z = ⊎-elim (λ y. absurd (omega (arith, col-le T z (suc m) y, r .columns))) (λ y. y) (le-or-lt z (suc m)) in
+        let y : col T s ≤ col T (suc m) = col-le T s (suc m) (omega arith) in
+        let b : z < e = reach-below T r e (omega arith) in
+        let v = w - textWidth (slice s (suc m) T) in
+        let q : room w d (slice s m T) ≡ v = unfold room in rw glued-none in
+        let u : Reach T (suc m) v z = reach-on T r (suc m) v (omega arith) (omega (arith, begun)) in
+        let f = first-reach T u e (omega arith) (c .within) in
+        let g = rest-reach T u e (omega arith) (c .within) in
         pieces-on
-        ∙ run-fill w d pos (slice s m T) (slice (suc m) e T) (after d T e) (too-long h) (loose k) (omega (arith, length-slice (suc m) e T (c .within)))
-        ∙ rw
-        (r, take-slice T (suc m) e (w - (m - s + 1)) (omega arith), drop-slice, a, glued-to (s + w) (omega arith) (omega arith), ← pieces-cut d T (s + w) e c₂)
+        ∙ run-fill w d pos (slice s m T) (slice (suc m) e T) (after d T e) (too-long (omega arith)) (loose k) (omega (arith, piece-on))
+        ∙ rw (q, f, g, glued-to z (omega arith) (r .within), ← pieces-cut d T z e (cut-on (suc m) e z (omega arith) (omega arith) c))

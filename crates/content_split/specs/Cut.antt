@@ -1,9 +1,14 @@
 -- Where a piece of a text ends. Assumes nothing.
-use Prim.Native.Nat.{ℕ, _+_, _-_, _≤_, _<_}
+use Prim.Native.Nat.{ℕ, suc, _+_, _-_, _≤_, _<_}
 use mathlib.Core.Path.{_≡_}
 use mathlib.Core.Logic.{_⊎_}
 use mathlib.Core.List.{List}
+use mathlib.Core.Bool.{Bool, true, false}
 use lib.ListN.{length, getD}
+use lib.Seq.{slice}
+use lib.Dec.{ltb}
+use Rattle.rules.specs.Text.{isSecond, textWidth}
+use Rattle.text_width.specs.Measure.{Reach}
 
 -- the piece of t that holds position s ends at e: e is the first delimiter at or after s, or the end of t
 pub record Cut (d : ℕ) (t : List ℕ) (s e : ℕ) : Type 0 where
@@ -33,10 +38,21 @@ pub record Back (d : ℕ) (t : List ℕ) (s z r : ℕ) : Type 0 where
   pub clear : (k : ℕ) → r < k → k < z → getD t k 0 ≡ d → ⊥
   pub found : s < r → getD t r 0 ≡ d
 
--- t goes on past w bytes from s on, and no delimiter is at s, nor on either side of the width
-pub record Straddle (w d : ℕ) (t : List ℕ) (s : ℕ) : Type 0 where
+-- t goes on past the place z where w columns from s on are reached, and no delimiter is at s, nor on either side of that place
+pub record Straddle (w d : ℕ) (t : List ℕ) (s z : ℕ) : Type 0 where
   pub some : 0 < w
-  pub more : s + w < length t
+  pub reach : Reach t s w z
+  pub more : z < length t
   pub begun : getD t s 0 ≡ d → ⊥
-  pub last : getD t (s + w - 1) 0 ≡ d → ⊥
-  pub past : getD t (s + w) 0 ≡ d → ⊥
+  pub last : getD t (z - 1) 0 ≡ d → ⊥
+  pub past : getD t z 0 ≡ d → ⊥
+
+-- a delimiter is a character, and characters begin at a and after each delimiter
+pub record Sound (d : ℕ) (t : List ℕ) (a : ℕ) : Type 0 where
+  pub first : isSecond d ≡ false
+  pub begins : isSecond (getD t a 0) ≡ false
+  pub after : (k : ℕ) → a ≤ k → getD t k 0 ≡ d → isSecond (getD t (suc k) 0) ≡ false
+
+-- whether the piece from s on has more columns than w
+abbrev pub Long : ℕ → ℕ → List ℕ → ℕ → Bool → Type 0
+Long w d t s b = (x : ℕ) → Cut d t s x → b ≡ ltb w (textWidth (slice s x t))

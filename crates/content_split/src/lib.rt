@@ -1,13 +1,14 @@
 // Where a line of a cell is split: comfy-table's `content_split`, by positions in the text. A wrapped line is always a part of the text,
-// whose own delimiters stand in it. A byte is a column.
+// whose own delimiters stand in it. A character is a byte or a pair, and takes one column.
 
 ghost use mathlib.Core.Path.{_≡_};
-ghost use Prim.Native.Nat.{_+_, _-_, _≤_, _<_};
+ghost use Prim.Native.Nat.{_≤_, _<_};
 ghost use lib.ListN.{length};
 ghost use mathlib.Core.List.{map};
 ghost use Rattle.rules.specs.Text.{textWidth, greatest};
 ghost use Rattle.rules.specs.Wrap.{split};
-ghost use Rattle.content_split.specs.Cut.{Near, Start, Back, Straddle};
+ghost use Rattle.text_width.specs.Measure.{IsPlain};
+ghost use Rattle.content_split.specs.Cut.{Near, Start, Back, Straddle, Sound, Long};
 ghost use Rattle.content_split.specs.Parts.{PartIs};
 
 // The next wrapped line, from `start` up to `end`, with the place where the search goes on; or that none is left.
@@ -69,12 +70,39 @@ fn last_before(text: &[u8], from: usize, to: usize, delimiter: u8) -> usize
     from
 }
 
-// The line from `start` on, where a piece goes on past the width: the line ends before that piece, or is filled with it.
-fn straddled(text: &[u8], start: usize, width: usize, delimiter: u8) -> Part
-    requires { ⌜ Straddle width delimiter (now text) start ⌝ }
+// Whether the piece from `from` on has more columns than the width.
+fn long_piece(text: &[u8], from: usize, width: usize, delimiter: u8, plain: bool) -> bool
+    requires { ⌜ (from ≤ length (now text)) × IsPlain plain (now text) ⌝ }
+    ensures { λ r. ⌜ Long width delimiter (now (text .entry)) from r ⌝ }
+{
+    if text.len() - from < width {
+        return false;
+    }
+    let far = text_width::reach(text, from, width, plain);
+    if 0 < far.left {
+        return false;
+    }
+    let most = far.at - from;
+    let e = piece_end(text, from, delimiter, most);
+    if far.at < e {
+        return true;
+    }
+    false
+}
+
+// The line from `start` on, where a piece goes on past `stop`, at which the width is reached: the line ends before that piece, or is
+// filled with it.
+fn straddled(
+    text: &[u8],
+    start: usize,
+    stop: usize,
+    width: usize,
+    delimiter: u8,
+    plain: bool,
+) -> Part
+    requires { ⌜ Straddle width delimiter (now text) start stop × (Sound delimiter (now text) start × IsPlain plain (now text)) ⌝ }
     ensures { λ r. ⌜ PartIs width delimiter (now (text .entry)) start r ⌝ }
 {
-    let stop = start + width;
     let end = last_before(text, start, stop, delimiter);
     if end == start {
         return Part::Line {
@@ -84,9 +112,10 @@ fn straddled(text: &[u8], start: usize, width: usize, delimiter: u8) -> Part
         };
     }
     let next = end + 1;
-    if 2 < stop - next {
-        let e = piece_end(text, next, delimiter, width);
-        if width < e - next {
+    let free = text_width::columns(text, next, stop, plain);
+    if 2 < free {
+        let long = long_piece(text, next, width, delimiter, plain);
+        if long {
             return Part::Line {
                 start,
                 end: stop,
@@ -97,9 +126,9 @@ fn straddled(text: &[u8], start: usize, width: usize, delimiter: u8) -> Part
     Part::Line { start, end, next }
 }
 
-// The next line that `text` is split into, from `from` on. It is looked for backwards from the width: most bytes of the line aren't read.
-pub fn split_line(text: &[u8], from: usize, width: usize, delimiter: u8) -> Part
-    requires { ⌜ (from ≤ length (now text)) × (0 < width) ⌝ }
+// The next line that `text` is split into, from `from` on. It is looked for backwards from the place where the width is reached.
+pub fn split_line(text: &[u8], from: usize, width: usize, delimiter: u8, plain: bool) -> Part
+    requires { ⌜ (from ≤ length (now text)) × ((0 < width) × (Sound delimiter (now text) from × IsPlain plain (now text))) ⌝ }
     ensures { λ r. ⌜ PartIs width delimiter (now (text .entry)) from r ⌝ }
 {
     let start = line_start(text, from, delimiter);
@@ -113,7 +142,15 @@ pub fn split_line(text: &[u8], from: usize, width: usize, delimiter: u8) -> Part
             next: text.len(),
         };
     }
-    let stop = start + width;
+    let place = text_width::reach(text, start, width, plain);
+    if 0 < place.left {
+        return Part::Line {
+            start,
+            end: text.len(),
+            next: text.len(),
+        };
+    }
+    let stop = place.at;
     if text[stop - 1] == delimiter {
         return Part::Line {
             start,
@@ -135,18 +172,18 @@ pub fn split_line(text: &[u8], from: usize, width: usize, delimiter: u8) -> Part
             next: stop + 1,
         };
     }
-    straddled(text, start, width, delimiter)
+    straddled(text, start, stop, width, delimiter, plain)
 }
 
 // How many lines `text` wraps into.
-pub fn count_parts(text: &[u8], width: usize, delimiter: u8) -> usize
-    requires { ⌜ 0 < width ⌝ }
+pub fn count_parts(text: &[u8], width: usize, delimiter: u8, plain: bool) -> usize
+    requires { ⌜ (0 < width) × (Sound delimiter (now text) 0 × IsPlain plain (now text)) ⌝ }
     ensures { λ r. ⌜ r ≡ length (split width delimiter (now (text .entry))) ⌝ }
 {
     let mut n: usize = 0;
     let mut at: usize = 0;
     while at < text.len() {
-        match split_line(text, at, width, delimiter) {
+        match split_line(text, at, width, delimiter, plain) {
             Part::Line {
                 start: _,
                 end: _,
@@ -163,19 +200,20 @@ pub fn count_parts(text: &[u8], width: usize, delimiter: u8) -> usize
     n
 }
 
-// The length of the longest wrapped line of `text`, or 0.
-pub fn longest_part(text: &[u8], width: usize, delimiter: u8) -> usize
-    requires { ⌜ 0 < width ⌝ }
+// The columns of the longest wrapped line of `text`, or 0.
+pub fn longest_part(text: &[u8], width: usize, delimiter: u8, plain: bool) -> usize
+    requires { ⌜ (0 < width) × (Sound delimiter (now text) 0 × IsPlain plain (now text)) ⌝ }
     ensures { λ r. ⌜ r ≡ greatest (map textWidth (split width delimiter (now (text .entry)))) ⌝ }
 {
     let mut m: usize = 0;
     let mut at: usize = 0;
     while at < text.len() {
-        let Part::Line { start, end, next } = split_line(text, at, width, delimiter) else {
+        let Part::Line { start, end, next } = split_line(text, at, width, delimiter, plain) else {
             return m;
         };
-        if m < end - start {
-            m = end - start;
+        let n = text_width::columns(text, start, end, plain);
+        if m < n {
+            m = n;
         }
         at = next;
     }

@@ -3,19 +3,21 @@ use native.Mathlib.Omega.{arith}
 use Prim.Native.Nat.{_≤_, _-_, _+_}
 use mathlib.Core.Path.{_≡_, ap}
 use denote.Ref.{now}
-use Rattle.content_split.proofs.Found.{is-line, is-none}
+use Rattle.content_split.proofs.Found.{is-line, is-none, line-sound}
 use Rattle.content_split.proofs.Steps.{none-at-end}
 use lib.ListN.{length, drop}
+use Rattle.content_split.specs.Cut.{Sound}
+use Rattle.text_width.specs.Measure.{IsPlain}
 use Rattle.rules.specs.Wrap.{split}
 use Rattle.content_split.proofs.count_parts.Statement.{statement}
 use Rattle.content_split.proofs.count_parts.Tie as tie
 
 abbrev Inv-loop : tie.InvT-loop
-Inv-loop text width delimiter n₀ at₀ n at =
-    (n ≤ at) × (at ≤ length text) × (length (split width delimiter text) ≡ n + length (split width delimiter (drop at text)))
+Inv-loop text width delimiter plain n₀ at₀ n at =
+    (n ≤ at) × (at ≤ length text) × (length (split width delimiter text) ≡ n + length (split width delimiter (drop at text))) × Sound delimiter text at × IsPlain plain text
 
 abbrev μ-loop : tie.MeasureT-loop
-μ-loop text width delimiter n₀ at₀ n at = length text - at
+μ-loop text width delimiter plain n₀ at₀ n at = length text - at
 
 pub count-parts-spec : {M : Type 1} → statement M
 count-parts-spec =
@@ -29,7 +31,7 @@ count-parts-spec =
     (λ c. search needs)
     (λ c. let l = is-line (c .before .next .given .1) (c .before .before .before .split-line .ensures) in omega arith)
     (λ c. let l = is-line (c .before .next .given .1) (c .before .before .before .split-line .ensures) in
-    (omega arith, l .within, omega (arith, ap length (l .wraps))))
+    (omega arith, l .within, omega (arith, ap length (l .wraps)), line-sound (c .before .before .before .before .before .loop .inv .3) l, c .before .before .before .before .before .loop .inv .4))
     (λ c. search needs)
     (λ c. let a = c .before .before .before .before .before .before .args in
     let at = c .before .before .before .before .loop .at in
