@@ -10,10 +10,17 @@ use native.Mathlib.Omega.{arith}
 use lib.ListN.{length, getD, take, set}
 use lib.Dec.{eqb, ltb, leb}
 use borrow.Author.Tests.{eqb-true, leb-true}
-use Rattle.rules.specs.Text.{textWidth, greatest, orElse, oneIf, keep, All}
-use Rattle.rules.specs.Sheet.{Width, Column, Cell, Row, Table, columnAt, cellAt, noCell, noColumn, allRows, padding, isHidden}
+use Rattle.rules.specs.Text.{textWidth, greatest, orElse, keep, All}
+use Rattle.rules.specs.Sheet.{Cell, Row, Table, columnAt, cellAt, noCell, noColumn, allRows, padding, isHidden}
+use Rattle.rules.specs.declared.Width.{Width}
+use Rattle.rules.specs.declared.Column.{Column}
 use Rattle.rules.specs.Limits.{WidthLimits, ColumnLimits, LineLimits, CellLimits, RowLimits, TableLimits}
-use Rattle.rules.specs.Widths.{State, Rule, cellsOf, cellLongest, longest, numbers, visible, borders, percentOf, widthOf, valueOf, lowerWidth, upperWidth, absoluteWidth, lower, upper, absolute, covering, evaluate, noted, first, untargeted, zeros, undecided, average, averageIsSome, isUndecided, start, fix, fixAt, visit, pass, passes, aboveAverage, withinAverage, fittingAverage, longestPart, shorterBy3, splitAtAverage, step1, step2, step3, share, shared, widened, step4, contents, lifted, contentOf}
+use Rattle.rules.specs.Widths.{State, Rule, cellsOf, cellLongest, longest, numbers, visible, borders, percentOf, widthOf, valueOf, lowerWidth}
+use Rattle.rules.specs.Widths.{upperWidth, absoluteWidth, lower, upper, absolute, covering, evaluate, noted, first, untargeted, zeros, undecided}
+use Rattle.rules.specs.Widths.{average, averageIsSome, isUndecided, start, fix, fixAt, visit, pass, passes, aboveAverage, withinAverage}
+use Rattle.rules.specs.Widths.{fittingAverage, longestPart, shorterBy3, splitAtAverage, step1, step2, step3, share, shared, widened, step4, contents}
+use Rattle.rules.specs.Widths.{lifted, contentOf}
+use Rattle.laws.proofs.Cases.{oneIf-le}
 use Rattle.laws.proofs.Text.{width-nil, width-le}
 use Rattle.laws.proofs.Settled.{zeros-le}
 use Rattle.laws.proofs.Contents.{length-steps}

@@ -10,7 +10,8 @@ use lib.ListN.{length, getD, List·getD-eq-default}
 use lib.Dec.{ltb}
 use borrow.Author.Tests.{ltb-false, le-ltb}
 use Rattle.rules.specs.Text.{blank, upFrom, keep, flat}
-use Rattle.rules.specs.Sheet.{Column, Row, Table, noCell, columnAt, cellAt}
+use Rattle.rules.specs.Sheet.{Row, Table, noCell, columnAt, cellAt}
+use Rattle.rules.specs.declared.Column.{Column}
 use Rattle.rules.specs.Wrap.{delimiterOf, wrapLines, exceeds, cut}
 use Rattle.rules.specs.Widths.{visible, contents}
 use Rattle.rules.specs.Page.{alignmentOf, area, wrapped, cellLines, height, areaAt}

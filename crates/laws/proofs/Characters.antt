@@ -8,10 +8,11 @@ use native.Mathlib.Omega.{arith}
 use lib.ListN.{getD, replicate}
 use lib.Dec.{leb}
 use Rattle.rules.specs.Text.{textWidth, blank, orElse, upFrom, All}
-use Rattle.rules.specs.Sheet.{Column, Cell, Row, Table, noCell, noColumn, columnAt, cellAt}
+use Rattle.rules.specs.Sheet.{Cell, Row, Table, noCell, noColumn, columnAt, cellAt}
+use Rattle.rules.specs.declared.Column.{Column}
 use Rattle.rules.specs.Limits.{Printable, IsText, nothing, plain, Optional, ColumnLimits, LineLimits, CellLimits, RowLimits, TableLimits}
 use Rattle.rules.specs.Style.{glyphAt, glyph, isVisible}
-use Rattle.rules.specs.Wrap.{delimiterOf, fitting, cutLine}
+use Rattle.rules.specs.Wrap.{delimiterOf, shownIndicator, cutLine}
 use Rattle.rules.specs.Widths.{visible, contents}
 use Rattle.rules.specs.Page.{alignmentOf, before, area, wrapped, cellLines, height, areaAt, areas, joinedMore, joined, lineOf, edge, ruled, textLine, shown, rowText, framed, pageLines}
 use Rattle.laws.proofs.Lists.{all-imp, all-append, all-map, all-map-imp, all-replicate, all-default}
@@ -86,8 +87,8 @@ unfolding area
 printable-area c w a l h = text-append (text-blank (c .left + before a (w - textWidth l))) (text-append h (text-blank ((w - textWidth l - before a (w - textWidth l)) + c .right)))
 
 printable-cutLine : (w : ℕ) (i l : List ℕ) → All Printable i → IsText l → IsText (cutLine w i l)
-unfolding cutLine fitting
-printable-cutLine w i l h k = text-append (text-first (w - textWidth (fitting w i)) k) (go (leb (textWidth i) w))
+unfolding cutLine shownIndicator
+printable-cutLine w i l h k = text-append (text-first (w - textWidth (shownIndicator w i)) k) (go (leb (textWidth i) w))
   where
     go : (b : Bool) → IsText (elim b as (λ x. List ℕ) [ true ↦ i | false ↦ [] ])
     go true = text-all i h

@@ -9,7 +9,7 @@ use lib.ListN.{length}
 use Rattle.rules.specs.Text.{textWidth, upFrom, All}
 use Rattle.rules.specs.Limits.{IsText, CellLimits, TableLimits}
 use Rattle.rules.specs.Sheet.{Row, Table}
-use Rattle.rules.specs.Style.{topBorder, headerLines, headerRule, contentLines, rowRule, bottomBorder, glyphAt, given, glyph, anyLeft, anyRight, anyJunction, isVisible}
+use Rattle.rules.specs.Style.{topBorder, headerLines, headerRule, contentLines, rowRule, bottomBorder, glyphAt, isSet, glyph, anyLeft, anyRight, anyJunction, isVisible}
 use Rattle.rules.specs.Widths.{visible}
 use Rattle.rules.specs.Page.{visibleWidth, visibleWidths, height, areaAt, areas, lineOf, joined, edge, ruled, textLine, shown, headed, ruledRows, rowText, framed}
 use Rattle.rules.specs.Words.{Readable}

@@ -9,7 +9,7 @@ use lib.Dec.{leb}
 use borrow.Author.Tests.{leb-true}
 use Rattle.rules.specs.Text.{textWidth, All}
 use Rattle.rules.specs.Sheet.{Row, Table, columnAt, cellAt}
-use Rattle.rules.specs.Wrap.{wrapLines, fitting, cutLine, cut, exceeds, delimiterOf}
+use Rattle.rules.specs.Wrap.{wrapLines, shownIndicator, cutLine, cut, exceeds, delimiterOf}
 use Rattle.rules.specs.Page.{areaAt, cellLines, wrapped, visibleWidth, alignmentOf}
 use Rattle.laws.proofs.Lists.{all-append, all-take, all-default}
 use Rattle.laws.proofs.Text.{width-nil, width-append, width-first}

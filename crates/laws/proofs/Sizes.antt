@@ -10,6 +10,7 @@ use Rattle.rules.specs.Text.{sum, textWidth}
 use Rattle.rules.specs.Sheet.{Table, padding}
 use Rattle.rules.specs.declared.Column.{Column}
 use Rattle.rules.specs.Page.{area, before, closed, page, pageLines, byteCount}
+use Rattle.laws.proofs.Text.{width-append, width-blank}
 
 pub before-le : (a n : ℕ) → before a n ≤ n
 before-le a n = go (eqb a 2) (eqb a 3)
@@ -19,10 +20,15 @@ before-le a n = go (eqb a 2) (eqb a 3)
     go false true = omega arith
     go false false = omega arith
 
--- a cell area has as many characters as its visible width
-pub length-area : (c : Column) (w a : ℕ) (l : List ℕ) → textWidth l ≤ w → length (area c w a l) ≡ w + padding c
-unfolding area textWidth
-length-area c w a l h = simp (length-append, length-replicate) (omega (arith, before-le a (w - length l)))
+-- a line of a cell area takes the content width and both paddings, in columns
+pub width-area : (c : Column) (w a : ℕ) (l : List ℕ) → textWidth l ≤ w → textWidth (area c w a l) ≡ w + padding c
+unfolding area
+width-area c w a l h = simp (width-append, width-blank) (omega (arith, before-le a (w - textWidth l)))
+
+-- and in bytes one more for each pair
+pub length-area : (c : Column) (w a : ℕ) (l : List ℕ) → textWidth l ≤ w → length (area c w a l) + textWidth l ≡ w + padding c + length l
+unfolding area
+length-area c w a l h = simp (length-append, length-replicate) (omega (arith, before-le a (w - textWidth l)))
 
 -- no line, and one
 pub closed-none : closed [] ≡ []
