@@ -11,7 +11,7 @@ use Rattle.rules.specs.Widths.{numbers, visible, contents}
 use Rattle.rules.specs.Page.{visibleWidth, visibleWidths, height, areaAt, areas}
 use Rattle.rules.specs.Words.{rowAt, widthsOf, linesOf, areaOf}
 use Rattle.rules.specs.Demand3.{Agree}
-use Rattle.laws.proofs.Lists.{all-getD, all-keep, all-map-imp, below-upFrom, getD-map, getD-upFrom, length-upFrom, map-append}
+use Rattle.laws.proofs.Lists.{all-getD, all-imp, all-keep, all-map-imp, below-upFrom, getD-map, getD-upFrom, length-upFrom, map-append}
 use Rattle.laws.proofs.Cancel.{at-length}
 use Rattle.laws.proofs.Contents.{length-contents, contents-some}
 
@@ -25,11 +25,14 @@ visible-below t = all-keep (λ j. j < length (t .columns)) _ (upFrom 0 (length (
 pub content-some : (t : Table) (j : ℕ) → j < length (t .columns) → 1 ≤ getD (contents t) j 0
 content-some t j h = all-getD (λ w. 1 ≤ w) (contents t) j 0 (omega (arith, length-contents t)) (contents-some t)
 
+-- so are those of all visible columns
+pub visible-some : (t : Table) → All (λ j. 1 ≤ getD (contents t) j 0) (visible t)
+visible-some t = all-imp (λ j. j < length (t .columns)) (λ j. 1 ≤ getD (contents t) j 0) (content-some t) (visible t) (visible-below t)
+
 -- a visible width is at least 1
 pub widths-some : (t : Table) → All (λ v. 1 ≤ v) (widthsOf t)
 unfolding visibleWidths
-widths-some t = all-map-imp (λ j. j < length (t .columns)) (λ v. 1 ≤ v) (visibleWidth t (contents t)) (λ j h. omega (arith, content-some t j h))
-    (visible t) (visible-below t)
+widths-some t = all-map-imp (λ j. 1 ≤ getD (contents t) j 0) (λ v. 1 ≤ v) (visibleWidth t (contents t)) (λ j h. omega arith) (visible t) (visible-some t)
 
 -- as many visible widths as visible columns
 pub length-widths : (t : Table) (ws : List ℕ) → length (visibleWidths t ws) ≡ length (visible t)

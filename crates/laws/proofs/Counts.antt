@@ -1,29 +1,30 @@
 -- How many lines and bytes the page of an accepted sheet has at most, and which columns its lines show. Assumes nothing.
 use Prim.Native.Nat.{ℕ, zero, suc, _+_, _-_, _*_, _≤_, _<_}
 use mathlib.Core.Path.{_≡_, refl}
-use mathlib.Core.Logic.{_⊎_, inl, inr}
 use mathlib.Core.List.{List, [], _∷_, _++_, map}
 use mathlib.Core.Bool.{Bool, true, false, not, cond}
 use native.Mathlib.Omega.{arith}
 use lib.ListN.{length, getD, take, length-append, length-take, length-map}
 use lib.Dec.{ltb, eqb}
 use borrow.Author.Tests.{ltb-true, ltb-false}
-use Rattle.rules.specs.Text.{textWidth, restOf, sum, oneIf, upFrom, keep, flat, All}
+use Rattle.rules.specs.Text.{textWidth, restOf, sum, upFrom, keep, flat, All}
 use Rattle.rules.specs.Sheet.{Cell, Row, Table, noCell, noColumn, columnAt, cellAt, padding, isHidden}
-use Rattle.rules.specs.Limits.{ColumnLimits, LineLimits, CellLimits, RowLimits, TableLimits}
+use Rattle.rules.specs.Limits.{widestLine, longestLine, ColumnLimits, LineLimits, CellLimits, RowLimits, TableLimits, mostLines}
 use Rattle.rules.specs.Style.{topBorder, headerLines, headerRule, contentLines, rowRule, bottomBorder, anyLeft, anyRight, anyJunction, isVisible, bordersOf}
-use Rattle.rules.specs.Wrap.{Act, join, retry, fill, begin, onto, pieces, glue, room, full, act, last, place, weight, split, wrapLine, wrapLines, exceeds, cutLine, cut, delimiterOf}
+use Rattle.rules.specs.Wrap.{Act, join, retry, fill, begin, onto, pieces, glue, room, full, act, last, place, weight, split, wrapLine, wrapLines}
+use Rattle.rules.specs.Wrap.{exceeds, cutLine, cut, delimiterOf}
 use Rattle.rules.specs.Widths.{numbers, visible, borders, contents}
-use Rattle.rules.specs.Page.{visibleWidth, visibleWidths, wrapped, cellLines, height, areaAt, areas, ruled, textLine, shown, headed, ruledMore, ruledRows, rowText, framed, pageLines, closed, lineAt, lineCount, byteCount}
+use Rattle.rules.specs.Page.{visibleWidth, visibleWidths, wrapped, cellLines, height, areaAt, areas, ruled, textLine, lineLength, borderLength, shown}
+use Rattle.rules.specs.Page.{headed, ruledMore, ruledRows, rowText, framed, pageLines, closed, lineCount}
+use Rattle.laws.proofs.Cases.{oneIf-le}
 use Rattle.laws.proofs.Lists.{all-map, all-map-imp, all-imp, all-append, all-default, all-getD, all-keep, length-upFrom, keep-yes, keep-no}
 use Rattle.laws.proofs.Bounds.{Most, greatest-le, contents-801}
-use Rattle.laws.proofs.Areas.{visible-below, length-widths, length-areas}
+use Rattle.laws.proofs.Areas.{visible-below, visible-some, length-widths, length-areas}
 use Rattle.laws.proofs.Rows.{all-headed, all-ruledRows}
-use Rattle.laws.proofs.Lines.{lineLength, borderLength, text-length, rule-length, border-length}
-use Rattle.laws.proofs.Sizes.{length-closed, byte-count-closed}
-use Rattle.laws.proofs.Texts.{text-length}
-use Rattle.laws.proofs.Fits.{width-areaAt}
-use Rattle.laws.proofs.Characters.{printable-areaAt}
+use Rattle.laws.proofs.Text.{width-le}
+use Rattle.laws.proofs.PairCounts.{PairsUpTo, shown-100}
+use Rattle.laws.proofs.Lines.{text-width, text-bound, rule-length, border-length}
+use Rattle.laws.proofs.Sizes.{length-closed}
 
 -- ---- lines of a cell
 
@@ -300,96 +301,89 @@ module _ (t : Table) (T : TableLimits t) where
     length-widths t (contents t),
   )
 
-  -- text lines and rules
-  pub line-length-bound : lineLength t (contents t) ≤ longestLine
+  line-length-most : lineLength t (contents t) ≤ 842 * length (visible t) + 2
   unfolding lineLength borders bordersOf
-  line-length-bound =
+  line-length-most =
       omega (
         arith,
         oneIf-le (anyLeft (t .style)),
         oneIf-le (anyRight (t .style)),
         cond-le (anyJunction (t .style)) (length (visible t) - 1),
         widths-bound,
-        visible-count t,
-        T .columns,
       )
 
+  -- rules, and text lines in columns
+  pub line-length-bound : lineLength t (contents t) ≤ widestLine
+  line-length-bound = omega (arith, line-length-most, visible-count t, T .columns)
+
   -- borders
-  pub border-length-bound : borderLength t (contents t) ≤ longestLine
+  pub border-length-bound : borderLength t (contents t) ≤ widestLine
   unfolding borderLength
   border-length-bound = omega (arith, oneIf-le (anyLeft (t .style)), oneIf-le (anyRight (t .style)), widths-bound, visible-count t, T .columns)
 
--- every line has one of the two lengths, or is text of at most two bytes a column
-abbrev Drawn : Table → List ℕ → List ℕ → Type 0
-Drawn t ws l = (length l ≤ 2 * lineLength t ws) ⊎ (length l ≡ borderLength t ws)
-
-module _ (t : Table) (T : TableLimits t) (ws : List ℕ) where
-  area-bytes : (r : Row) → All CellLimits (r .cells) → (k : ℕ) (js : List ℕ) → sum (map length (map (areaAt t ws r k) js)) ≤ 2 * sum (map (visibleWidth t ws) js)
-  unfolding sum
-  area-bytes r R k [] = omega arith
-  area-bytes r R k (j ∷ js) = omega (arith, text-length (printable-areaAt t T ws r R k j), width-areaAt t ws r k j, area-bytes r R k js)
-
-  -- a text line of a row
-  pub text-bound : (r : Row) → All CellLimits (r .cells) → (i k : ℕ) → length (textLine (t .style) i (map (areaAt t ws r k) (visible t))) ≤ 2 * lineLength t ws
-  unfolding lineLength visibleWidths
-  text-bound r R i k = omega (arith, text-length t ws r i k, area-bytes r R k (visible t))
-
-  shown-lengths : (always : Bool) (k : ℕ) → All (Drawn t ws) (shown (t .style) always k (visibleWidths t ws))
-  unfolding shown
-  shown-lengths always k = go always (isVisible (t .style) k)
-    where
-      go : (a b : Bool) → All (Drawn t ws) (elim b as (λ x. List (List ℕ)) [ true ↦ ruled (t .style) a k (visibleWidths t ws) ∷ [] | false ↦ [] ])
-      go true true = (inr (border-length t ws k), tt)
-      go false true = (inl (omega (arith, rule-length t ws k)), tt)
-      go a false = tt
-
-  text-lengths : (k n : ℕ) (rs : List Row) → All (RowLimits n) rs → All (λ r. All (Drawn t ws) (rowText t ws k r)) rs
-  unfolding rowText areas
-  text-lengths k n [] h = tt
-  text-lengths k n (r ∷ rs) h = (
-    all-map-imp (λ x. Drawn t ws (textLine (t .style) k x)) (Drawn t ws) (textLine (t .style) k) (λ x h. h) (areas t ws r)
-        (all-map (λ x. Drawn t ws (textLine (t .style) k x)) (λ i. map (areaAt t ws r i) (visible t)) (λ i. inl (text-bound r (h .0 .each) k i)) (upFrom 0 (height t ws r))),
-    text-lengths k n rs (h .1),
-  )
-
-  -- over some of the rows
-  pub framed-line-lengths : (rs : List Row) → All (RowLimits (length (t .columns))) rs → All (Drawn t ws) (framed t ws rs)
-  unfolding framed
-  framed-line-lengths rs h =
-      let head = text-lengths headerLines (length (t .columns)) (t .header) (T .header-row) in
-      let rest = text-lengths contentLines (length (t .columns)) rs h in
-      search (all-append, all-headed, all-ruledRows, shown-lengths, head, rest)
-
--- the whole page
-pub page-line-lengths : (t : Table) → TableLimits t → All (Drawn t (contents t)) (pageLines t)
-unfolding pageLines
-page-line-lengths t T = framed-line-lengths t T (contents t) (t .rows) (T .each-row)
-
-bytes-20401 : (ls : List (List ℕ)) → All (λ l. length l ≤ 20400) ls → sum (map (λ l. length l + 1) ls) ≤ 20401 * length ls
-unfolding sum
-bytes-20401 [] h = omega arith
-bytes-20401 (l ∷ ls) h = omega (arith, bytes-20401 ls (h .1), h .0)
+-- a line of at most so many columns, and so many bytes
+abbrev Bounded : List ℕ → Type 0
+Bounded l = (textWidth l ≤ widestLine) × (length l ≤ longestLine)
 
 module _ (t : Table) (T : TableLimits t) where
-  -- no line is longer, over some of the rows
-  pub framed-line-bound : (rs : List Row) → All (RowLimits (length (t .columns))) rs → All (λ l. length l ≤ 20400) (framed t (contents t) rs)
-  framed-line-bound rs h = all-imp (Drawn t (contents t)) (λ l. length l ≤ 20400) go (framed t (contents t) rs) (framed-line-lengths t T (contents t) rs h)
+  shown-bounded : (always : Bool) (k : ℕ) → All Bounded (shown (t .style) always k (visibleWidths t (contents t)))
+  unfolding shown
+  shown-bounded always k = go always (isVisible (t .style) k)
     where
-      go : (l : List ℕ) → Drawn t (contents t) l → length l ≤ 20400
-      go l (inl e) = omega (arith, line-length-bound t T)
-      go l (inr e) = omega (arith, border-length-bound t T)
+      bounded : (l : List ℕ) → length l ≤ widestLine → Bounded l
+      bounded l h = (omega (arith, width-le l), omega arith)
 
-  -- line k of the page, its 0A included
-  pub line-at-bound : (k : ℕ) → length (lineAt t k) ≤ 20401
-  unfolding lineAt pageLines
-  line-at-bound k = simp length-append (omega (arith, all-default (λ l. length l ≤ 20400) (pageLines t) k [] (omega arith) (framed-line-bound (t .rows) (T .each-row))))
+      go : (a b : Bool) → All Bounded (elim b as (λ x. List (List ℕ)) [ true ↦ ruled (t .style) a k (visibleWidths t (contents t)) ∷ [] | false ↦ [] ])
+      go true true = (bounded (ruled (t .style) true k (visibleWidths t (contents t))) (omega (arith, border-length t (contents t) k, border-length-bound t T)), tt)
+      go false true = (bounded (ruled (t .style) false k (visibleWidths t (contents t))) (omega (arith, rule-length t (contents t) k, line-length-bound t T)), tt)
+      go a false = tt
+
+  -- a text line has at most 100 pairs a column
+  text-bounded : (r : Row) → All CellLimits (r .cells) → (k i : ℕ) → Bounded (textLine (t .style) k (map (areaAt t (contents t) r i) (visible t)))
+  text-bounded r R k i =
+      let few = all-imp (λ j. 1 ≤ getD (contents t) j 0) (λ j. PairsUpTo 100 (getD (cellLines t (contents t) r j) i []))
+      (λ j some. shown-100 t T (contents t) r R i j some) (visible t) (visible-some t) in
+      (
+        omega (arith, text-width t (T .style-characters) (contents t) r k i, line-length-bound t T),
+        omega (arith, text-bound t (contents t) r k i 100 few, line-length-most t T, visible-count t, T .columns),
+      )
+
+  texts-bounded : (k n : ℕ) (rs : List Row) → All (RowLimits n) rs → All (λ r. All Bounded (rowText t (contents t) k r)) rs
+  unfolding rowText areas
+  texts-bounded k n [] h = tt
+  texts-bounded k n (r ∷ rs) h = (
+    all-map-imp (λ x. Bounded (textLine (t .style) k x)) Bounded (textLine (t .style) k) (λ x h. h) (areas t (contents t) r)
+        (all-map (λ x. Bounded (textLine (t .style) k x)) (λ i. map (areaAt t (contents t) r i) (visible t)) (text-bounded r (h .0 .each) k)
+        (upFrom 0 (height t (contents t) r))),
+    texts-bounded k n rs (h .1),
+  )
+
+  -- every line over some of the rows
+  framed-bounded : (rs : List Row) → All (RowLimits (length (t .columns))) rs → All Bounded (framed t (contents t) rs)
+  unfolding framed
+  framed-bounded rs h =
+      let head = texts-bounded headerLines (length (t .columns)) (t .header) (T .header-row) in
+      let rest = texts-bounded contentLines (length (t .columns)) rs h in
+      search (all-append, all-headed, all-ruledRows, shown-bounded, head, rest)
+
+bytes-longest : (ls : List (List ℕ)) → All (λ l. length l ≤ longestLine) ls → sum (map (λ l. length l + 1) ls) ≤ (longestLine + 1) * length ls
+unfolding sum
+bytes-longest [] h = omega arith
+bytes-longest (l ∷ ls) h = omega (arith, bytes-longest ls (h .1), h .0)
+
+module _ (t : Table) (T : TableLimits t) where
+  -- no line has more bytes, over some of the rows
+  pub framed-line-bound : (rs : List Row) → All (RowLimits (length (t .columns))) rs → All (λ l. length l ≤ longestLine) (framed t (contents t) rs)
+  framed-line-bound rs h = all-imp Bounded (λ l. length l ≤ longestLine) (λ l b. b .1) (framed t (contents t) rs) (framed-bounded t T rs h)
 
   -- the bytes of lines over some of the rows
-  pub framed-byte-bound : (rs : List Row) → length rs ≤ 100 → All (RowLimits (length (t .columns))) rs → length (closed (framed t (contents t) rs)) ≤ 1000000 * 20401
+  pub framed-byte-bound : (rs : List Row) → length rs ≤ 100 → All (RowLimits (length (t .columns))) rs → length (closed (framed t (contents t) rs)) ≤
+      mostLines * (longestLine + 1)
   framed-byte-bound rs n h =
-      omega (arith, length-closed (framed t (contents t) rs), bytes-20401 (framed t (contents t) rs) (framed-line-bound rs h), framed-count t T (contents t) rs n h)
-
-  -- and those of the page
-  pub byte-count-bound : byteCount t ≤ 1000000 * 20401
-  unfolding pageLines
-  byte-count-bound = omega (arith, byte-count-closed t, framed-byte-bound (t .rows) (T .rows) (T .each-row))
+      omega (
+        arith,
+        length-closed (framed t (contents t) rs),
+        bytes-longest (framed t (contents t) rs) (framed-line-bound rs h),
+        framed-count t T
+            (contents t) rs n h,
+      )

@@ -9,11 +9,13 @@ use lib.Dec.{leb}
 use borrow.Author.Tests.{leb-true}
 use Rattle.rules.specs.Text.{textWidth, All}
 use Rattle.rules.specs.Sheet.{Row, Table, columnAt, cellAt}
+use Rattle.rules.specs.Limits.{Printable, Plain}
 use Rattle.rules.specs.Wrap.{wrapLines, shownIndicator, cutLine, cut, exceeds, delimiterOf}
 use Rattle.rules.specs.Page.{areaAt, cellLines, wrapped, visibleWidth, alignmentOf}
 use Rattle.laws.proofs.Lists.{all-append, all-take, all-default}
 use Rattle.laws.proofs.Text.{width-nil, width-append, width-first}
-use Rattle.laws.proofs.Sizes.{width-area}
+use Rattle.laws.proofs.Texts.{plain-all}
+use Rattle.laws.proofs.Sizes.{width-area, length-area}
 use Rattle.laws.proofs.Split.{Short, short-lines}
 
 -- a property of lines that cutting a line to its width and indicator gives, cutting a cell keeps
@@ -35,6 +37,15 @@ fitting-le w i = go (leb (textWidth i) w) refl
     go true e = leb-true (textWidth i) w e
     go false e = rw width-nil (omega arith)
 
+-- an indicator has no pair, kept or not
+pub plain-indicator : (w : ℕ) (i : List ℕ) → All Printable i → Plain (shownIndicator w i)
+unfolding shownIndicator
+plain-indicator w i h = go (leb (textWidth i) w)
+  where
+    go : (b : Bool) → Plain (elim b as (λ x. List ℕ) [ true ↦ i | false ↦ [] ])
+    go true = plain-all i h
+    go false = width-nil
+
 -- a line that is cut fits
 pub short-cutLine : (w : ℕ) (i l : List ℕ) → Short w (cutLine w i l)
 unfolding cutLine
@@ -51,12 +62,23 @@ short-cell t ws r j =
     short-cut (getD ws j 0) (t .indicator) (r .limit) (wrapLines (getD ws j 0) (delimiterOf t (columnAt t j) (cellAt r j)) (cellAt r j .lines))
     (short-lines (getD ws j 0) (delimiterOf t (columnAt t j) (cellAt r j)) (cellAt r j .lines))
 
--- a cell area has as many characters as its visible width
+-- so does what is shown of it in line k
+short-shown : (t : Table) (ws : List ℕ) (r : Row) (k j : ℕ) → Short (getD ws j 0) (getD (cellLines t ws r j) k [])
+short-shown t ws r k j = all-default (Short (getD ws j 0)) (cellLines t ws r j) k [] (rw width-nil (omega arith)) (short-cell t ws r j)
+
+-- a cell area has as many columns as its visible width
 pub width-areaAt : (t : Table) (ws : List ℕ) (r : Row) (k j : ℕ) → textWidth (areaAt t ws r k j) ≡ visibleWidth t ws j
 unfolding areaAt
 width-areaAt t ws r k j =
     width-area (columnAt t j) (getD ws j 0) (alignmentOf (columnAt t j) (cellAt r j)) (getD (cellLines t ws r j) k [])
-    (all-default (Short (getD ws j 0)) (cellLines t ws r j) k [] (rw width-nil (omega arith)) (short-cell t ws r j))
+    (short-shown t ws r k j)
+
+-- and a byte for each, and one for each pair
+pub length-areaAt : (t : Table) (ws : List ℕ) (r : Row) (k j : ℕ)
+    → length (areaAt t ws r k j) + textWidth (getD (cellLines t ws r j) k []) ≡ visibleWidth t ws j + length (getD (cellLines t ws r j) k [])
+unfolding areaAt
+length-areaAt t ws r k j = length-area (columnAt t j) (getD ws j 0) (alignmentOf (columnAt t j) (cellAt r j)) (getD (cellLines t ws r j) k [])
+    (short-shown t ws r k j)
 
 -- so have the areas of a line, each its own
 pub area-widths : (t : Table) (ws : List ℕ) (r : Row) (k : ℕ) (js : List ℕ) → map textWidth (map (areaAt t ws r k) js) ≡ map (visibleWidth t ws) js

@@ -95,7 +95,8 @@ module _ (q : ℕ → Bool) (d : ℕ) (out : q d ≡ true) where
     unfolding split
     kept-split l = fresh (weight (pieces d l)) (keeping (weight (pieces d l))) (pieces d l) (omega arith) ∙ rest-pieces l
 
-    kept-line : (l : List ℕ) → rest (flat (wrapLine w d l)) ≡ rest l
+    -- a line that is wrapped holds what it held, in its order
+    pub kept-line : (l : List ℕ) → rest (flat (wrapLine w d l)) ≡ rest l
     unfolding wrapLine
     kept-line l = go (ltb w (textWidth l))
       where

@@ -10,7 +10,6 @@ pub mod Bounds
 pub mod Sizes
 pub mod Fits
 pub mod Fitting
-pub mod Lines
 pub mod Reading
 pub mod Accepted
 pub mod Stands
@@ -19,6 +18,8 @@ pub mod Wrote
 pub mod Cancel
 pub mod Rows
 pub mod Characters
+pub mod PairCounts
+pub mod Lines
 pub mod Drawn
 pub mod Areas
 pub mod Counts

@@ -5,20 +5,21 @@ use mathlib.Core.Logic.{_≢_, _↔_}
 use mathlib.Core.List.{List, map}
 use mathlib.Core.Bool.{Bool, true, false, not, _||_}
 use native.Mathlib.Omega.{arith}
-use lib.ListN.{length}
+use lib.ListN.{length, getD}
 use lib.Dec.{eqb, ltb}
 use borrow.Author.Tests.{eq-eqb}
-use Rattle.rules.specs.Text.{keep, isSecond, charactersIn, upFrom, flat, All}
+use Rattle.rules.specs.Text.{keep, isSecond, charactersIn, textWidth, upFrom, flat, All}
 use Rattle.rules.specs.Sheet.{Row, Table, noRow, allRows, columnAt, cellAt}
 use Rattle.rules.specs.Limits.{IsText, CellLimits, RowLimits, TableLimits}
 use Rattle.rules.specs.Wrap.{delimiterOf}
 use Rattle.rules.specs.Widths.{visible, contents}
-use Rattle.rules.specs.Page.{areas, closed, pageLines, page}
+use Rattle.rules.specs.Page.{areas, visibleWidth, visibleWidths, closed, pageLines, page}
 use Rattle.rules.specs.Words.{Readable, Accepted, wrote, Answered, rowAt, columnOf, widthsOf, linesOf, areaOf, isDelimiter, leftOut}
 use Rattle.rules.specs.Demand3.{Agree, SameText, Comparable, Demand3}
-use Rattle.laws.proofs.Lists.{all-imp, all-append, all-default, all-right, all-places, map-below, keep-swap}
+use Rattle.laws.proofs.Lists.{all-imp, all-append, all-default, all-right, all-places, getD-map, map-below, keep-swap}
 use Rattle.laws.proofs.Texts.{text-unbroken, text-tells}
 use Rattle.laws.proofs.Cancel.{closed-cancel}
+use Rattle.laws.proofs.Fits.{width-areaAt}
 use Rattle.laws.proofs.Characters.{printable-areaAt, printable-page}
 use Rattle.laws.proofs.Drawn.{Fits, rows-fit, drawn, framed-drawn, shown-drawn, drawn-widths, drawn-shown}
 use Rattle.laws.proofs.Areas.{widths-some, length-widths, length-areas, shownIn, Alike, area-alike, alike-agree, agree-alike}
@@ -125,12 +126,22 @@ texts-on-tables t u a i c hi hc x y =
     ∙ place-text q refl u i c (omega (arith, length-widths t (contents t), length-widths u (contents u), ap length (g .widths))) (λ h. or-right (eqb du 32 || isDelimiter t i c du) (isDelimiter u i c du) (is-delimiter u i c h)) y
     )
 
+-- an area holds as many characters as its column's visible width
+area-filled : (t : Table) (i k c : ℕ) → c < length (visible t) → length (charactersIn (areaOf t i k c)) ≡ getD (widthsOf t) c 0
+unfolding textWidth visibleWidths
+area-filled t i k c h =
+    width-areaAt t (contents t) (rowAt t i) k (columnOf t c) ∙ sym (getD-map (visibleWidth t (contents t)) (visible t) c 0 0 h)
+
 -- demand 3, over the calls
 pub demand-3 : Demand3
-demand-3 = record { pages = pages; texts = texts }
+demand-3 = record { filled = filled; pages = pages; texts = texts }
   where
     limits : (s : List ℕ) (t : Table) → Accepted s t → TableLimits t
     limits s t a = accepted-limits s t (a .end) (a .reads)
+
+    filled : (s : List ℕ) (t : Table) → Accepted s t → (i k c : ℕ) → i < length (allRows t) → k < linesOf t i → c < length (visible t)
+        → length (charactersIn (areaOf t i k c)) ≡ getD (widthsOf t) c 0
+    filled s t a i k c h l m = area-filled t i k c m
 
     pages : (s v : List ℕ) (t u : Table) → Comparable s v t u → (b d : List ℕ) → Answered s b → Answered v d → (wrote s b ≡ wrote v d) ↔ Agree t u
     pages s v t u C b d m n =

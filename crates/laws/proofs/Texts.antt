@@ -9,7 +9,7 @@ use lib.ListN.{length, getD, drop}
 use lib.Dec.{eqb}
 use borrow.Author.Tests.{ne-eqb}
 use Rattle.rules.specs.Text.{keep, isSecond, charactersIn, textWidth, firstOf, restOf, All}
-use Rattle.rules.specs.Limits.{Printable, IsText, nothing, plain, degree}
+use Rattle.rules.specs.Limits.{Printable, IsText, nothing, plain, degree, Plain}
 use Rattle.rules.specs.Wrap.{onto, pieces, glue}
 use Rattle.laws.proofs.Text.{width-nil, width-cons, width-second, first-nil, first-second, first-zero, first-suc, rest-nil, rest-second, rest-zero, rest-suc}
 
@@ -27,6 +27,10 @@ width-degree l = width-cons 194 (176 ∷ l) refl ∙ ap suc (width-second 176 l 
 pub text-all : (l : List ℕ) → All Printable l → IsText l
 text-all [] h = nothing
 text-all (b ∷ l) h = plain b l (h .0) (text-all l (h .1))
+
+pub plain-all : (l : List ℕ) → All Printable l → Plain l
+plain-all [] h = width-nil
+plain-all (b ∷ l) h = width-plain b l (h .0) ∙ ap suc (plain-all l (h .1))
 
 -- one text after another
 pub text-append : {l m : List ℕ} → IsText l → IsText m → IsText (l ++ m)
