@@ -3,17 +3,17 @@ use Prim.Native.Nat.{ℕ, _≤_}
 use mathlib.Core.Path.{_≡_, refl, ap, sym, subst, _∙_}
 use mathlib.Core.Logic.{_⊎_, inl, inr}
 use mathlib.Core.List.{List}
-use mathlib.Core.Bool.{Bool, true, false, cond, _||_, and-eq-true-iff}
+use mathlib.Core.Bool.{Bool, true, false, cond, _||_}
 use native.Mathlib.Omega.{arith}
 use lib.ListN.{length}
 use lib.Dec.{ltb, leb, eqb}
-use borrow.Author.Tests.{leb-true, eqb-true, eq-eqb, ltb-false}
+use borrow.Author.Tests.{eqb-true, eq-eqb, ltb-false}
 use Rattle.rules.specs.Sheet.{Cell, Row, Table, mostColumns}
 use Rattle.rules.specs.declared.Width.{Width}
 use Rattle.rules.specs.declared.Column.{Column}
 use Rattle.rules.specs.Field.{Read, got, refused, onward, between, printable, printableOrZero, ended}
-use Rattle.rules.specs.Description.{reads}
-use Rattle.rules.specs.Format.{width, column, line, cell, row, table, sheet}
+use Rattle.rules.specs.Description.{Format, Faithful, reads}
+use Rattle.rules.specs.Format.{width, column, line, cellOf, cell, rowOf, row, tableOf, table, sheetOf, sheet}
 use Rattle.rules.specs.Places.{tableHere, endPlace}
 use Rattle.rules.specs.Steps.{stepOf, readFrom, after}
 use Rattle.rules.specs.declared.Step.{Step}
@@ -21,6 +21,7 @@ use Rattle.rules.specs.declared.Step.the-variants.{At, Refused}
 use Rattle.rules.specs.Limits.{Printable, Optional, WidthLimits, ColumnLimits, LineLimits, CellLimits, RowLimits, TableLimits}
 use Rattle.rules.specs.Calls.{check, checkOf}
 use Rattle.laws.proofs.Lists.{all-imp}
+pub use Rattle.laws.proofs.Reading.{between-both}
 use Rattle.laws.proofs.Reading.{Number, keeps, Reads, Sound, sound, steps}
 use Rattle.rules.proofs.Parts.{Whole, table-whole}
 
@@ -29,11 +30,6 @@ use Rattle.rules.proofs.Parts.{Whole, table-whole}
 or-either : (a b : Bool) → (a || b) ≡ true → (a ≡ true) ⊎ (b ≡ true)
 or-either true b e = inl refl
 or-either false b e = inr e
-
-pub between-both : (low high v : ℕ) → between low high v ≡ true → (low ≤ v) × (v ≤ high)
-between-both low high v e =
-    let h = and-eq-true-iff (leb low v) (leb v high) .0 e in
-    (leb-true low v (h .0), leb-true v high (h .1))
 
 at-most : (low high v : ℕ) → between low high v ≡ true → v ≤ high
 at-most low high v e = between-both low high v e .1
@@ -87,12 +83,11 @@ line-limits : (l : List ℕ) → keeps line l → LineLimits l
 unfolding keeps line
 line-limits l k = record {
   length = at-most 0 200 (length l) (k .0);
-  characters = all-imp (λ c. printable c ≡ true) Printable (between-both 32 126) l
-      (k .1);
+  characters = k .1;
 }
 
 cell-limits : (x : Cell) → keeps cell x → CellLimits x
-unfolding keeps cell
+unfolding keeps cellOf
 cell-limits x k =
     let n = between-both 1 8 (length (x .lines)) (k .1 .1 .0 .0 .0) in
     record {
@@ -104,7 +99,7 @@ cell-limits x k =
     }
 
 row-limits : (columns : ℕ) (r : Row) → keeps (row columns) r → RowLimits columns r
-unfolding keeps row
+unfolding keeps rowOf
 row-limits columns r k = record {
   limit = at-most 0 255 (r .limit) (k .0 .0);
   cells = at-most 0 columns (length (r .cells)) (k .1 .0 .0 .0);
@@ -112,7 +107,7 @@ row-limits columns r k = record {
 }
 
 pub table-limits : (t : Table) → keeps table t → TableLimits t
-unfolding keeps table
+unfolding keeps tableOf
 table-limits t k =
     let e = between-both 1 1 (t .edition) (k .0 .0) in
     let indicator = k .1 .1 .1 .1 .0 in
@@ -141,6 +136,10 @@ table-limits t k =
 
 -- ---- the sheet
 
+line-whole : Faithful line Whole
+unfolding Faithful line
+line-whole l = tt
+
 -- an accepted sheet is short enough, its table was read from its first byte, and nothing stands behind it
 pub record Accepted (s : List ℕ) (t : Table) (q : ℕ) : Type 0 where
   pub short : length s ≤ 32768
@@ -163,7 +162,7 @@ ended-sound s short (got t p) r = go (ltb p (length s)) refl
 ended-sound s short (refused n q) r = r
 
 sheet-sound : (s : List ℕ) → SheetSound s (sheet s)
-unfolding sheet
+unfolding sheetOf
 sheet-sound s = go (ltb 32768 (length s)) refl
   where
     go : (b : Bool) → ltb 32768 (length s) ≡ b
@@ -173,7 +172,7 @@ sheet-sound s = go (ltb 32768 (length s)) refl
               (λ t p. onward (ended s p) (λ u q. got t q))
         ])
     go true e = (omega arith, omega arith)
-    go false e = ended-sound s (ltb-false 32768 (length s) e) (reads table s 0) (sound table Whole table-whole s 0)
+    go false e = ended-sound s (ltb-false 32768 (length s) e) (reads table s 0) (sound table Whole (table-whole line line-whole) s 0)
 
 -- a refused sheet's number
 pub refused-number : (s : List ℕ) (n p : ℕ) → sheet s ≡ refused n p → Number n
@@ -205,11 +204,11 @@ checked-reading s e = go (sheet s) refl e
     go (got t q) i j = record { table = t; end = q; reads = i }
     go (refused n q) i j = let h = refused-number s n q i in absurd (omega arith)
 
--- the steps of the whole: 2, the fields, 9
-pub sheet-steps : (s : List ℕ) → stepOf (sheet s) ≡ elim (ltb 32768 (length s))
-    [ true ↦ Refused 2 32768 | false ↦ readFrom ended s (after table s (At 0)) ]
-unfolding sheet onward readFrom
-sheet-steps s = go (ltb 32768 (length s))
+-- the steps of the whole: 2, the fields, 9. Whatever a line is
+pub steps-of : (x : Format (List ℕ)) → Faithful x Whole → (s : List ℕ) → stepOf (sheetOf x s) ≡ elim (ltb 32768 (length s))
+    [ true ↦ Refused 2 32768 | false ↦ readFrom ended s (after (tableOf x) s (At 0)) ]
+unfolding sheetOf onward readFrom
+steps-of x whole s = go (ltb 32768 (length s))
   where
     ends : (t : Table) (y : Read (Unit {0})) → stepOf (onward y (λ u q. got t q)) ≡ stepOf y
     ends t (got u q) = refl
@@ -220,11 +219,15 @@ sheet-steps s = go (ltb 32768 (length s))
     inner (refused n p) = refl
 
     go : (b : Bool)
-        → stepOf {A = Table} (elim b as (λ x. Read Table) [
+        → stepOf {A = Table} (elim b as (λ z. Read Table) [
           | true ↦ refused 2 32768
-          | false ↦ onward (reads table s 0)
+          | false ↦ onward (reads (tableOf x) s 0)
               (λ t p. onward (ended s p) (λ u q. got t q))
         ])
-        ≡ elim b as (λ x. Step) [ true ↦ Refused 2 32768 | false ↦ readFrom ended s (after table s (At 0)) ]
+        ≡ elim b as (λ z. Step) [ true ↦ Refused 2 32768 | false ↦ readFrom ended s (after (tableOf x) s (At 0)) ]
     go true = refl
-    go false = inner (reads table s 0) ∙ ap (readFrom ended s) (sym (steps table Whole table-whole s 0))
+    go false = inner (reads (tableOf x) s 0) ∙ ap (readFrom ended s) (sym (steps (tableOf x) Whole (table-whole x whole) s 0))
+
+pub sheet-steps : (s : List ℕ) → stepOf (sheet s) ≡ elim (ltb 32768 (length s))
+    [ true ↦ Refused 2 32768 | false ↦ readFrom ended s (after table s (At 0)) ]
+sheet-steps s = steps-of line line-whole s

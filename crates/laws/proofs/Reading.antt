@@ -1,18 +1,21 @@
 -- What a reading comes to, by the description of what is read: one clause for each way to put fields together. Assumes nothing.
-use Prim.Native.Nat.{ℕ, zero, suc, _+_, _≤_, _<_, _%_}
-use mathlib.Core.Path.{_≡_, refl, ap, subst, _∙_}
-use mathlib.Core.List.{List, _∷_}
-use mathlib.Core.Bool.{Bool, true, false}
+use Prim.Native.Nat.{ℕ, zero, suc, _+_, _*_, _≤_, _<_, _%_}
+use mathlib.Core.Path.{_≡_, refl, ap, sym, subst, _∙_}
+use mathlib.Core.List.{List, [], _∷_}
+use mathlib.Core.Bool.{Bool, true, false, and-eq-true-iff}
 use native.Mathlib.Omega.{arith}
 use lib.ListN.{length, take, drop}
 use lib.Seq.{drop-cons}
-use lib.Dec.{ltb, eqb}
-use borrow.Author.Tests.{ltb-true, eqb-true}
+use lib.Dec.{ltb, leb, eqb}
+use borrow.Author.Tests.{ltb-true, leb-true, eqb-true}
 use Rattle.rules.specs.Text.{All}
 use Rattle.rules.specs.Field as field
-use Rattle.rules.specs.Field.{Read, got, refused, Reader, onward, byteAt, wordAt, between, several}
+use Rattle.rules.specs.Field.{Read, got, refused, Reader, onward, byteAt, wordAt, between, printable, several}
 use Rattle.rules.specs.Description.{Faithful, Fault, wrongEdition, unknownCode, beyondLimits, badCharacter, tooManyCells, notZero, numberOf}
-use Rattle.rules.specs.Description.{Format, byte, word, only, zeroWord, text, listed, give, next, textLength, character, reads}
+use Rattle.rules.specs.Description.{Format, byte, word, only, zeroWord, text, cellText, listed, give, next, textLength, character, reads}
+use Rattle.rules.specs.Description.{characters}
+use Rattle.rules.specs.Description as description
+use Rattle.rules.specs.Limits.{IsText, nothing, plain, degree}
 use Rattle.rules.specs.Description.{past, parts, textAt, lineStop, Extent, stands, here, stop}
 use Rattle.rules.specs.Steps.{stepOf, readFrom, hereOf, byteOf, times, after}
 use Rattle.rules.specs.declared.Step.{Step}
@@ -30,6 +33,11 @@ fault-number badCharacter = (omega arith, omega arith)
 fault-number tooManyCells = (omega arith, omega arith)
 fault-number notZero = (omega arith, omega arith)
 
+pub between-both : (low high v : ℕ) → between low high v ≡ true → (low ≤ v) × (v ≤ high)
+between-both low high v e =
+    let h = and-eq-true-iff (leb low v) (leb v high) .0 e in
+    (leb-true low v (h .0), leb-true v high (h .1))
+
 -- what the tests ask of a value
 unfoldable pub keeps : {A : Type 0} → Format A → A → Type 0
 keeps byte v = Unit {0}
@@ -37,6 +45,7 @@ keeps word v = Unit {0}
 keeps (only good fault x) v = (good v ≡ true) × keeps x v
 keeps zeroWord v = v ≡ 0
 keeps (text low high good) l = (between low high (length l) ≡ true) × All (λ c. good c ≡ true) l
+keeps (cellText low high) l = (between low high (length l) ≡ true) × IsText l
 keeps (listed count x) as′ = keeps count (length as′) × All (λ a. keeps x a) as′
 keeps (give a) u = Unit {0}
 keeps (next of x g) u = keeps x (of u) × keeps (g (of u)) u
@@ -192,6 +201,131 @@ text-sound low high good P h s p (got n q) t = go (several n (character good) s 
     go (refused m r) c = c
 text-sound low high good P h s p (refused m q) t = t (omega arith, omega arith)
 
+-- ---- a cell's text
+
+-- both bytes of a pair
+record Paired (s : List ℕ) (p q : ℕ) : Type 0 where
+  end : q ≡ p + 2
+  there : p + 1 < length s
+  passed : wordAt s p ≡ 194 + 176 * 256
+
+abbrev PairSound : List ℕ → ℕ → Read ℕ → Type 0
+PairSound s p (got v q) = Paired s p q
+PairSound s p (refused n q) = Number n
+
+pair-tested : (s : List ℕ) (p : ℕ) → PairSound s p (description.degree s p)
+unfolding field.only field.word onward
+pair-tested s p = go (ltb (p + 1) (length s)) refl
+  where
+    test : p + 1 < length s → (b : Bool) → eqb (194 + 176 * 256) (wordAt s p) ≡ b
+        → PairSound s p (elim b as (λ x. Read ℕ) [ true ↦ got (wordAt s p) (p + 2) | false ↦ refused 6 p ])
+    test l true e = record { end = refl; there = l; passed = sym (eqb-true (194 + 176 * 256) (wordAt s p) e) }
+    test l false e = (omega arith, omega arith)
+
+    go : (b : Bool) → ltb (p + 1) (length s) ≡ b
+        → PairSound s p
+        (onward (elim b as (λ x. Read ℕ) [ true ↦ got (wordAt s p) (p + 2) | false ↦ refused 1 (length s) ])
+        (λ v q. elim (eqb (194 + 176 * 256) v) as (λ x. Read ℕ) [ true ↦ got v q | false ↦ refused 6 p ]))
+    go true e = test (ltb-true (p + 1) (length s) e) (eqb (194 + 176 * 256) (wordAt s p)) refl
+    go false e = (omega arith, omega arith)
+
+-- n bytes of characters and pairs are a part of the sheet
+record Bytes (s : List ℕ) (n p : ℕ) (l : List ℕ) (q : ℕ) : Type 0 where
+  value : l ≡ take n (drop p s)
+  end : q ≡ p + n
+  inside : p ≤ length s → q ≤ length s
+  count : length l ≡ n
+  text : IsText l
+
+abbrev BytesSound : List ℕ → ℕ → ℕ → Read (List ℕ) → Type 0
+BytesSound s n p (got l q) = Bytes s n p l q
+BytesSound s n p (refused m q) = Number m
+
+-- a byte and the part after it
+one-more : (s : List ℕ) (p n b : ℕ) (l : List ℕ) → p < length s → b ≡ byteAt s p → l ≡ take n (drop (suc p) s) → b ∷ l ≡ take (suc n) (drop p s)
+one-more s p n b l h e f = rw (drop-cons s p 0 h, e, f)
+
+no-bytes : (s : List ℕ) (p : ℕ) → Bytes s 0 p [] p
+no-bytes s p = record { value = refl; end = omega arith; inside = λ i. i; count = refl; text = nothing }
+
+plain-then : (s : List ℕ) (n p v q : ℕ) → Tested printable s p v q → (y : Read (List ℕ)) → BytesSound s n q y
+    → BytesSound s (suc n) p (onward y (λ l r. got (v ∷ l) r))
+unfolding onward
+plain-then s n p v q t (got l r) c =
+    let a : q ≡ suc p = omega (arith, t .end) in
+    record {
+      value = one-more s p n v l (t .there) (t .value) (c .value ∙ ap (λ k. take n (drop k s)) a);
+      end = omega (arith, c .end);
+      inside = λ i. c .inside (omega (arith, t .there));
+      count = ap suc (c .count);
+      text = plain v l (between-both 32 126 v (t .passed)) (c .text);
+    }
+plain-then s n p v q t (refused m r) c = c
+
+pair-then : (s : List ℕ) (n p q : ℕ) → byteAt s p ≡ 194 → Paired s p q → (y : Read (List ℕ)) → BytesSound s n q y
+    → BytesSound s (suc (suc n)) p (onward y (λ l r. got (194 ∷ 176 ∷ l) r))
+unfolding onward
+pair-then s n p q e t (got l r) c =
+    let a : q ≡ suc (suc p) = omega (arith, t .end) in
+    let z : suc p ≡ p + 1 = omega arith in
+    let second : byteAt s (suc p) ≡ 176 = rw z (omega (arith, t .passed)) in
+    let rest = one-more s (suc p) n 176 l (omega (arith, t .there)) (sym second) (c .value ∙ ap (λ k. take n (drop k s)) a) in
+    record {
+      value = one-more s p (suc n) 194 (176 ∷ l) (omega (arith, t .there)) (sym e) rest;
+      end = omega (arith, c .end);
+      inside = λ i. c .inside (omega (arith, t .there));
+      count = ap (λ k. suc (suc k)) (c .count);
+      text = degree l (c .text);
+    }
+pair-then s n p q e t (refused m r) c = c
+
+bytes-sound : (s : List ℕ) (n p : ℕ) → BytesSound s n p (characters n s p)
+unfolding characters onward
+bytes-sound s zero p = no-bytes s p
+bytes-sound s (suc zero) p = go (character printable s p) (byte-tested printable 6 s p)
+  where
+    go : (y : Read ℕ) → ByteSound printable 6 s p y → BytesSound s 1 p (onward y (λ b q. got (b ∷ []) q))
+    go (got v q) t = plain-then s zero p v q t (got [] q) (no-bytes s q)
+    go (refused m q) t = t (omega arith, omega arith)
+bytes-sound s (suc (suc n)) p = go (eqb (byteAt s p) 194) refl (bytes-sound s n) (bytes-sound s (suc n))
+  where
+    pair : byteAt s p ≡ 194 → (y : Read ℕ) → PairSound s p y → ((r : ℕ) → BytesSound s n r (characters n s r))
+        → BytesSound s (suc (suc n)) p (onward y (λ v q. onward (characters n s q) (λ l r. got (194 ∷ 176 ∷ l) r)))
+    pair e (got v q) t ih = pair-then s n p q e t (characters n s q) (ih q)
+    pair e (refused m q) t ih = t
+
+    one : (y : Read ℕ) → ByteSound printable 6 s p y → ((r : ℕ) → BytesSound s (suc n) r (characters (suc n) s r))
+        → BytesSound s (suc (suc n)) p (onward y (λ b q. onward (characters (suc n) s q) (λ l r. got (b ∷ l) r)))
+    one (got v q) t ih = plain-then s (suc n) p v q t (characters (suc n) s q) (ih q)
+    one (refused m q) t ih = t (omega arith, omega arith)
+
+    go : (b : Bool) → eqb (byteAt s p) 194 ≡ b
+        → ((r : ℕ) → BytesSound s n r (characters n s r)) → ((r : ℕ) → BytesSound s (suc n) r (characters (suc n) s r))
+        → BytesSound s (suc (suc n)) p (elim b as (λ x. Read (List ℕ)) [
+          | true ↦ onward (description.degree s p) (λ v q. onward (characters n s q) (λ l r. got (194 ∷ 176 ∷ l) r))
+          | false ↦ onward (character printable s p) (λ b q. onward (characters (suc n) s q) (λ l r. got (b ∷ l) r))
+        ])
+    go true e two more = pair (eqb-true (byteAt s p) 194 e) (description.degree s p) (pair-tested s p) two
+    go false e two more = one (character printable s p) (byte-tested printable 6 s p) more
+
+cell-text-sound : (low high : ℕ) (P : List ℕ → Type 0) → ((l : List ℕ) → P l)
+    → (s : List ℕ) (p : ℕ) (y : Read ℕ) → ByteSound (between low high) 5 s p y
+    → Sound (cellText low high) P s p (onward y (λ n q. characters n s q))
+unfolding onward stands keeps textAt lineStop
+cell-text-sound low high P h s p (got n q) t = go (characters n s q) (bytes-sound s n q)
+  where
+    go : (y : Read (List ℕ)) → BytesSound s n q y → Sound (cellText low high) P s p y
+    go (got l r) c = record {
+      value = rw (← t .value, ← t .end) (c .value);
+      end = rw (← t .value, ← t .end) (c .end);
+      onward = omega (arith, c .end, t .end);
+      inside = λ i. c .inside (omega (arith, t .there, t .end));
+      kept = (rw (c .count) (t .passed), c .text);
+      proper = h l;
+    }
+    go (refused m r) c = c
+cell-text-sound low high P h s p (refused m q) t = t (omega arith, omega arith)
+
 -- ---- a count, and as many items
 
 record Items {A : Type 0} (x : Format A) (s : List ℕ) (n p : ℕ) (as′ : List A) (q : ℕ) : Type 0 where
@@ -280,6 +414,7 @@ sound word P h s p = word-sound P h s p
 sound (only good fault x) P h s p = only-sound good fault x P s p (reads x s p) (sound x P h s p)
 sound zeroWord P h s p = zeros-sound P s p (field.word s p) (word-sound P h s p)
 sound (text low high good) P h s p = text-sound low high good P h s p (textLength low high s p) (byte-tested (between low high) 5 s p)
+sound (cellText low high) P h s p = cell-text-sound low high P h s p (textLength low high s p) (byte-tested (between low high) 5 s p)
 sound (listed count x) P h s p =
     listed-sound count x (λ n. Unit {0}) P (λ a. Unit {0}) (h .1 .1) s (λ q. sound x (λ a. Unit {0}) (h .1 .0) s q) p
     (reads count s p) (sound count (λ n. Unit {0}) (h .0) s p)
@@ -306,6 +441,7 @@ after-off word s n p = refl
 after-off (only good fault x) s n p = refl
 after-off zeroWord s n p = refl
 after-off (text low high good) s n p = times-off (byteOf s (Refused n p)) (readFrom (character good) s) (readFrom-off (character good) s) n p
+after-off (cellText low high) s n p = refl
 after-off (listed count x) s n p =
     rw (after-off count s n p) (times-off (hereOf count s (Refused n p)) (λ z. after x s z) (λ m q. after-off x s m q) n p)
 after-off (give a) s n p = refl
@@ -335,6 +471,13 @@ unfolding onward
 counted-steps f h s off e k (got n q) c = rw (c n q refl) (several-steps f h s off e k q)
 counted-steps f h s off e k (refused m q) c = times-off k h off m q
 
+-- what follows a length goes by it
+length-steps : {A : Type 0} (f : ℕ → Reader A) (s : List ℕ) (k : ℕ) (y : Read ℕ) → ((n q : ℕ) → y ≡ got n q → n ≡ k)
+    → readFrom (f k) s (stepOf y) ≡ stepOf (onward y (λ n q. f n s q))
+unfolding readFrom onward
+length-steps f s k (got n q) c = rw (c n q refl)
+length-steps f s k (refused m q) c = refl
+
 next-steps : {U A : Type 0} (x : Format A) (g : A → Format U) (s : List ℕ) (p : ℕ) →
     ((a : A) (q : ℕ) → after (g a) s (At q) ≡ stepOf (reads (g a) s q))
     → (y : Read A) → Sound x (λ a. Unit {0}) s p y → after (g (here x s p)) s (stepOf y) ≡ stepOf (onward y (λ a q. reads (g a) s q))
@@ -357,6 +500,8 @@ steps (text low high good) P h s p =
     counted-steps (character good) (readFrom (character good) s) s (readFrom-off (character good) s) (λ q. refl) (byteAt s p)
     (textLength low high s p)
     (λ n q e. tested (between low high) 5 s p n q e .value)
+steps (cellText low high) P h s p =
+    length-steps characters s (byteAt s p) (textLength low high s p) (λ n q e. tested (between low high) 5 s p n q e .value)
 steps (listed count x) P h s p =
     rw (steps count (λ n. Unit {0}) (h .0) s p)
     (counted-steps (reads x) (λ z. after x s z) s (after-off x s) (λ q. steps x (λ a. Unit {0}) (h .1 .0) s q) (here count s p) (reads count s p)
