@@ -5,11 +5,10 @@ use mathlib.Core.List.{List, [], _∷_}
 use mathlib.Core.Bool.{Bool, true, false}
 use native.Mathlib.Omega.{arith}
 use lib.ListN.{length, drop, length-append}
-use lib.Dec.{ltb, eqb}
-use borrow.Author.Tests.{ltb-true}
+use lib.Dec.{ltb, leb, eqb}
+use borrow.Author.Tests.{ltb-true, leb-true, leb-false}
 use Rattle.rules.specs.Text.{All, textWidth, firstOf, restOf}
 use Rattle.rules.specs.Wrap.{Act, join, retry, fill, begin, onto, pieces, glue, room, tight, full, act, last, place, weight, split, wrapLine, wrapLines}
-use Rattle.laws.proofs.Lists.{all-drop}
 use Rattle.laws.proofs.Text.{width-nil, width-le, first-rest, rest-shorter}
 use Rattle.laws.proofs.Fuel.{View, joins, retries, fills, begins, view}
 use Rattle.laws.proofs.Split.{wrap-short, wrap-long}
@@ -18,7 +17,7 @@ use Rattle.laws.proofs.Stands.{past-onward, lines-onward, text-length}
 use Rattle.table.specs.Walk.{linesIn, linesEnd, firstLine, LinesNext}
 use Rattle.table.specs.declared.records.Lines.{Lines}
 use Rattle.cells.specs.Cell.{TextIs}
-use Rattle.cells.proofs.Laws.{wrap-more, wrap-none, lines-none, lines-some}
+use Rattle.cells.proofs.Laws.{texts-next, wrap-more, wrap-none, lines-none, lines-some}
 
 -- ---- a line wraps into no more lines than it has bytes, its length included
 
@@ -86,14 +85,14 @@ split-most w d t pos = omega (arith, place-most (weight (pieces d t)) w d pos []
 -- ---- one cell line
 
 module _ (w d : ℕ) (pos : 0 < w) (t : List ℕ) where
-  pub line-long : (r : ℕ) → w < textWidth t → r ≡ length (split w d t) → (r ≡ length (wrapLine w d t)) × (r ≤ length t + 1)
+  pub line-long : (r : ℕ) → leb (textWidth t) w ≡ false → r ≡ length (split w d t) → (r ≡ length (wrapLine w d t)) × (r ≤ length t + 1)
   line-long r h e =
-      let k = wrap-long w d t h in
+      let k = wrap-long w d t (leb-false (textWidth t) w h) in
       (e ∙ sym (ap length k), omega (arith, split-most w d t pos))
 
-  pub line-short : textWidth t ≤ w → (1 ≡ length (wrapLine w d t)) × (1 ≤ length t + 1)
+  pub line-short : leb (textWidth t) w ≡ true → (1 ≡ length (wrapLine w d t)) × (1 ≤ length t + 1)
   line-short h =
-      let k = wrap-short w d t h in
+      let k = wrap-short w d t (leb-true (textWidth t) w h) in
       (sym (ap length k), omega arith)
 
 -- ---- some cell lines
@@ -138,7 +137,7 @@ module _ (s : List ℕ) (w d : ℕ) (plain : Bool) (all : Lines) where
           count = rw (x .lines) (omega (arith, C .count, z));
           few = rw (x .lines) (omega (arith, C .few, ap span (lines-some s c h)));
           ends = omega (arith, C .ends, x .ends);
-          texts = rw (x .lines) (all-drop (TextIs plain) 1 (linesIn s c) (C .texts));
+          texts = texts-next plain s c r x (C .texts);
         }
 
     pub counting-done : c .left ≤ 0 → n ≡ length (wrapLines w d (linesIn s all))

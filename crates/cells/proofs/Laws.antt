@@ -6,13 +6,13 @@ use mathlib.Core.Bool.{Bool, true, false, false≢true}
 use native.Mathlib.Omega.{arith}
 use lib.ListN.{length, drop, getD, List·getD-eq-default}
 use lib.Seq.{slice, take-all, drop-nil, drop-drop}
-use lib.Dec.{ltb}
-use borrow.Author.Tests.{lt-ltb}
+use lib.Dec.{ltb, leb}
+use borrow.Author.Tests.{lt-ltb, le-leb, leb-true, leb-false}
 use Rattle.rules.specs.Text.{All, isSecond, textWidth, flat}
 use Rattle.rules.specs.Limits.{Printable}
 use Rattle.rules.specs.Wrap.{split, wrapLine, wrapLines}
 use Rattle.laws.proofs.Lists.{all-drop}
-use Rattle.laws.proofs.Text.{width-nil}
+use Rattle.laws.proofs.Text.{width-nil, width-le}
 use Rattle.laws.proofs.Texts.{text-begins}
 use Rattle.laws.proofs.Split.{wrap-short, wrap-long}
 use Rattle.rules.specs.Places.{parts}
@@ -26,6 +26,14 @@ use Rattle.content_split.proofs.Steps.{none-at-end}
 use Rattle.cells.specs.Cell.{rest, TextIs, Inside, Head, HeadIs, PartIn, noLine, taken, FirstOf, Further}
 use Rattle.cells.specs.declared.CellCursor.{CellCursor}
 use Rattle.cells.specs.declared.Next.{Next}
+
+-- ---- whether a text fits
+
+pub fits-short : (w : ℕ) (t : List ℕ) → length t ≤ w → true ≡ leb (textWidth t) w
+fits-short w t h = sym (le-leb (textWidth t) w (omega (arith, width-le t)))
+
+pub fits-counted : (w : ℕ) (t : List ℕ) (n : ℕ) → n ≡ textWidth (slice 0 (length t) t) → leb n w ≡ leb (textWidth t) w
+fits-counted w t n e = ap (λ m. leb m w) (e ∙ ap textWidth (take-all (length t) t (omega arith)))
 
 -- ---- the first line of a text
 
@@ -47,8 +55,9 @@ module _ (w d : ℕ) (pos : 0 < w) (t : List ℕ) where
   split-head a Nothing e = e
 
   -- a text no wider than the content is one line
-  pub whole-head : textWidth t ≤ w → HeadIs w d t (wrapLine w d t) (Line 0 (length t) (length t))
-  whole-head k =
+  pub whole-head : leb (textWidth t) w ≡ true → HeadIs w d t (wrapLine w d t) (Line 0 (length t) (length t))
+  whole-head f =
+      let k = leb-true (textWidth t) w f in
       let whole : slice 0 (length t) t ≡ t = take-all (length t) t (omega arith) in
       record {
         order = omega arith;
@@ -60,8 +69,8 @@ module _ (w d : ℕ) (pos : 0 < w) (t : List ℕ) where
       }
 
   -- a wider one is split
-  pub long-head : w < textWidth t → (p : Part) → PartIs w d t 0 p → HeadIs w d t (wrapLine w d t) p
-  long-head h p q = rw (wrap-long w d t h) (split-head 0 p q)
+  pub long-head : leb (textWidth t) w ≡ false → (p : Part) → PartIs w d t 0 p → HeadIs w d t (wrapLine w d t) p
+  long-head f p q = rw (wrap-long w d t (leb-false (textWidth t) w f)) (split-head 0 p q)
 
 -- what is found lies in the text
 pub head-in : (w d : ℕ) (t : List ℕ) (ls : List (List ℕ)) (p : Part) → HeadIs w d t ls p → PartIn t p
@@ -96,6 +105,15 @@ lines-some s c h = first-others [] (linesIn s c) (omega (arith, lines-number s c
 -- the first of them is known as they all are
 pub first-known : (plain : Bool) (s : List ℕ) (c : Lines) → 0 < c .left → All (TextIs plain) (linesIn s c) → TextIs plain (firstLine s c)
 first-known plain s c h a = subst (All (TextIs plain)) (lines-some s c h) a .0
+
+-- and so are those after it
+pub texts-next : (plain : Bool) (s : List ℕ) (c k : Lines) → LinesNext s c k → All (TextIs plain) (linesIn s c) → All (TextIs plain) (linesIn s k)
+texts-next plain s c k n a = rw (n .lines) (all-drop (TextIs plain) 1 (linesIn s c) a)
+
+-- what is found in the first of them
+pub taken-line : (t : List ℕ) (c : Lines) (plain : Bool) (a e n m : ℕ) → m ≡ textWidth (slice a e t)
+    → record { found = true; start = a; end = e; columns = m; cursor = record { lines = c; from = n; plain = plain } } ≡ taken t c plain (Line a e n)
+taken-line t c plain a e n m h = rw h
 
 some-line : (n : ℕ) → ltb 0 (suc n) ≡ true
 some-line n = lt-ltb 0 (suc n) (omega arith)
@@ -185,7 +203,7 @@ module _ (s : List ℕ) (w d : ℕ) (plain : Bool) (pos : 0 < w) (all : Lines) w
               seeking-here some
               ∙ rw (taken-none s w d plain c (firstLine s c) (wrapLine w d (firstLine s c)) p r head-here taken-here f, ← n .lines);
           ends = omega (arith, S .ends, n .ends);
-          texts = rw (n .lines) (all-drop (TextIs plain) 1 (linesIn s c) (S .texts));
+          texts = texts-next plain s c k n (S .texts);
         }
 
     pub seeking-done : c .left ≤ 0 → (r : Next) → r ≡ noLine c plain → FirstOf s w d (wrapLines w d (linesIn s all)) r

@@ -21,9 +21,9 @@ unfoldable pub rest : List ℕ → ℕ → ℕ → CellCursor → List (List ℕ
 rest s w d c = split w d (drop (c .from) (firstLine s (c .lines))) ++ wrapLines w d (drop 1 (linesIn s (c .lines)))
 
 -- what is known of a cell line before it is wrapped: it is a text, without a pair where it is said to be plain
-pub record TextIs (plain : Bool) (t : List ℕ) : Type 0 where
+pub record TextIs (b : Bool) (t : List ℕ) : Type 0 where
   pub text : IsText t
-  pub plain : plain ≡ true → Plain t
+  pub plain : b ≡ true → Plain t
 
 -- a cursor whose cell lines lie in the sheet; a character begins where it stands
 pub record Inside (s : List ℕ) (c : CellCursor) : Type 0 where

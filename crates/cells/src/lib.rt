@@ -84,7 +84,7 @@ fn take_part(text: &[u8], part: Part, lines: Lines, plain: bool) -> Next
 }
 
 // A text with no more bytes than the content has columns fits, whatever stands in it.
-fn fits(text: &[u8], width: usize, plain: bool) -> bool
+fn line_fits(text: &[u8], width: usize, plain: bool) -> bool
     requires { ⌜ IsPlain plain (now text) ⌝ }
     ensures { λ r. ⌜ r ≡ leb (textWidth (now (text .entry))) width ⌝ }
 {
@@ -100,7 +100,7 @@ fn first_part(text: &[u8], width: usize, delimiter: u8, plain: bool) -> Part
     requires { ⌜ (0 < width) × (Printable delimiter × TextIs plain (now text)) ⌝ }
     ensures { λ r. ⌜ HeadIs width delimiter (now (text .entry)) (wrapLine width delimiter (now (text .entry))) r ⌝ }
 {
-    if fits(text, width, plain) {
+    if line_fits(text, width, plain) {
         return Part::Line {
             start: 0,
             end: text.len(),
@@ -176,7 +176,7 @@ fn line_height(text: &[u8], width: usize, delimiter: u8, plain: bool) -> usize
     requires { ⌜ (0 < width) × (Printable delimiter × TextIs plain (now text)) ⌝ }
     ensures { λ r. ⌜ (r ≡ length (wrapLine width delimiter (now (text .entry)))) × (r ≤ length (now (text .entry)) + 1) ⌝ }
 {
-    if fits(text, width, plain) {
+    if line_fits(text, width, plain) {
         return 1;
     }
     content_split::count_parts(text, width, delimiter, plain)

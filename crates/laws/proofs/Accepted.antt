@@ -13,7 +13,7 @@ use Rattle.rules.specs.declared.Width.{Width}
 use Rattle.rules.specs.declared.Column.{Column}
 use Rattle.rules.specs.Field.{Read, got, refused, onward, between, printable, printableOrZero, ended}
 use Rattle.rules.specs.Description.{Format, Faithful, reads}
-use Rattle.rules.specs.Format.{width, column, line, cellOf, cell, rowOf, row, tableOf, table, sheetOf, sheet}
+use Rattle.rules.specs.Format.{width, column, line, cellBy, cell, rowBy, row, tableBy, table, sheetBy, sheet}
 use Rattle.rules.specs.Places.{tableHere, endPlace}
 use Rattle.rules.specs.Steps.{stepOf, readFrom, after}
 use Rattle.rules.specs.declared.Step.{Step}
@@ -87,7 +87,7 @@ line-limits l k = record {
 }
 
 cell-limits : (x : Cell) → keeps cell x → CellLimits x
-unfolding keeps cellOf
+unfolding keeps cellBy
 cell-limits x k =
     let n = between-both 1 8 (length (x .lines)) (k .1 .1 .0 .0 .0) in
     record {
@@ -99,7 +99,7 @@ cell-limits x k =
     }
 
 row-limits : (columns : ℕ) (r : Row) → keeps (row columns) r → RowLimits columns r
-unfolding keeps rowOf
+unfolding keeps rowBy
 row-limits columns r k = record {
   limit = at-most 0 255 (r .limit) (k .0 .0);
   cells = at-most 0 columns (length (r .cells)) (k .1 .0 .0 .0);
@@ -107,7 +107,7 @@ row-limits columns r k = record {
 }
 
 pub table-limits : (t : Table) → keeps table t → TableLimits t
-unfolding keeps tableOf
+unfolding keeps tableBy
 table-limits t k =
     let e = between-both 1 1 (t .edition) (k .0 .0) in
     let indicator = k .1 .1 .1 .1 .0 in
@@ -162,7 +162,7 @@ ended-sound s short (got t p) r = go (ltb p (length s)) refl
 ended-sound s short (refused n q) r = r
 
 sheet-sound : (s : List ℕ) → SheetSound s (sheet s)
-unfolding sheetOf
+unfolding sheetBy
 sheet-sound s = go (ltb 32768 (length s)) refl
   where
     go : (b : Bool) → ltb 32768 (length s) ≡ b
@@ -205,9 +205,9 @@ checked-reading s e = go (sheet s) refl e
     go (refused n q) i j = let h = refused-number s n q i in absurd (omega arith)
 
 -- the steps of the whole: 2, the fields, 9. Whatever a line is
-pub steps-of : (x : Format (List ℕ)) → Faithful x Whole → (s : List ℕ) → stepOf (sheetOf x s) ≡ elim (ltb 32768 (length s))
-    [ true ↦ Refused 2 32768 | false ↦ readFrom ended s (after (tableOf x) s (At 0)) ]
-unfolding sheetOf onward readFrom
+pub steps-of : (x : Format (List ℕ)) → Faithful x Whole → (s : List ℕ) → stepOf (sheetBy x s) ≡ elim (ltb 32768 (length s))
+    [ true ↦ Refused 2 32768 | false ↦ readFrom ended s (after (tableBy x) s (At 0)) ]
+unfolding sheetBy onward readFrom
 steps-of x whole s = go (ltb 32768 (length s))
   where
     ends : (t : Table) (y : Read (Unit {0})) → stepOf (onward y (λ u q. got t q)) ≡ stepOf y
@@ -221,12 +221,12 @@ steps-of x whole s = go (ltb 32768 (length s))
     go : (b : Bool)
         → stepOf {A = Table} (elim b as (λ z. Read Table) [
           | true ↦ refused 2 32768
-          | false ↦ onward (reads (tableOf x) s 0)
+          | false ↦ onward (reads (tableBy x) s 0)
               (λ t p. onward (ended s p) (λ u q. got t q))
         ])
-        ≡ elim b as (λ z. Step) [ true ↦ Refused 2 32768 | false ↦ readFrom ended s (after (tableOf x) s (At 0)) ]
+        ≡ elim b as (λ z. Step) [ true ↦ Refused 2 32768 | false ↦ readFrom ended s (after (tableBy x) s (At 0)) ]
     go true = refl
-    go false = inner (reads (tableOf x) s 0) ∙ ap (readFrom ended s) (sym (steps (tableOf x) Whole (table-whole x whole) s 0))
+    go false = inner (reads (tableBy x) s 0) ∙ ap (readFrom ended s) (sym (steps (tableBy x) Whole (table-whole x whole) s 0))
 
 pub sheet-steps : (s : List ℕ) → stepOf (sheet s) ≡ elim (ltb 32768 (length s))
     [ true ↦ Refused 2 32768 | false ↦ readFrom ended s (after table s (At 0)) ]

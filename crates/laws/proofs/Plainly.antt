@@ -13,7 +13,7 @@ use Rattle.rules.specs.Field as field
 use Rattle.rules.specs.Field.{Read, got, refused, Reader, onward, byteAt, printable, several, ended}
 use Rattle.rules.specs.Description as description
 use Rattle.rules.specs.Description.{Faithful, Format, text, listed, next, textLength, character, characters, reads}
-use Rattle.rules.specs.Format.{line, cellOf, rowOf, tableOf, sheetOf, sheet}
+use Rattle.rules.specs.Format.{line, cellBy, rowBy, tableBy, sheetBy, sheet}
 use Rattle.rules.specs.Limits.{Printable, Plain, PlainCell, PlainRow, PlainTable}
 use Rattle.rules.proofs.Parts.{Whole, table-whole}
 use Rattle.laws.proofs.Lists.{all-imp, all-append}
@@ -111,40 +111,40 @@ behind : {U A : Type 0} (of : U → A) (x : Format A) (g h : A → Format U) →
 behind of x g h f = like-next of x x g h (like-self x) f
 
 module _ (x y : Format (List ℕ)) (lines : Like x y) where
-  like-cell : Like (cellOf x) (cellOf y)
-  unfolding cellOf
+  like-cell : Like (cellBy x) (cellBy y)
+  unfolding cellBy
   like-cell = behind _ _ _ _ λ d. behind _ _ _ _ λ a. like-next _ _ _ _ _ (like-listed _ x y lines) λ ls. like-self _
 
-  like-row : (columns : ℕ) → Like (rowOf x columns) (rowOf y columns)
-  unfolding rowOf
-  like-row columns = behind _ _ _ _ λ h. like-next _ _ _ _ _ (like-listed _ (cellOf x) (cellOf y) like-cell) λ cs. like-self _
+  like-row : (columns : ℕ) → Like (rowBy x columns) (rowBy y columns)
+  unfolding rowBy
+  like-row columns = behind _ _ _ _ λ h. like-next _ _ _ _ _ (like-listed _ (cellBy x) (cellBy y) like-cell) λ cs. like-self _
 
-  like-table : Like (tableOf x) (tableOf y)
-  unfolding tableOf
+  like-table : Like (tableBy x) (tableBy y)
+  unfolding tableBy
   like-table =
       behind _ _ _ _ λ e. behind _ _ _ _ λ a. behind _ _ _ _ λ w. behind _ _ _ _ λ d. behind _ _ _ _ λ i. behind _ _ _ _ λ st. behind _ _ _ _ λ cs.
-      like-next _ _ _ _ _ (like-listed _ (rowOf x (length cs)) (rowOf y (length cs)) (like-row (length cs))) λ h.
-      like-next _ _ _ _ _ (like-listed _ (rowOf x (length cs)) (rowOf y (length cs)) (like-row (length cs))) λ rs.
+      like-next _ _ _ _ _ (like-listed _ (rowBy x (length cs)) (rowBy y (length cs)) (like-row (length cs))) λ h.
+      like-next _ _ _ _ _ (like-listed _ (rowBy x (length cs)) (rowBy y (length cs)) (like-row (length cs))) λ rs.
       like-self _
 
-  same-sheet : (s : List ℕ) → Same s (sheetOf x s) (sheetOf y s)
-  unfolding sheetOf
+  same-sheet : (s : List ℕ) → Same s (sheetBy x s) (sheetBy y s)
+  unfolding sheetBy
   same-sheet s = go (ltb 32768 (length s))
     where
       go : (b : Bool)
           → Same {A = Table} s
-          (elim b as (λ z. Read Table) [ true ↦ refused 2 32768 | false ↦ onward (reads (tableOf x) s 0) (λ t p. onward (ended s p) (λ u q. got t q)) ])
-          (elim b as (λ z. Read Table) [ true ↦ refused 2 32768 | false ↦ onward (reads (tableOf y) s 0) (λ t p. onward (ended s p) (λ u q. got t q)) ])
+          (elim b as (λ z. Read Table) [ true ↦ refused 2 32768 | false ↦ onward (reads (tableBy x) s 0) (λ t p. onward (ended s p) (λ u q. got t q)) ])
+          (elim b as (λ z. Read Table) [ true ↦ refused 2 32768 | false ↦ onward (reads (tableBy y) s 0) (λ t p. onward (ended s p) (λ u q. got t q)) ])
       go true = λ k. refl
       go false =
-          same-onward s (reads (tableOf x) s 0) (reads (tableOf y) s 0) _ _ (like-table s 0) (λ t p. same-self s (onward (ended s p) (λ u q. got t q)))
+          same-onward s (reads (tableBy x) s 0) (reads (tableBy y) s 0) _ _ (like-table s 0) (λ t p. same-self s (onward (ended s p) (λ u q. got t q)))
 
 -- ---- the laws
 
-pub plainly-got : (s : List ℕ) (t : Table) (p : ℕ) → sheetOf plainLine s ≡ got t p → sheet s ≡ got t p
+pub plainly-got : (s : List ℕ) (t : Table) (p : ℕ) → sheetBy plainLine s ≡ got t p → sheet s ≡ got t p
 plainly-got s t p e = subst (λ (y : Read Table). Same s y (sheet s)) e (same-sheet plainLine line like-line s)
 
-pub plainly-refused : (s : List ℕ) (n p : ℕ) → sheetOf plainLine s ≡ refused n p → ((n ≡ 6) × (byteAt s p ≡ 194) → ⊥) → sheet s ≡ refused n p
+pub plainly-refused : (s : List ℕ) (n p : ℕ) → sheetBy plainLine s ≡ refused n p → ((n ≡ 6) × (byteAt s p ≡ 194) → ⊥) → sheet s ≡ refused n p
 plainly-refused s n p e = subst (λ (y : Read Table). Same s y (sheet s)) e (same-sheet plainLine line like-line s)
 
 pub plain-whole : Faithful plainLine Whole
@@ -160,44 +160,44 @@ plain-line : (l : List ℕ) → keeps plainLine l → Plain l
 unfolding keeps
 plain-line l k = plain-all l (all-imp (λ c. printable c ≡ true) Printable (between-both 32 126) l (k .1))
 
-plain-cell : (x : Cell) → keeps (cellOf plainLine) x → PlainCell x
-unfolding keeps cellOf
+plain-cell : (x : Cell) → keeps (cellBy plainLine) x → PlainCell x
+unfolding keeps cellBy
 plain-cell x k = all-imp (keeps plainLine) Plain plain-line (x .lines) (k .1 .1 .0 .1)
 
-plain-row : (columns : ℕ) (r : Row) → keeps (rowOf plainLine columns) r → PlainRow r
-unfolding keeps rowOf
-plain-row columns r k = all-imp (keeps (cellOf plainLine)) PlainCell plain-cell (r .cells) (k .1 .0 .1)
+plain-row : (columns : ℕ) (r : Row) → keeps (rowBy plainLine columns) r → PlainRow r
+unfolding keeps rowBy
+plain-row columns r k = all-imp (keeps (cellBy plainLine)) PlainCell plain-cell (r .cells) (k .1 .0 .1)
 
-plain-table : (t : Table) → keeps (tableOf plainLine) t → PlainTable t
-unfolding keeps tableOf
+plain-table : (t : Table) → keeps (tableBy plainLine) t → PlainTable t
+unfolding keeps tableBy
 plain-table t k =
     let m = length (t .columns) in
     all-append PlainRow (t .header) (t .rows)
-    (all-imp (keeps (rowOf plainLine m)) PlainRow (plain-row m) (t .header) (k .1 .1 .1 .1 .1 .1 .1 .0 .1))
-    (all-imp (keeps (rowOf plainLine m)) PlainRow (plain-row m) (t .rows) (k .1 .1 .1 .1 .1 .1 .1 .1 .0 .1))
+    (all-imp (keeps (rowBy plainLine m)) PlainRow (plain-row m) (t .header) (k .1 .1 .1 .1 .1 .1 .1 .0 .1))
+    (all-imp (keeps (rowBy plainLine m)) PlainRow (plain-row m) (t .rows) (k .1 .1 .1 .1 .1 .1 .1 .1 .0 .1))
 
 -- a table that was read keeps its tests
 abbrev Kept : Format (List ℕ) → Read Table → Type 0
-Kept x (got t q) = keeps (tableOf x) t
+Kept x (got t q) = keeps (tableBy x) t
 Kept x (refused n q) = Unit {0}
 
-sheet-kept : (x : Format (List ℕ)) → Faithful x Whole → (s : List ℕ) → Kept x (sheetOf x s)
-unfolding sheetOf onward
+sheet-kept : (x : Format (List ℕ)) → Faithful x Whole → (s : List ℕ) → Kept x (sheetBy x s)
+unfolding sheetBy onward
 sheet-kept x whole s = go (ltb 32768 (length s))
   where
-    ends : (t : Table) → keeps (tableOf x) t → (y : Read (Unit {0})) → Kept x (onward y (λ u q. got t q))
+    ends : (t : Table) → keeps (tableBy x) t → (y : Read (Unit {0})) → Kept x (onward y (λ u q. got t q))
     ends t k (got u q) = k
     ends t k (refused n q) = tt
 
-    inner : (y : Read Table) → Sound (tableOf x) Whole s 0 y → Kept x (onward y (λ t p. onward (ended s p) (λ u q. got t q)))
+    inner : (y : Read Table) → Sound (tableBy x) Whole s 0 y → Kept x (onward y (λ t p. onward (ended s p) (λ u q. got t q)))
     inner (got t p) r = ends t (r .kept) (ended s p)
     inner (refused n p) r = tt
 
     go : (b : Bool)
         → Kept x
-        (elim b as (λ z. Read Table) [ true ↦ refused 2 32768 | false ↦ onward (reads (tableOf x) s 0) (λ t p. onward (ended s p) (λ u q. got t q)) ])
+        (elim b as (λ z. Read Table) [ true ↦ refused 2 32768 | false ↦ onward (reads (tableBy x) s 0) (λ t p. onward (ended s p) (λ u q. got t q)) ])
     go true = tt
-    go false = inner (reads (tableOf x) s 0) (sound (tableOf x) Whole (table-whole x whole) s 0)
+    go false = inner (reads (tableBy x) s 0) (sound (tableBy x) Whole (table-whole x whole) s 0)
 
-pub plainly-table : (s : List ℕ) (t : Table) (p : ℕ) → sheetOf plainLine s ≡ got t p → PlainTable t
+pub plainly-table : (s : List ℕ) (t : Table) (p : ℕ) → sheetBy plainLine s ≡ got t p → PlainTable t
 plainly-table s t p e = plain-table t (subst (Kept plainLine) e (sheet-kept plainLine plain-whole s))

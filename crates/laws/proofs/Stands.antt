@@ -12,7 +12,7 @@ use Rattle.rules.specs.declared.Width.{Width}
 use Rattle.rules.specs.declared.Column.{Column}
 use Rattle.rules.specs.Field.{got}
 use Rattle.rules.specs.Description.{Format, byte, word, only, zeroWord, text, cellText, listed, give, next, Extent, stands, here, stop, partAt}
-use Rattle.rules.specs.Format.{width, column, line, cellOf, cell, rowOf, row, tableOf, sheet}
+use Rattle.rules.specs.Format.{width, column, line, cellBy, cell, rowBy, row, tableBy, sheet}
 use Rattle.rules.specs.Places.{past, parts, byteAt, wordAt, textAt, lineStop, widthHere, columnHere, columnStop, cellHere, cellStop, rowHere, rowStop}
 use Rattle.rules.specs.Places.{stylePlace, columnsPlace, headerPlace, rowsPlace, endPlace, tableHere}
 use Rattle.laws.proofs.Accepted.{accepted-limits, accepted-places}
@@ -112,25 +112,25 @@ column-stop s p = ap (λ (e : Extent Column). e .end) (column-stands s p)
 
 pub cell-here : (s : List ℕ) (p : ℕ)
     → cellHere s p ≡ record { delimiter = byteAt s p; alignment = byteAt s (p + 1); lines = parts (byteAt s (p + 2)) (textAt s) (lineStop s) (p + 3) }
-unfolding cellHere stands cellOf line
+unfolding cellHere stands cellBy line
 cell-here s p =
     let a : p + 1 + 1 ≡ p + 2 = omega arith in
     let b : p + 2 + 1 ≡ p + 3 = omega arith in
     rw (a, b)
 
 pub cell-stop : (s : List ℕ) (p : ℕ) → cellStop s p ≡ past (byteAt s (p + 2)) (lineStop s) (p + 3)
-unfolding cellStop stands cellOf line
+unfolding cellStop stands cellBy line
 cell-stop s p =
     let a : p + 1 + 1 ≡ p + 2 = omega arith in
     let b : p + 2 + 1 ≡ p + 3 = omega arith in
     rw (a, b)
 
 pub row-here : (s : List ℕ) (p : ℕ) → rowHere s p ≡ record { limit = byteAt s p; cells = parts (byteAt s (p + 1)) (cellHere s) (cellStop s) (p + 2) }
-unfolding rowHere cellHere cellStop stands rowOf
+unfolding rowHere cellHere cellStop stands rowBy
 row-here s p = let a : p + 1 + 1 ≡ p + 2 = omega arith in rw a
 
 pub row-stop : (s : List ℕ) (p : ℕ) → rowStop s p ≡ past (byteAt s (p + 1)) (cellStop s) (p + 2)
-unfolding rowStop cellStop stands rowOf
+unfolding rowStop cellStop stands rowBy
 row-stop s p = let a : p + 1 + 1 ≡ p + 2 = omega arith in rw a
 
 pub lines-onward : (s : List ℕ) → Onward (lineStop s)
@@ -165,47 +165,47 @@ columns-past s (suc n) p = let h = columns-past s n (p + 11) in rw (column-stop 
 -- the sections, one behind another: a count and as many parts
 module _ (s : List ℕ) where
   pub style-place : stylePlace s ≡ 6 + byteAt s 5
-  unfolding stylePlace lineStop partAt stands tableOf
+  unfolding stylePlace lineStop partAt stands tableBy
   style-place = refl
 
   columns-begin : columnsPlace s ≡ lineStop s (stylePlace s)
-  unfolding columnsPlace stylePlace partAt stands tableOf
+  unfolding columnsPlace stylePlace partAt stands tableBy
   columns-begin = refl
 
   header-begins : headerPlace s ≡ past (byteAt s (columnsPlace s)) (columnStop s) (columnsPlace s + 1)
-  unfolding headerPlace columnsPlace columnStop partAt stands tableOf
+  unfolding headerPlace columnsPlace columnStop partAt stands tableBy
   header-begins = refl
 
   pub header-place : headerPlace s ≡ columnsPlace s + 1 + 11 * byteAt s (columnsPlace s)
   header-place = header-begins ∙ columns-past s (byteAt s (columnsPlace s)) (columnsPlace s + 1)
 
   pub rows-begin : rowsPlace s ≡ past (byteAt s (headerPlace s)) (rowStop s) (headerPlace s + 1)
-  unfolding rowsPlace headerPlace rowStop partAt stands tableOf rowOf
+  unfolding rowsPlace headerPlace rowStop partAt stands tableBy rowBy
   rows-begin = refl
 
   pub rows-end : endPlace s ≡ past (byteAt s (rowsPlace s)) (rowStop s) (rowsPlace s + 1)
-  unfolding endPlace rowsPlace rowStop partAt stands tableOf rowOf
+  unfolding endPlace rowsPlace rowStop partAt stands tableBy rowBy
   rows-end = refl
 
   -- what they hold
   pub indicator-here : tableHere s .indicator ≡ textAt s 5
-  unfolding tableHere stands tableOf
+  unfolding tableHere stands tableBy
   indicator-here = refl
 
   pub style-here : tableHere s .style ≡ textAt s (stylePlace s)
-  unfolding tableHere stylePlace partAt stands tableOf
+  unfolding tableHere stylePlace partAt stands tableBy
   style-here = refl
 
   pub columns-here : tableHere s .columns ≡ parts (byteAt s (columnsPlace s)) (columnHere s) (columnStop s) (columnsPlace s + 1)
-  unfolding tableHere columnsPlace columnHere columnStop partAt stands tableOf
+  unfolding tableHere columnsPlace columnHere columnStop partAt stands tableBy
   columns-here = refl
 
   pub header-here : tableHere s .header ≡ parts (byteAt s (headerPlace s)) (rowHere s) (rowStop s) (headerPlace s + 1)
-  unfolding tableHere headerPlace rowHere rowStop partAt stands tableOf rowOf
+  unfolding tableHere headerPlace rowHere rowStop partAt stands tableBy rowBy
   header-here = refl
 
   pub rows-here : tableHere s .rows ≡ parts (byteAt s (rowsPlace s)) (rowHere s) (rowStop s) (rowsPlace s + 1)
-  unfolding tableHere rowsPlace rowHere rowStop partAt stands tableOf rowOf
+  unfolding tableHere rowsPlace rowHere rowStop partAt stands tableBy rowBy
   rows-here = refl
 
 -- the sections of an accepted sheet

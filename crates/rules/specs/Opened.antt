@@ -2,7 +2,7 @@
 use Rattle.rules.specs.Text.{greatest, sum, upFrom, keep, flat, charactersIn, textWidth, bytesOf, firstOf, restOf}
 use Rattle.rules.specs.Field.{onward, byte, word, only, zeroWord, several, ended}
 use Rattle.rules.specs.Description.{characters, reads}
-use Rattle.rules.specs.Format.{width, column, line, cellOf, rowOf, tableOf, sheetOf}
+use Rattle.rules.specs.Format.{width, column, line, cellBy, rowBy, tableBy, sheetBy}
 use Rattle.rules.specs.Style.{bordersOf}
 use Rattle.rules.specs.Wrap.{onto, pieces, glue, room, tight, full, act, last, place, weight, split, wrapLine, wrapLines, exceeds, shownIndicator, cutLine, cut}
 use Rattle.rules.specs.Widths.{cellsOf, cellLongest, longest, numbers, visible, borders, percentOf, widthOf, valueOf, lowerWidth, upperWidth}
@@ -18,7 +18,7 @@ unfolding greatest sum upFrom keep flat charactersIn textWidth bytesOf firstOf r
 texts = tt
 
 unfoldable reading : Unit {0}
-unfolding onward byte word only zeroWord several characters reads ended width column line cellOf rowOf tableOf sheetOf
+unfolding onward byte word only zeroWord several characters reads ended width column line cellBy rowBy tableBy sheetBy
 reading = tt
 
 unfoldable wrapping : Unit {0}

@@ -9,7 +9,7 @@ use Rattle.rules.specs.Sheet.{Table, noColumn, mostColumns}
 use Rattle.rules.specs.declared.Column.{Column}
 use Rattle.rules.specs.Field.{got}
 use Rattle.rules.specs.Description as description
-use Rattle.rules.specs.Format.{table, sheet}
+use Rattle.rules.specs.Format.{tableBy, sheet}
 use Rattle.rules.specs.Calls.{check, asArray}
 use Rattle.rules.specs.declared.Checked.{Checked}
 use Rattle.rules.specs.Places.{byteAt, wordAt, textAt, columnHere, columnsPlace, headerPlace, rowsPlace, stylePlace, lineStop, tableHere}
@@ -79,7 +79,7 @@ header-at s p n h e i = let r = room s h in let j = rw e at i in omega (arith, r
 -- what stands where, as the code reads it
 pub settings-held : (s : List ℕ) → IsAccepted s → record { arrangement = byteAt s 1; target = wordAt s 2; delimiter = byteAt s 4 } ≡ settingsOf
     (tableOf s)
-unfolding settingsOf tableHere description.stands table
+unfolding settingsOf tableHere description.stands tableBy
 settings-held s h = rw (table-here s h)
 
 pub indicator-held : (s : List ℕ) → IsAccepted s → tableOf s .indicator ≡ textAt s 5

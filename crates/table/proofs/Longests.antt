@@ -6,7 +6,7 @@ use mathlib.Core.Bool.{Bool, true, false}
 use native.Mathlib.Nat.{not-suc-le-zero, le-of-suc-le-suc}
 use native.Mathlib.Omega.{arith}
 use lib.ListN.{length, getD, drop, set, replicate, getD-replicate, length-map, length-set}
-use lib.Seq.{drop-drop, getD-drop, getD-set-same, getD-set-other, ext-getD}
+use lib.Seq.{slice, take-all, drop-drop, getD-drop, getD-set-same, getD-set-other, ext-getD}
 use lib.Dec.{ltb, eqb}
 use borrow.Author.Tests.{lt-ltb, le-ltb, ltb-true, ltb-false, eqb-true, eqb-false}
 use Rattle.rules.specs.Text.{All, textWidth, greatest, upFrom}
@@ -16,12 +16,12 @@ use Rattle.rules.specs.Widths as widths
 use Rattle.rules.specs.Widths.{cellsOf, cellLongest}
 use Rattle.rules.specs.Limits.{RowLimits}
 use Rattle.laws.proofs.Accepted.{accepted-limits}
-use Rattle.laws.proofs.Text.{width-length}
+use Rattle.laws.proofs.Text.{width-le}
 use Rattle.laws.proofs.Lists.{length-upFrom}
 use Rattle.rules.specs.Places.{byteAt, parts, textAt, lineStop, rowHere, rowStop, rowsPlace}
 use Rattle.laws.proofs.Stands.{text-length}
 use Rattle.table.specs.Held.{IsAccepted, tableOf}
-use Rattle.table.specs.Walk.{rowsIn, cellsIn, linesIn, rowsEnd, cellsEnd, linesEnd, firstRow, firstCell, RowIs, CellIs, RowsNext, LinesNext}
+use Rattle.table.specs.Walk.{rowsIn, cellsIn, linesIn, rowsEnd, cellsEnd, linesEnd, firstRow, firstCell, firstLine, RowIs, CellIs, RowsNext, LinesNext}
 use Rattle.table.specs.Longest.{longestIn, longestAt, Narrow, CellWalked, RowWalked, RowsWalked}
 use Rattle.table.specs.declared.records.Rows.{Rows}
 use Rattle.table.specs.declared.records.Cells.{Cells}
@@ -53,16 +53,35 @@ pub record LinesSoFar (s : List ℕ) (all c : Lines) (m : ℕ) : Type 0 where
 pub lines-begin : (s : List ℕ) (all : Lines) → linesEnd s all ≤ length s → LinesSoFar s all all 1
 lines-begin s all h = record { whole = refl; ends = refl; inside = h }
 
-pub lines-again : (s : List ℕ) (all c r : Lines) (n m k : ℕ) → 0 < c .left → n ≡ byteAt s (c .at) → k ≡ max m n → LinesNext s c r → LinesSoFar s all c
-    m → LinesSoFar s all r k
+pub lines-again : (s : List ℕ) (all c r : Lines) (t : List ℕ) (m k : ℕ) → 0 < c .left → t ≡ firstLine s c → k ≡ max m (textWidth t) → LinesNext s c r
+    → LinesSoFar s all c m → LinesSoFar s all r k
 unfolding linesIn greatest
-lines-again s all c r n m k some e i next so =
+lines-again s all c r t m k some e i next so =
     let f = cons-parts (c .left) (textAt s) (lineStop s) (c .at) some in
     let g = next .lines in
-    let t : textWidth (textAt s (c .at)) ≡ n = width-length (textAt s (c .at)) ∙ (text-length s (c .at) (line-whole s c some (so .inside)) ∙ sym e) in
+    let n = textWidth (textAt s (c .at)) in
+    let j : k ≡ max m n = i ∙ ap (λ l. max m (textWidth l)) (e ∙ ap (λ ls. getD ls 0 []) f) in
     let h : max m (max n (greatest (map textWidth (parts (r .left) (textAt s) (lineStop s) (r .at))))) ≡ max 1
-    (greatest (map textWidth (linesIn s all))) = rw (f, ← g, t) at (so .whole) in
+    (greatest (map textWidth (linesIn s all))) = rw (f, ← g) at (so .whole) in
     record { whole = omega arith; ends = next .ends ∙ so .ends; inside = rw (next .ends) (so .inside) }
+
+-- a line has as many bytes as its length byte says
+pub line-bytes : (s : List ℕ) (c : Lines) (t : List ℕ) (n : ℕ) → 0 < c .left → linesEnd s c ≤ length s → t ≡ firstLine s c → n ≡ byteAt s (c .at)
+    → n ≡ length t
+unfolding linesIn
+line-bytes s c t n some h e b =
+    let f = cons-parts (c .left) (textAt s) (lineStop s) (c .at) some in
+    let g : t ≡ textAt s (c .at) = e ∙ ap (λ ls. getD ls 0 []) f in
+    omega (arith, b, ap length g, text-length s (c .at) (line-whole s c some h))
+
+-- one with no more bytes than the longest so far has columns isn't longer
+pub line-shorter : (m : ℕ) (t : List ℕ) → length t ≤ m → m ≡ max m (textWidth t)
+line-shorter m t h = omega (arith, width-le t)
+
+pub line-counted : (t : List ℕ) (n : ℕ) → n ≡ textWidth (slice 0 (length t) t) → (n ≡ textWidth t) × (n ≤ length t)
+line-counted t n e =
+    let w : n ≡ textWidth t = e ∙ ap textWidth (take-all (length t) t (omega arith)) in
+    (w, omega (arith, w, width-le t))
 
 pub lines-done : (s : List ℕ) (all c : Lines) (m : ℕ) → c .left ≤ 0 → LinesSoFar s all c m → CellWalked s all (record { longest = m; end = c .at })
 unfolding linesIn greatest

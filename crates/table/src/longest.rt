@@ -1,9 +1,9 @@
-// The longest line of each column, in one walk over the sheet: only lengths are read, no characters.
+// The longest line of each column, in one walk over the sheet. Only a line with more bytes than the longest so far has columns is counted.
 ghost use mathlib.Core.Path.{_≡_};
 ghost use mathlib.Core.List.{map};
-ghost use Prim.Native.Nat.{_≤_};
+ghost use Prim.Native.Nat.{_≤_, max};
 ghost use lib.ListN.{length};
-ghost use Rattle.rules.specs.Text.{upFrom};
+ghost use Rattle.rules.specs.Text.{textWidth, upFrom};
 ghost use Rattle.rules.specs.Sheet.{mostColumns};
 ghost use Rattle.rules.specs.Widths as widths;
 ghost use Rattle.table.specs.Held.{IsAccepted, tableOf};
@@ -27,6 +27,18 @@ pub struct LongestLines {
     pub end: usize,
 }
 
+// The longest of some lines and another one. No text has more columns than bytes.
+fn longer(longest: u16, line: &[u8], bytes: u16) -> u16
+    requires { ⌜ bytes ≡ length (now line) ⌝ }
+    ensures { λ r. ⌜ r ≡ max longest (textWidth (now (line .entry))) ⌝ }
+{
+    if bytes <= longest {
+        return longest;
+    }
+    let columns = text_width::columns(line, 0, line.len(), false);
+    numbers::greater_u16(longest, columns as u16)
+}
+
 // A cell counts 1 even where all its lines are empty.
 fn longest_of_cell(sheet: &[u8], lines: Lines) -> LongestLine
     requires { ⌜ linesEnd (now sheet) lines ≤ length (now sheet) ⌝ }
@@ -36,7 +48,8 @@ fn longest_of_cell(sheet: &[u8], lines: Lines) -> LongestLine
     let mut c = lines;
     while 0 < c.left {
         let at = c.at;
-        longest = numbers::greater_u16(longest, numbers::wide(sheet[at]));
+        let bytes = numbers::wide(sheet[at]);
+        longest = longer(longest, walk::line(sheet, c), bytes);
         c = walk::next_line(sheet, c);
     }
     LongestLine { longest, end: c.at }

@@ -1,6 +1,8 @@
 use borrow.Author.Needs.{needs}
-use mathlib.Core.Path.{sym, ap, _∙_}
-use Rattle.cells.specs.Cell.{taken}
+use mathlib.Core.Path.{sym, ap, subst, _∙_}
+use denote.Ref.{now}
+use Rattle.cells.specs.Cell.{PartIn, taken}
+use Rattle.cells.proofs.Laws.{taken-line}
 use Rattle.cells.proofs.take_part.Statement.{statement}
 use Rattle.cells.proofs.take_part.Tie as tie
 
@@ -9,7 +11,16 @@ take-part-spec =
     tie.close
     (tie.spec
     (λ c. search needs)
+    (λ c κs.
+    let s = c .before .before .before .before in
+    let p = subst (PartIn (now (s .args .text))) (c .before .part .given .1) (s .pre .0) in
+    (p .0, (p .1, s .pre .1)))
     (λ c. search needs)
     (λ c κs. search needs)
-    (λ c. sym (ap (taken (c .before .before .before .args .lines)) (c .before .part .given .1)))
-    (λ c. c .no-line .ensures ∙ sym (ap (taken (c .before .before .before .args .lines)) (c .before .enum-told .given .1))))
+    (λ c.
+    let s = c .before .before .before .before .before in
+    taken-line (now (s .args .text)) (s .args .lines) (s .args .plain) _ _ _ _ (c .columns .ensures)
+    ∙ sym (ap (taken (now (s .args .text)) (s .args .lines) (s .args .plain)) (c .before .before .part .given .1)))
+    (λ c.
+    let s = c .before .before .before .before in
+    c .no-line .ensures ∙ sym (ap (taken (now (s .args .text)) (s .args .lines) (s .args .plain)) (c .before .enum-told .given .1))))
