@@ -6,16 +6,16 @@ use denote.Ref.{now}
 use Rattle.table.specs.Walk.{cellsIn}
 use Rattle.row.specs.Packed.{viewOf, pendingsOf}
 use Rattle.row.proofs.Open.{Opening, opening-begins, opening-done}
-use Rattle.row.proofs.Lent.{pendings-length, cell-wide, open-order, open-on}
+use Rattle.row.proofs.Lent.{pendings-length, cell-wide, known-here, open-order, open-on}
 use Rattle.row.proofs.format_row.Statement.{statement}
 use Rattle.row.proofs.format_row.Tie as tie
 
 abbrev Inv-loop : tie.InvT-loop
-Inv-loop sheet columns count n state₀ left₀ passed₀ more₀ i₀ state left passed more i = Opening sheet (viewOf columns count) (cellsIn sheet left₀)
+Inv-loop sheet columns count n plain state₀ left₀ passed₀ more₀ i₀ state left passed more i = Opening sheet (viewOf columns count) (cellsIn sheet left₀)
     n (pendingsOf state) left passed more i
 
 abbrev μ-loop : tie.MeasureT-loop
-μ-loop sheet columns count n state₀ left₀ passed₀ more₀ i₀ state left passed more i = count - i
+μ-loop sheet columns count n plain state₀ left₀ passed₀ more₀ i₀ state left passed more i = count - i
 
 pub format-row-spec : {M : Type 1} → statement M
 format-row-spec =
@@ -26,7 +26,7 @@ format-row-spec =
     (λ c.
     let s = c .before in
     opening-begins (now (s .args .sheet)) (viewOf (now (s .args .columns)) (s .args .count)) (s .args .cells) (s .args .n) (pendingsOf (now (s .args .state)))
-    (pendings-length (now (s .args .state)) ∙ s .pre .1) (s .pre .0 .1 .1))
+    (pendings-length (now (s .args .state)) ∙ s .pre .0 .1 .1) (s .pre .1 .0))
     (λ c. omega (arith, c .before .before .before .pre .0 .0 .most))
     (λ c. omega (arith, c .before .before .before .pre .0 .0 .most))
     (λ c κs. search needs)
@@ -42,7 +42,12 @@ format-row-spec =
       cell-wide (now (s .args .sheet)) (now (s .args .columns)) (s .args .count) (s .pre .0 .0) (s .pre .0 .1 .0)
           (cellsIn (now (s .args .sheet)) (s .args .cells)) (l .left) (l .passed) (l .i) (c .before .before .before .loop-test .taken) _
           (c .before .column-from .ensures),
-      omega (arith, c .skip-cells .ensures .ends, l .inv .passing .ends),
+      (
+        omega (arith, c .skip-cells .ensures .ends, l .inv .passing .ends),
+        known-here (now (s .args .sheet)) (now (s .args .columns)) (s .args .count) (s .pre .0 .0) (s .pre .0 .1 .0)
+            (cellsIn (now (s .args .sheet)) (s .args .cells)) (l .left) (l .passed) (l .i) (c .before .before .before .loop-test .taken) _
+            (c .before .column-from .ensures) (s .args .plain) (s .pre .1 .1) (l .inv .passing) _ (c .skip-cells .ensures .cells),
+      ),
     ))
     (λ c κs. search needs)
     (λ c κs. search needs)

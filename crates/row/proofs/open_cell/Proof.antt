@@ -3,7 +3,7 @@ use native.Mathlib.Omega.{arith}
 use Prim.Native.Nat.{_<_}
 use denote.Ref.{now}
 use Rattle.table.proofs.Walks.{lines-inside}
-use Rattle.row.proofs.Open.{opened-missing, opened-cell}
+use Rattle.row.proofs.Open.{cell-known, texts-here, delimiter-here, opened-missing, opened-cell}
 use Rattle.row.proofs.open_cell.Statement.{statement}
 use Rattle.row.proofs.open_cell.Tie as tie
 
@@ -13,7 +13,8 @@ open-cell-spec =
     (tie.spec
     (λ c κs. search needs)
     (λ c. let s = c .before .before .before .before in
-    rw (c .missing-cell .ensures) (opened-missing (now (s .args .sheet)) (s .args .cells) (s .args .v) (s .args .n) (s .pre .0) (c .before .if1 .taken)))
+    rw (c .missing-cell .ensures) (opened-missing (now (s .args .sheet)) (s .args .cells) (s .args .v) (s .args .n) (s .pre .0 .0) (s .pre .0 .1)
+    (c .before .if1 .taken)))
     (λ c κs. search needs)
     (λ c κs. search needs)
     (λ c κs. search needs)
@@ -21,10 +22,36 @@ open-cell-spec =
     let s = c .before .before .before .before .before .before .before in
     let x = c .before .before .before .cell in
     let some : 0 < s .args .cells .left = omega (arith, c .before .before .before .before .if1 .left) in
-    (lines-inside (now (s .args .sheet)) (s .args .cells) (x .result) some (s .pre .1) (x .ensures), s .pre .0))
-    (λ c κs. (c .first-line .ensures .inside, c .before .before .before .before .before .before .before .before .pre .0))
+    let k = cell-known (s .args .plain) (now (s .args .sheet)) (s .args .cells) some (s .pre .1 .1) in (
+      (
+        lines-inside (now (s .args .sheet)) (s .args .cells) (x .result) some (s .pre .1 .0) (x .ensures),
+        texts-here _ (now (s .args .sheet)) (s .args .cells) (x .result) (x .ensures) k,
+      ),
+      (
+        s .pre .0 .0,
+        delimiter-here _ (now (s .args .sheet)) (s .args .cells) (x .result) (x .ensures) k (s .args .v) _ (s .pre .0 .1)
+            (c .before .or-else .ensures),
+      ),
+    ))
+    (λ c κs.
+    let s = c .before .before .before .before .before .before .before .before in
+    let x = c .before .before .before .before .cell in
+    let some : 0 < s .args .cells .left = omega (arith, c .before .before .before .before .before .if1 .left) in
+    let k = cell-known (s .args .plain) (now (s .args .sheet)) (s .args .cells) some (s .pre .1 .1) in (
+      c .first-line .ensures .inside,
+      (
+        s .pre .0 .0,
+        delimiter-here _ (now (s .args .sheet)) (s .args .cells) (x .result) (x .ensures) k (s .args .v) _ (s .pre .0 .1)
+            (c .before .before .or-else .ensures),
+      ),
+    ))
     (λ c.
     let s = c .before .before .before .before .before .before .before .before .before in
     let x = c .before .before .before .before .before .cell in
-    opened-cell (now (s .args .sheet)) (s .args .cells) (x .result) (x .ensures) (s .args .v) (s .args .n) (s .pre .0) (c .before .first-line .result) _
+    let some : 0 < s .args .cells .left = omega (arith, c .before .before .before .before .before .before .if1 .left) in
+    let k = cell-known (s .args .plain) (now (s .args .sheet)) (s .args .cells) some (s .pre .1 .1) in
+    opened-cell (now (s .args .sheet)) (s .args .cells) (x .result) (x .ensures) (s .args .v) (s .args .n) (s .pre .0 .0)
+    (c .before .first-line .result) _
+    (delimiter-here _ (now (s .args .sheet)) (s .args .cells) (x .result) (x .ensures) k (s .args .v) _ (s .pre .0 .1)
+    (c .before .before .before .or-else .ensures))
     (c .before .before .before .or-else .ensures) (c .before .before .or-else2 .ensures) (c .before .first-line .ensures) (c .further .ensures)))
