@@ -32,7 +32,8 @@ visible-some t = all-imp (λ j. j < length (t .columns)) (λ j. 1 ≤ getD (cont
 -- a visible width is at least 1
 pub widths-some : (t : Table) → All (λ v. 1 ≤ v) (widthsOf t)
 unfolding visibleWidths
-widths-some t = all-map-imp (λ j. 1 ≤ getD (contents t) j 0) (λ v. 1 ≤ v) (visibleWidth t (contents t)) (λ j h. omega arith) (visible t) (visible-some t)
+widths-some t = all-map-imp (λ j. 1 ≤ getD (contents t) j 0) (λ v. 1 ≤ v) (visibleWidth t (contents t)) (λ j h. omega arith)
+    (visible t) (visible-some t)
 
 -- as many visible widths as visible columns
 pub length-widths : (t : Table) (ws : List ℕ) → length (visibleWidths t ws) ≡ length (visible t)
@@ -103,8 +104,7 @@ module _ (t u : Table) where
     lines-alike : (i : ℕ) → i < length (allRows t) → linesOf t i ≡ linesOf u i
     lines-alike i h = sym (length-areas t (contents t) (rowAt t i)) ∙ ap length (row-alike i h) ∙ length-areas u (contents u) (rowAt u i)
 
-    -- area by area, byte for byte
-    pub area-alike : (i k c : ℕ) → i < length (allRows t) → k < linesOf t i → c < length (visible t) → areaOf t i k c ≡ areaOf u i k c
+    area-alike : (i k c : ℕ) → i < length (allRows t) → k < linesOf t i → c < length (visible t) → areaOf t i k c ≡ areaOf u i k c
     area-alike i k c h l m =
         sym (area-at t (contents t) (rowAt t i) k c l m) ∙ ap (λ x. getD (getD x k []) c []) (row-alike i h)
         ∙ area-at u (contents u) (rowAt u i) k c (omega (arith, lines-alike i h)) (omega (arith, as-many-columns (a .widths)))
@@ -120,7 +120,8 @@ module _ (t u : Table) where
     }
 
   -- where the areas' characters tell their bytes
-  module _ (a : Agree t u) (told : (i k c : ℕ) → i < length (allRows t) → k < linesOf t i → c < length (visible t) → areaOf t i k c ≡ areaOf u i k c) where
+  module _ (a : Agree t u)
+      (told : (i k c : ℕ) → i < length (allRows t) → k < linesOf t i → c < length (visible t) → areaOf t i k c ≡ areaOf u i k c) where
     rows-agree : map (shownIn t) (allRows t) ≡ map (shownIn u) (allRows u)
     rows-agree = ext-getD [] (map (shownIn t) (allRows t)) (map (shownIn u) (allRows u))
         (length-map (allRows t) (shownIn t) ∙ a .rows ∙ sym (length-map (allRows u) (shownIn u)))
@@ -129,7 +130,8 @@ module _ (t u : Table) where
         row : (i : ℕ) → i < length (allRows t) → getD (map (shownIn t) (allRows t)) i [] ≡ getD (map (shownIn u) (allRows u)) i []
         row i h =
             getD-map (shownIn t) (allRows t) i noRow [] h
-            ∙ areas-same t u (contents t) (contents u) (rowAt t i) (rowAt u i) (as-many-columns (a .widths)) (a .lines i h) (λ k c l m. told i k c h l m)
+            ∙ areas-same t u (contents t) (contents u) (rowAt t i) (rowAt u i) (as-many-columns (a .widths)) (a .lines i h)
+            (λ k c l m. told i k c h l m)
             ∙ sym (getD-map (shownIn u) (allRows u) i noRow [] (omega (arith, a .rows)))
 
     -- and the other way round

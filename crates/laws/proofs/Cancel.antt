@@ -1,4 +1,4 @@
--- Lists that are put together can be taken apart again: at a first stop, at a known length or width, at a closing byte, at junctions. Assumes nothing.
+-- Lists that are put together can be taken apart: at a first stop, at a known length or width, at a closing byte, at junctions. Assumes nothing.
 use Prim.Native.Nat.{ℕ, _<_}
 use mathlib.Core.Path.{_≡_, refl, ap}
 use mathlib.Core.Logic.{_≢_}
@@ -58,17 +58,20 @@ unfolding lineOf
 line-joined l j r ps qs e = append-cancel-right (joined j ps) (joined j qs) r (append-cancel-left l _ _ e)
 
 -- texts of known widths
-more-cancel : (j : List ℕ) (ps qs : List (List ℕ)) → All IsText ps → All IsText qs → map textWidth ps ≡ map textWidth qs → joinedMore j ps ≡ joinedMore j qs → ps ≡ qs
+more-cancel : (j : List ℕ) (ps qs : List (List ℕ)) → All IsText ps → All IsText qs → map textWidth ps ≡ map textWidth qs
+    → joinedMore j ps ≡ joinedMore j qs → ps ≡ qs
 unfolding joinedMore
 more-cancel j [] [] h k n e = refl
 more-cancel j [] (q ∷ qs) h k n e = cc
 more-cancel j (p ∷ ps) [] h k n e = cc
 more-cancel j (p ∷ ps) (q ∷ qs) h k n e =
-    let r : (p ≡ q) × (joinedMore j ps ≡ joinedMore j qs) = at-width (joinedMore j ps) (joinedMore j qs) (h .0) (k .0) (cc) (append-cancel-left j _ _ e) in
+    let r : (p ≡ q) × (joinedMore j ps ≡ joinedMore j qs) = at-width (joinedMore j ps) (joinedMore j qs) (h .0) (k .0)
+    (cc) (append-cancel-left j _ _ e) in
     let s : ps ≡ qs = more-cancel j ps qs (h .1) (k .1) (cc) (r .1) in
     cc
 
-joined-cancel : (j : List ℕ) (ps qs : List (List ℕ)) → All IsText ps → All IsText qs → map textWidth ps ≡ map textWidth qs → joined j ps ≡ joined j qs → ps ≡ qs
+joined-cancel : (j : List ℕ) (ps qs : List (List ℕ)) → All IsText ps → All IsText qs → map textWidth ps ≡ map textWidth qs
+    → joined j ps ≡ joined j qs → ps ≡ qs
 unfolding joined
 joined-cancel j [] [] h k n e = refl
 joined-cancel j [] (q ∷ qs) h k n e = cc
@@ -79,7 +82,8 @@ joined-cancel j (p ∷ ps) (q ∷ qs) h k n e =
     cc
 
 -- a line whose parts are texts of known widths tells them
-pub line-cancel : (l j r : List ℕ) (ps qs : List (List ℕ)) → All IsText ps → All IsText qs → map textWidth ps ≡ map textWidth qs → lineOf l j r ps ≡ lineOf l j r qs → ps ≡ qs
+pub line-cancel : (l j r : List ℕ) (ps qs : List (List ℕ)) → All IsText ps → All IsText qs → map textWidth ps ≡ map textWidth qs
+    → lineOf l j r ps ≡ lineOf l j r qs → ps ≡ qs
 line-cancel l j r ps qs h k n e = joined-cancel j ps qs h k n (line-joined l j r ps qs e)
 
 -- runs of one fill

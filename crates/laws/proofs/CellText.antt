@@ -1,23 +1,23 @@
--- The areas of a place, one below the other, hold an uncut cell's bytes, spaces and its delimiter left out. Assumes nothing.
+-- The areas of a place, one below the other, hold an uncut cell's characters, spaces and its delimiter left out. Assumes nothing.
 use Prim.Native.Nat.{ℕ, zero, suc, _-_, _≤_, _<_}
 use mathlib.Core.Path.{_≡_, refl, ap, sym, _∙_}
 use mathlib.Core.Logic.{_⊎_, inl, inr}
-use mathlib.Core.List.{List, [], _∷_, map, append-nil}
+use mathlib.Core.List.{List, [], _∷_, _++_, map, append-nil}
 use mathlib.Core.Bool.{Bool, true, false, not}
 use native.Mathlib.Nat.{not-suc-le-zero, le-of-suc-le-suc}
 use native.Mathlib.Omega.{arith}
 use lib.ListN.{length, getD, List·getD-eq-default}
 use lib.Dec.{ltb}
 use borrow.Author.Tests.{ltb-false, le-ltb}
-use Rattle.rules.specs.Text.{blank, upFrom, keep, flat}
+use Rattle.rules.specs.Text.{isSecond, charactersIn, blank, upFrom, keep, flat}
 use Rattle.rules.specs.Sheet.{Row, Table, noCell, columnAt, cellAt}
 use Rattle.rules.specs.declared.Column.{Column}
 use Rattle.rules.specs.Wrap.{delimiterOf, wrapLines, exceeds, cut}
 use Rattle.rules.specs.Widths.{visible, contents}
 use Rattle.rules.specs.Page.{alignmentOf, area, wrapped, cellLines, height, areaAt}
-use Rattle.rules.specs.Words.{rowAt, columnOf, linesOf, areaOf, Uncut}
-use Rattle.laws.proofs.Lists.{keep-append, all-getD, map-shift, le-greatest}
-use Rattle.laws.proofs.Text.{width-nil}
+use Rattle.rules.specs.Words.{rowAt, columnOf, linesOf, areaOf, Uncut, characters}
+use Rattle.laws.proofs.Lists.{keep-append, keep-swap, all-getD, map-shift, le-greatest}
+use Rattle.laws.proofs.Text.{width-nil, characters-append}
 use Rattle.laws.proofs.Split.{wrap-short}
 use Rattle.laws.proofs.Keeps.{kept-lines}
 use Rattle.laws.proofs.Areas.{visible-below, content-some}
@@ -83,10 +83,11 @@ module _ (q : ℕ → Bool) (t : Table) (ws : List ℕ) (r : Row) (j : ℕ) (som
           let m : cellAt r j ≡ noCell = List·getD-eq-default (r .cells) noCell (ltb-false j (length (r .cells)) e) in
           rw m (ap (λ l. keep (λ ch. not (q ch)) (flat l)) (missing-lines (getD ws j 0) (delimiterOf t (columnAt t j) noCell)))
 
--- the text of a place
-pub place-text : (q : ℕ → Bool) → q 32 ≡ true → (t : Table) (i c : ℕ) → c < length (visible t)
-    → (ltb (columnOf t c) (length (rowAt t i .cells)) ≡ true → q (delimiterOf t (columnAt t (columnOf t c)) (cellAt (rowAt t i) (columnOf t c))) ≡ true) → Uncut t i c
-    → keep (λ ch. not (q ch)) (flat (map (λ k. areaOf t i k c) (upFrom 0 (linesOf t i)))) ≡ keep (λ ch. not (q ch)) (flat (cellAt (rowAt t i) (columnOf t c) .lines))
+-- the bytes of a place
+place-text : (q : ℕ → Bool) → q 32 ≡ true → (t : Table) (i c : ℕ) → c < length (visible t)
+    → (ltb (columnOf t c) (length (rowAt t i .cells)) ≡ true → q (delimiterOf t (columnAt t (columnOf t c)) (cellAt (rowAt t i) (columnOf t c))) ≡ true)
+    → Uncut t i c → keep (λ ch. not (q ch)) (flat (map (λ k. areaOf t i k c) (upFrom 0 (linesOf t i))))
+    ≡ keep (λ ch. not (q ch)) (flat (cellAt (rowAt t i) (columnOf t c) .lines))
 unfolding areaAt height
 place-text q space t i c h d o =
     let ws = contents t in
@@ -98,3 +99,26 @@ place-text q space t i c h d o =
     (le-greatest (λ j. length (cellLines t ws r j)) (visible t) c 0 h)
     ∙ ap (λ l. keep (λ ch. not (q ch)) (flat l)) (uncut-lines t ws r j o)
     ∙ wrapped-text q t ws r j (content-some t j below) d
+
+characters-flat : (g : ℕ → List ℕ) (ks : List ℕ) → charactersIn (flat (map g ks)) ≡ flat (map (λ k. charactersIn (g k)) ks)
+unfolding flat
+characters-flat g [] = unfold charactersIn keep in refl
+characters-flat g (k ∷ ks) = characters-append (g k) (flat (map g ks)) ∙ ap (λ l. charactersIn (g k) ++ l) (characters-flat g ks)
+
+-- what is left of a text's characters are the characters of what is left of its bytes
+characters-left : (p : ℕ → Bool) (l m : List ℕ) → keep p l ≡ keep p m → keep p (charactersIn l) ≡ keep p (charactersIn m)
+unfolding charactersIn
+characters-left p l m e =
+    let q : ℕ → Bool = λ b. not (isSecond b) in
+    keep-swap p q l ∙ ap (keep q) e ∙ sym (keep-swap p q m)
+
+-- and its characters
+pub place-characters : (q : ℕ → Bool) → q 32 ≡ true → (t : Table) (i c : ℕ) → c < length (visible t)
+    → (ltb (columnOf t c) (length (rowAt t i .cells)) ≡ true → q (delimiterOf t (columnAt t (columnOf t c)) (cellAt (rowAt t i) (columnOf t c))) ≡ true)
+    → Uncut t i c → keep (λ ch. not (q ch)) (flat (map (λ k. charactersIn (areaOf t i k c)) (upFrom 0 (linesOf t i))))
+    ≡ keep (λ ch. not (q ch)) (characters t i c)
+place-characters q space t i c h d o =
+    let p : ℕ → Bool = λ ch. not (q ch) in
+    let ks = upFrom 0 (linesOf t i) in
+    ap (keep p) (sym (characters-flat (λ k. areaOf t i k c) ks))
+    ∙ characters-left p (flat (map (λ k. areaOf t i k c) ks)) (flat (cellAt (rowAt t i) (columnOf t c) .lines)) (place-text q space t i c h d o)

@@ -14,7 +14,8 @@ use Rattle.rules.specs.Limits.{Printable, IsText, nothing, plain, Optional, Col
 use Rattle.rules.specs.Style.{glyphAt, glyph, isVisible}
 use Rattle.rules.specs.Wrap.{delimiterOf, shownIndicator, cutLine}
 use Rattle.rules.specs.Widths.{visible, contents}
-use Rattle.rules.specs.Page.{alignmentOf, before, area, wrapped, cellLines, height, areaAt, areas, joinedMore, joined, lineOf, edge, ruled, textLine, shown, rowText, framed, pageLines}
+use Rattle.rules.specs.Page.{alignmentOf, before, area, wrapped, cellLines, height, areaAt, areas, joinedMore, joined, lineOf, edge, ruled, textLine}
+use Rattle.rules.specs.Page.{shown, rowText, framed, pageLines}
 use Rattle.laws.proofs.Lists.{all-imp, all-append, all-map, all-map-imp, all-replicate, all-default}
 use Rattle.laws.proofs.Texts.{text-all, text-append, text-first}
 use Rattle.laws.proofs.Split.{text-wrapLines}
@@ -59,7 +60,9 @@ module _ (S : List ℕ) (chars : All Optional S) where
   printable-edge false k = nothing
 
   printable-runs : (k : ℕ) (vs : List ℕ) → All IsText (map (λ v. replicate v (glyph (glyphAt S k))) vs)
-  printable-runs k vs = all-map IsText (λ v. replicate v (glyph (glyphAt S k))) (λ v. text-all (replicate v (glyph (glyphAt S k))) (all-replicate Printable (glyph (glyphAt S k)) v (printable-at k))) vs
+  printable-runs k vs =
+      let fill = glyph (glyphAt S k) in
+      all-map IsText (λ v. replicate v fill) (λ v. text-all (replicate v fill) (all-replicate Printable fill v (printable-at k))) vs
 
   pub printable-ruled : (always : Bool) (k : ℕ) (vs : List ℕ) → IsText (ruled S always k vs)
   unfolding ruled
@@ -84,7 +87,9 @@ text-blank n = text-all (blank n) (all-replicate Printable 32 n (omega arith, om
 
 pub printable-area : (c : Column) (w a : ℕ) (l : List ℕ) → IsText l → IsText (area c w a l)
 unfolding area
-printable-area c w a l h = text-append (text-blank (c .left + before a (w - textWidth l))) (text-append h (text-blank ((w - textWidth l - before a (w - textWidth l)) + c .right)))
+printable-area c w a l h =
+    let free = w - textWidth l in
+    text-append (text-blank (c .left + before a free)) (text-append h (text-blank ((free - before a free) + c .right)))
 
 printable-cutLine : (w : ℕ) (i l : List ℕ) → All Printable i → IsText l → IsText (cutLine w i l)
 unfolding cutLine shownIndicator
@@ -100,6 +105,10 @@ Plain x = Optional (x .delimiter) × All IsText (x .lines)
 
 plain-cell : (x : Cell) → CellLimits x → Plain x
 plain-cell x h = (h .delimiter, all-imp LineLimits IsText (λ l k. k .characters) (x .lines) (h .texts))
+
+-- and every cell of some rows
+pub rows-cells : (rs : List Row) (n : ℕ) → All (RowLimits n) rs → All (λ r. All CellLimits (r .cells)) rs
+rows-cells rs n h = all-imp (RowLimits n) (λ r. All CellLimits (r .cells)) (λ r k. k .each) rs h
 
 module _ (t : Table) (T : TableLimits t) (ws : List ℕ) where
   module _ (r : Row) (R : All CellLimits (r .cells)) where
@@ -118,7 +127,8 @@ module _ (t : Table) (T : TableLimits t) (ws : List ℕ) where
     pub printable-cell : (j : ℕ) → All IsText (cellLines t ws r j)
     unfolding cellLines wrapped
     printable-cell j =
-        all-cut IsText (getD ws j 0) (t .indicator) (r .limit) (wrapped t ws r j) nothing (λ l k. printable-cutLine (getD ws j 0) (t .indicator) l (T .indicator-characters) k)
+        all-cut IsText (getD ws j 0) (t .indicator) (r .limit) (wrapped t ws r j) nothing
+        (λ l k. printable-cutLine (getD ws j 0) (t .indicator) l (T .indicator-characters) k)
         (text-wrapLines (delimiterOf t (columnAt t j) (cellAt r j)) (printable-delimiter j) (getD ws j 0) (cellAt r j .lines) (plain-at j .1))
 
     pub printable-areaAt : (k j : ℕ) → IsText (areaAt t ws r k j)
@@ -131,21 +141,20 @@ module _ (t : Table) (T : TableLimits t) (ws : List ℕ) where
     unfolding rowText areas
     printable-rowText k =
         all-map-imp (All IsText) IsText (textLine (t .style) k) (printable-textLine (t .style) (T .style-characters) k) (areas t ws r)
-        (all-map (All IsText) (λ n. map (areaAt t ws r n) (visible t)) (λ n. all-map IsText (areaAt t ws r n) (printable-areaAt n) (visible t)) (upFrom 0 (height t ws r)))
-
-  rows-cells : (rs : List Row) (n : ℕ) → All (RowLimits n) rs → All (λ r. All CellLimits (r .cells)) rs
-  rows-cells rs n h = all-imp (RowLimits n) (λ r. All CellLimits (r .cells)) (λ r k. k .each) rs h
+        (all-map (All IsText) (λ n. map (areaAt t ws r n) (visible t)) (λ n. all-map IsText (areaAt t ws r n) (printable-areaAt n) (visible t))
+        (upFrom 0 (height t ws r)))
 
   -- over any of its rows
   pub printable-framed : (rs : List Row) → All (λ r. All CellLimits (r .cells)) rs → All IsText (framed t ws rs)
   unfolding framed
   printable-framed rs h =
       let shows = printable-shown (t .style) (T .style-characters) in
-      let text : (k : ℕ) (qs : List Row) → All (λ r. All CellLimits (r .cells)) qs → All (λ r. All IsText (rowText t ws k r)) qs = λ k qs g. all-imp (λ r. All CellLimits (r .cells)) (λ r. All IsText (rowText t ws k r)) (λ r c. printable-rowText r c k) qs g in
+      let text : (k : ℕ) (qs : List Row) → All (λ r. All CellLimits (r .cells)) qs → All (λ r. All IsText (rowText t ws k r)) qs
+      = λ k qs g. all-imp (λ r. All CellLimits (r .cells)) (λ r. All IsText (rowText t ws k r)) (λ r c. printable-rowText r c k) qs g in
       let header = rows-cells (t .header) _ (T .header-row) in
       search (all-append, all-headed, all-ruledRows, shows, text, header)
 
 -- the page's lines are text
 pub printable-page : (t : Table) → TableLimits t → All IsText (pageLines t)
 unfolding pageLines
-printable-page t T = printable-framed t T (contents t) (t .rows) (rows-cells t T (contents t) (t .rows) _ (T .each-row))
+printable-page t T = printable-framed t T (contents t) (t .rows) (rows-cells (t .rows) _ (T .each-row))

@@ -16,6 +16,7 @@ use Rattle.rules.specs.Wrap.{exceeds, cutLine, cut, delimiterOf}
 use Rattle.rules.specs.Widths.{numbers, visible, borders, contents}
 use Rattle.rules.specs.Page.{visibleWidth, visibleWidths, wrapped, cellLines, height, areaAt, areas, ruled, textLine, lineLength, borderLength, shown}
 use Rattle.rules.specs.Page.{headed, ruledMore, ruledRows, rowText, framed, pageLines, closed, lineCount}
+use Rattle.rules.specs.Words.{widthsOf}
 use Rattle.laws.proofs.Cases.{oneIf-le}
 use Rattle.laws.proofs.Lists.{all-map, all-map-imp, all-imp, all-append, all-default, all-getD, all-keep, length-upFrom, keep-yes, keep-no}
 use Rattle.laws.proofs.Bounds.{Most, greatest-le, contents-801}
@@ -326,24 +327,23 @@ abbrev Bounded : List ℕ → Type 0
 Bounded l = (textWidth l ≤ widestLine) × (length l ≤ longestLine)
 
 module _ (t : Table) (T : TableLimits t) where
-  shown-bounded : (always : Bool) (k : ℕ) → All Bounded (shown (t .style) always k (visibleWidths t (contents t)))
+  shown-bounded : (always : Bool) (k : ℕ) → All Bounded (shown (t .style) always k (widthsOf t))
   unfolding shown
   shown-bounded always k = go always (isVisible (t .style) k)
     where
       bounded : (l : List ℕ) → length l ≤ widestLine → Bounded l
       bounded l h = (omega (arith, width-le l), omega arith)
 
-      go : (a b : Bool) → All Bounded (elim b as (λ x. List (List ℕ)) [ true ↦ ruled (t .style) a k (visibleWidths t (contents t)) ∷ [] | false ↦ [] ])
-      go true true = (bounded (ruled (t .style) true k (visibleWidths t (contents t))) (omega (arith, border-length t (contents t) k, border-length-bound t T)), tt)
-      go false true = (bounded (ruled (t .style) false k (visibleWidths t (contents t))) (omega (arith, rule-length t (contents t) k, line-length-bound t T)), tt)
+      go : (a b : Bool) → All Bounded (elim b as (λ x. List (List ℕ)) [ true ↦ ruled (t .style) a k (widthsOf t) ∷ [] | false ↦ [] ])
+      go true true = (bounded (ruled (t .style) true k (widthsOf t)) (omega (arith, border-length t (contents t) k, border-length-bound t T)), tt)
+      go false true = (bounded (ruled (t .style) false k (widthsOf t)) (omega (arith, rule-length t (contents t) k, line-length-bound t T)), tt)
       go a false = tt
 
-  -- a text line has at most 100 pairs a column
+  -- in a text line, each column shows at most 100 pairs
   text-bounded : (r : Row) → All CellLimits (r .cells) → (k i : ℕ) → Bounded (textLine (t .style) k (map (areaAt t (contents t) r i) (visible t)))
   text-bounded r R k i =
       let few = all-imp (λ j. 1 ≤ getD (contents t) j 0) (λ j. PairsUpTo 100 (getD (cellLines t (contents t) r j) i []))
-      (λ j some. shown-100 t T (contents t) r R i j some) (visible t) (visible-some t) in
-      (
+      (λ j some. shown-100 t T (contents t) r R i j some) (visible t) (visible-some t) in (
         omega (arith, text-width t (T .style-characters) (contents t) r k i, line-length-bound t T),
         omega (arith, text-bound t (contents t) r k i 100 few, line-length-most t T, visible-count t, T .columns),
       )

@@ -9,9 +9,11 @@ use lib.ListN.{length}
 use Rattle.rules.specs.Text.{textWidth, upFrom, All}
 use Rattle.rules.specs.Limits.{IsText, CellLimits, TableLimits}
 use Rattle.rules.specs.Sheet.{Row, Table}
-use Rattle.rules.specs.Style.{topBorder, headerLines, headerRule, contentLines, rowRule, bottomBorder, glyphAt, isSet, glyph, anyLeft, anyRight, anyJunction, isVisible}
+use Rattle.rules.specs.Style.{topBorder, headerLines, headerRule, contentLines, rowRule, bottomBorder, glyphAt, isSet, glyph}
+use Rattle.rules.specs.Style.{anyLeft, anyRight, anyJunction, isVisible}
 use Rattle.rules.specs.Widths.{visible}
-use Rattle.rules.specs.Page.{visibleWidth, visibleWidths, height, areaAt, areas, lineOf, joined, edge, ruled, textLine, shown, headed, ruledRows, rowText, framed}
+use Rattle.rules.specs.Page.{visibleWidth, visibleWidths, height, areaAt, areas, lineOf, joined, edge, ruled, textLine, shown}
+use Rattle.rules.specs.Page.{headed, ruledRows, rowText, framed}
 use Rattle.rules.specs.Words.{Readable}
 use Rattle.laws.proofs.Lists.{all-map, all-imp}
 use Rattle.laws.proofs.Cancel.{line-cancel, border-cancel, runs}
@@ -35,7 +37,9 @@ Fits vs x = (map textWidth x ≡ vs) × All IsText x
 -- a text line tells its areas
 text-tells : (S : List ℕ) (k : ℕ) (vs : List ℕ) → Tells (Fits vs) (textLine S k)
 unfolding textLine
-text-tells S k vs x y f g e = line-cancel (edge (anyLeft S) (glyphAt S k)) (edge (anyJunction S) (glyphAt S (k + 1))) (edge (anyRight S) (glyphAt S (k + 2))) x y (f .1) (g .1) (f .0 ∙ sym (g .0)) e
+text-tells S k vs x y f g e =
+    line-cancel (edge (anyLeft S) (glyphAt S k)) (edge (anyJunction S) (glyphAt S (k + 1))) (edge (anyRight S) (glyphAt S (k + 2))) x y
+    (f .1) (g .1) (f .0 ∙ sym (g .0)) e
 
 -- a line that begins with neither of two characters
 abbrev Unlike : ℕ → ℕ → List ℕ → Type 0
@@ -101,7 +105,8 @@ areas-fit t T ws r R =
     (λ k. (area-widths t ws r k (visible t), all-map IsText (areaAt t ws r k) (printable-areaAt t T ws r R k) (visible t))) (upFrom 0 (height t ws r))
 
 -- of all rows
-pub rows-fit : (t : Table) → TableLimits t → (ws : List ℕ) (rs : List Row) → All (λ r. All CellLimits (r .cells)) rs → All (λ r. All (Fits (visibleWidths t ws)) (areas t ws r)) rs
+pub rows-fit : (t : Table) → TableLimits t → (ws : List ℕ) (rs : List Row) → All (λ r. All CellLimits (r .cells)) rs
+    → All (λ r. All (Fits (visibleWidths t ws)) (areas t ws r)) rs
 rows-fit t T ws rs h = all-imp (λ r. All CellLimits (r .cells)) (λ r. All (Fits (visibleWidths t ws)) (areas t ws r)) (areas-fit t T ws) rs h
 
 -- the lines drawn in a style S, for visible widths vs and what each row shows
@@ -138,7 +143,8 @@ module _ (S : List ℕ) (a b : Row → List (List (List ℕ))) (hs is rs qs : Li
 
     -- the others tell the rest
     pub drawn-shown : (vs : List ℕ) → 0 < length vs → All (λ v. 1 ≤ v) vs
-        → All (λ r. All (Fits vs) (a r)) hs → All (λ r. All (Fits vs) (b r)) is → All (λ r. All (Fits vs) (a r)) rs → All (λ r. All (Fits vs) (b r)) qs → All (λ r. 0 < length (a r)) rs → All (λ r. 0 < length (b r)) qs
+        → All (λ r. All (Fits vs) (a r)) hs → All (λ r. All (Fits vs) (b r)) is → All (λ r. All (Fits vs) (a r)) rs
+        → All (λ r. All (Fits vs) (b r)) qs → All (λ r. 0 < length (a r)) rs → All (λ r. 0 < length (b r)) qs
         → drawn S vs a hs rs ≡ drawn S vs b is qs → (map a hs ≡ map b is) × (map a rs ≡ map b qs)
     unfolding drawn
     drawn-shown vs some wide fh fi fr fq la lb e =

@@ -143,7 +143,8 @@ module _ (w d : ℕ) (some : 0 < w) where
   run-fill l p ps h t n =
       let e : act w d l p ≡ fill = rw (lt-leb _ _ h, t, lt-ltb _ _ n, act) in
       let q = rest-shorter (room w d l) p (room-some w d l some t) (omega arith) in
-      run-step l p ps ∙ rw (e, place) (ap (λ r. glue d l (firstOf (room w d l) p) ∷ r) (place-run (held l + (length p + 1 + weight ps)) [] (restOf (room w d l) p ∷ ps) (omega arith)))
+      run-step l p ps ∙ rw (e, place) (ap (λ r. glue d l (firstOf (room w d l) p) ∷ r)
+      (place-run (held l + (length p + 1 + weight ps)) [] (restOf (room w d l) p ∷ ps) (omega arith)))
 
   -- the line is flushed, the piece begins another, and that one is flushed after it
   pub run-begin-full : (l p : List ℕ) (ps : List (List ℕ)) → w < textWidth (glue d l p) → tight w d l ≡ false → textWidth p ≤ w → w - 2 < textWidth p

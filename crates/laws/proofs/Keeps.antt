@@ -75,10 +75,12 @@ module _ (q : ℕ → Bool) (d : ℕ) (out : q d ≡ true) where
             rw (e, place) (rest-append l (flat (place n w d [] (p ∷ ps))) ∙ ap (λ r. rest l ++ r) (fresh n keeping (p ∷ ps) (omega arith)))
         go fill e (fills i t j) =
             let s = rest-shorter (room w d l) p (room-some w d l some t) (omega arith) in
-            let f = fresh n keeping (restOf (room w d l) p ∷ ps) (omega arith) in
+            let a = firstOf (room w d l) p in
+            let b = restOf (room w d l) p in
+            let f = fresh n keeping (b ∷ ps) (omega arith) in
             rw (e, place) (
-            rest-append (glue d l (firstOf (room w d l) p)) (flat (place n w d [] (restOf (room w d l) p ∷ ps)))
-            ∙ rw (f, rest-glue l (firstOf (room w d l) p), rest-append (restOf (room w d l) p) (flat ps), rest-append p (flat ps), ← rest-cut (room w d l) p)
+            rest-append (glue d l a) (flat (place n w d [] (b ∷ ps)))
+            ∙ rw (f, rest-glue l a, rest-append b (flat ps), rest-append p (flat ps), ← rest-cut (room w d l) p)
             simp append-assoc
             )
         go begin e (begins i t j) =

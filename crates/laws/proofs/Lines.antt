@@ -1,4 +1,4 @@
--- How long the lines of a page are: rules have one length, borders another; a text line takes the columns of a rule, and a byte more for each pair. Assumes nothing.
+-- How long lines are: rules have one length, borders another; a text line has a rule's columns, and a byte more for each pair. Assumes nothing.
 use Prim.Native.Nat.{ℕ, _+_, _-_, _*_, _≤_}
 use mathlib.Core.Path.{_≡_, refl, _∙_}
 use mathlib.Core.List.{List, [], _∷_, _++_, map}
@@ -8,21 +8,24 @@ use native.Mathlib.Omega.{arith}
 use lib.ListN.{length, getD, replicate, length-append, length-replicate, length-map}
 use Rattle.rules.specs.Text.{textWidth, sum, oneIf, All}
 use Rattle.rules.specs.Sheet.{Row, Table}
-use Rattle.rules.specs.Limits.{Optional, Plain}
+use Rattle.rules.specs.Limits.{Optional, Plain, PlainRow, CellLimits, TableLimits}
 use Rattle.rules.specs.Style.{glyphAt, glyph, anyLeft, anyRight, anyJunction, bordersOf}
-use Rattle.rules.specs.Widths.{visible, borders}
-use Rattle.rules.specs.Page.{edge, joinedMore, joined, lineOf, ruled, textLine, cellLines, areaAt, visibleWidth, visibleWidths, lineLength, borderLength}
+use Rattle.rules.specs.Widths.{visible, borders, contents}
+use Rattle.rules.specs.Page.{edge, joinedMore, joined, lineOf, ruled, textLine, cellLines, areaAt}
+use Rattle.rules.specs.Page.{visibleWidth, visibleWidths, lineLength, borderLength}
 use Rattle.laws.proofs.Lists.{all-default, all-imp}
 use Rattle.laws.proofs.Text.{width-nil, width-append, width-le}
 use Rattle.laws.proofs.Texts.{width-plain}
 use Rattle.laws.proofs.Fits.{width-areaAt, length-areaAt, area-widths}
-use Rattle.laws.proofs.PairCounts.{PairsUpTo}
+use Rattle.laws.proofs.PairCounts.{PairsUpTo, plain-shown}
 use Rattle.laws.proofs.Characters.{printable-glyph}
+use Rattle.laws.proofs.Areas.{visible-some}
 
 -- m: bytes or columns, in either of which an edge that is drawn counts one
 module _ (m : List ℕ → ℕ) (none : m [] ≡ 0) (add : (l k : List ℕ) → m (l ++ k) ≡ m l + m k) where
   -- a junction, if it is drawn, before each of some parts
-  measured-more : (b : Bool) (c : ℕ) → m (edge b c) ≡ oneIf b → (ps : List (List ℕ)) → m (joinedMore (edge b c) ps) ≡ sum (map m ps) + cond b (length ps) 0
+  measured-more : (b : Bool) (c : ℕ) → m (edge b c) ≡ oneIf b → (ps : List (List ℕ))
+      → m (joinedMore (edge b c) ps) ≡ sum (map m ps) + cond b (length ps) 0
   unfolding joinedMore sum
   measured-more true c e [] = none
   measured-more false c e [] = none
@@ -30,7 +33,8 @@ module _ (m : List ℕ → ℕ) (none : m [] ≡ 0) (add : (l k : List ℕ) → 
   measured-more false c e (p ∷ ps) = simp add (omega (arith, e, measured-more false c e ps))
 
   -- parts, and a junction between each two, if it is drawn
-  measured-joined : (b : Bool) (c : ℕ) → m (edge b c) ≡ oneIf b → (ps : List (List ℕ)) → m (joined (edge b c) ps) ≡ sum (map m ps) + cond b (length ps - 1) 0
+  measured-joined : (b : Bool) (c : ℕ) → m (edge b c) ≡ oneIf b → (ps : List (List ℕ))
+      → m (joined (edge b c) ps) ≡ sum (map m ps) + cond b (length ps - 1) 0
   unfolding joined sum
   measured-joined true c e [] = none
   measured-joined false c e [] = none
@@ -92,7 +96,8 @@ text-width t O ws r i k =
 
 module _ (t : Table) (ws : List ℕ) (r : Row) (i k : ℕ) where
   -- the same in bytes: the borders drawn, and its areas
-  pub text-bytes : length (textLine (t .style) i (map (areaAt t ws r k) (visible t))) ≡ borders t + sum (map length (map (areaAt t ws r k) (visible t)))
+  pub text-bytes : length (textLine (t .style) i (map (areaAt t ws r k) (visible t)))
+      ≡ borders t + sum (map length (map (areaAt t ws r k) (visible t)))
   unfolding textLine borders bordersOf
   text-bytes =
       let S = t .style in
@@ -125,3 +130,10 @@ module _ (t : Table) (ws : List ℕ) (r : Row) (i k : ℕ) where
       let none = all-imp (λ j. Plain (getD (cellLines t ws r j) k [])) (λ j. PairsUpTo 0 (getD (cellLines t ws r j) k [])) (λ j e. omega (arith, e))
       (visible t) h in
       omega (arith, text-bytes, area-bytes 0 (visible t) none, area-columns (visible t))
+
+-- no pair in any cell of the row
+pub plain-row : (t : Table) → TableLimits t → (r : Row) → All CellLimits (r .cells) → PlainRow r → (i k : ℕ)
+    → length (textLine (t .style) i (map (areaAt t (contents t) r k) (visible t))) ≡ lineLength t (contents t)
+plain-row t T r R h i k =
+    plain-length t (contents t) r i k (all-imp (λ j. 1 ≤ getD (contents t) j 0) (λ j. Plain (getD (cellLines t (contents t) r j) k []))
+    (λ j some. plain-shown t T (contents t) r R h k j some) (visible t) (visible-some t))

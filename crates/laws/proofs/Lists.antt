@@ -190,7 +190,8 @@ keep-swap p q [] = refl
 keep-swap {A} p q (x ∷ xs) = go (p x) (q x) refl refl (keep-swap p q xs)
   where
     go : (a b : Bool) → p x ≡ a → q x ≡ b → keep p (keep q xs) ≡ keep q (keep p xs)
-        → keep p (elim b as (λ c. List A) [ true ↦ x ∷ keep q xs | false ↦ keep q xs ]) ≡ keep q (elim a as (λ c. List A) [ true ↦ x ∷ keep p xs | false ↦ keep p xs ])
+        → keep p (elim b as (λ c. List A) [ true ↦ x ∷ keep q xs | false ↦ keep q xs ])
+        ≡ keep q (elim a as (λ c. List A) [ true ↦ x ∷ keep p xs | false ↦ keep p xs ])
     go true true e f h = rw (e, f, keep, h)
     go true false e f h = rw (f, keep, h)
     go false true e f h = rw (e, keep, h)

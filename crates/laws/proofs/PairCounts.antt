@@ -12,7 +12,7 @@ use Rattle.rules.specs.Wrap.{delimiterOf, wrapLine, wrapLines, shownIndicator, 
 use Rattle.rules.specs.Page.{wrapped, cellLines}
 use Rattle.laws.proofs.Lists.{all-imp, all-default, all-flat, keep-append}
 use Rattle.laws.proofs.Text.{width-nil, width-second, width-cons, width-append, width-le, first-rest}
-use Rattle.laws.proofs.Texts.{printable-first, width-plain, text-length}
+use Rattle.laws.proofs.Texts.{printable-first, text-length}
 use Rattle.laws.proofs.Keeps.{kept-line}
 use Rattle.laws.proofs.Fits.{all-cut, plain-indicator}
 use Rattle.laws.proofs.Characters.{printable-delimiter}
@@ -40,8 +40,7 @@ unfolding flat
 seconds-part [] = tt
 seconds-part (l ∷ ls) =
     let e : length (seconds (l ++ flat ls)) ≡ length (seconds l) + length (seconds (flat ls))
-    = ap length (keep-append (λ b. not (not (isSecond b))) l (flat ls)) ∙ length-append (seconds l) (seconds (flat ls)) in
-    (
+    = ap length (keep-append (λ b. not (not (isSecond b))) l (flat ls)) ∙ length-append (seconds l) (seconds (flat ls)) in (
       omega arith,
       all-imp (λ m. length (seconds m) ≤ length (seconds (flat ls))) (λ m. length (seconds m) ≤ length (seconds (l ++ flat ls)))
           (λ m h. omega arith) ls (seconds-part ls),
@@ -91,7 +90,8 @@ module _ (t : Table) (T : TableLimits t) (ws : List ℕ) (r : Row) (R : All Cell
       (λ l k. pairs-cutLine n (getD ws j 0) (t .indicator) l (T .indicator-characters) k)
       (pairs-wrapLines n (getD ws j 0) d some (printable-first d (printable-delimiter t T ws r R j)) (x .lines) few)
 
-  pairs-shown : (n : ℕ) → All (λ x. All (PairsUpTo n) (x .lines)) (r .cells) → (k j : ℕ) → 1 ≤ getD ws j 0 → PairsUpTo n (getD (cellLines t ws r j) k [])
+  pairs-shown : (n : ℕ) → All (λ x. All (PairsUpTo n) (x .lines)) (r .cells) → (k j : ℕ) → 1 ≤ getD ws j 0
+      → PairsUpTo n (getD (cellLines t ws r j) k [])
   pairs-shown n h k j some = all-default (PairsUpTo n) (cellLines t ws r j) k [] (omega arith) (pairs-cell n h j some)
 
   -- a cell's line has at most 200 bytes, so that at most 100 are second ones

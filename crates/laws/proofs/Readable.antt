@@ -8,7 +8,7 @@ use native.Mathlib.Omega.{arith}
 use lib.ListN.{length, getD}
 use lib.Dec.{eqb, ltb}
 use borrow.Author.Tests.{eq-eqb}
-use Rattle.rules.specs.Text.{keep, isSecond, charactersIn, textWidth, upFrom, flat, All}
+use Rattle.rules.specs.Text.{keep, charactersIn, textWidth, upFrom, flat, All}
 use Rattle.rules.specs.Sheet.{Row, Table, noRow, allRows, columnAt, cellAt}
 use Rattle.rules.specs.Limits.{IsText, CellLimits, RowLimits, TableLimits}
 use Rattle.rules.specs.Wrap.{delimiterOf}
@@ -16,14 +16,14 @@ use Rattle.rules.specs.Widths.{visible, contents}
 use Rattle.rules.specs.Page.{areas, visibleWidth, visibleWidths, closed, pageLines, page}
 use Rattle.rules.specs.Words.{Readable, Accepted, wrote, Answered, rowAt, columnOf, widthsOf, linesOf, areaOf, isDelimiter, leftOut}
 use Rattle.rules.specs.Demand3.{Agree, SameText, Comparable, Demand3}
-use Rattle.laws.proofs.Lists.{all-imp, all-append, all-default, all-right, all-places, getD-map, map-below, keep-swap}
+use Rattle.laws.proofs.Lists.{all-imp, all-append, all-default, all-right, all-places, getD-map, map-below}
 use Rattle.laws.proofs.Texts.{text-unbroken, text-tells}
 use Rattle.laws.proofs.Cancel.{closed-cancel}
 use Rattle.laws.proofs.Fits.{width-areaAt}
-use Rattle.laws.proofs.Characters.{printable-areaAt, printable-page}
+use Rattle.laws.proofs.Characters.{rows-cells, printable-areaAt, printable-page}
 use Rattle.laws.proofs.Drawn.{Fits, rows-fit, drawn, framed-drawn, shown-drawn, drawn-widths, drawn-shown}
-use Rattle.laws.proofs.Areas.{widths-some, length-widths, length-areas, shownIn, Alike, area-alike, alike-agree, agree-alike}
-use Rattle.laws.proofs.CellText.{place-text}
+use Rattle.laws.proofs.Areas.{widths-some, length-widths, length-areas, shownIn, Alike, alike-agree, agree-alike}
+use Rattle.laws.proofs.CellText.{place-characters}
 use Rattle.laws.proofs.Accepted.{accepted-limits}
 use Rattle.laws.proofs.Wrote.{wrote-page}
 
@@ -36,13 +36,10 @@ unbroken : (t : Table) → TableLimits t → All (All (λ c. c ≢ 10)) (pageLin
 unbroken t T = all-imp IsText (All (λ c. c ≢ 10)) (λ l h. text-unbroken h) (pageLines t) (printable-page t T)
 
 -- the cells of every row keep their limits
-rows-cells : (n : ℕ) (rs : List Row) → All (RowLimits n) rs → All (λ r. All CellLimits (r .cells)) rs
-rows-cells n rs h = all-imp (RowLimits n) (λ r. All CellLimits (r .cells)) (λ r k. k .each) rs h
-
 row-cells : (t : Table) → TableLimits t → (i : ℕ) → All CellLimits (rowAt t i .cells)
 row-cells t T i =
     all-default (λ r. All CellLimits (r .cells)) (allRows t) i noRow tt
-    (all-append (λ r. All CellLimits (r .cells)) (t .header) (t .rows) (rows-cells _ (t .header) (T .header-row)) (rows-cells _ (t .rows) (T .each-row)))
+    (all-append (λ r. All CellLimits (r .cells)) (t .header) (t .rows) (rows-cells (t .header) _ (T .header-row)) (rows-cells (t .rows) _ (T .each-row)))
 
 -- rows with a line
 lined : (t : Table) → ((i : ℕ) → i < length (allRows t) → 0 < linesOf t i) → All (λ r. 0 < length (shownIn t r)) (t .rows)
@@ -63,9 +60,12 @@ module _ (t u : Table) (one : t .style ≡ u .style) where
 
   module _ (T : TableLimits t) (U : TableLimits u) (R : Readable (t .style)) (t-column : 0 < length (visible t)) (u-column : 0 < length (visible u))
       (t-lines : (i : ℕ) → i < length (allRows t) → 0 < linesOf t i) (u-lines : (i : ℕ) → i < length (allRows u) → 0 < linesOf u i) where
+    t-fits : (rs : List Row) → All (RowLimits (length (t .columns))) rs → All (λ r. All (Fits (widthsOf t)) (shownIn t r)) rs
+    t-fits rs h = rows-fit t T (contents t) rs (rows-cells rs _ h)
+
     -- the second table's areas, at the first one's widths
-    fits-u : (rs : List Row) → All (λ r. All CellLimits (r .cells)) rs → widthsOf t ≡ widthsOf u → All (λ r. All (Fits (widthsOf t)) (shownIn u r)) rs
-    fits-u rs h w = rw w (rows-fit u U (contents u) rs h)
+    u-fits : widthsOf t ≡ widthsOf u → (rs : List Row) → All (RowLimits (length (u .columns))) rs → All (λ r. All (Fits (widthsOf t)) (shownIn u r)) rs
+    u-fits w rs h = rw w (rows-fit u U (contents u) rs (rows-cells rs _ h))
 
     -- in a readable style, tables with one page show the same
     pub page-alike : page t ≡ page u → Alike t u
@@ -80,15 +80,15 @@ module _ (t u : Table) (one : t .style ≡ u .style) where
         (omega (arith, length-widths u (contents u))) m in
         let n = m ∙ ap (λ vs. drawn S vs (shownIn u) (u .header) (u .rows)) (sym w) in
         let s = drawn-shown S (shownIn t) (shownIn u) (t .header) (u .header) (t .rows) (u .rows) R (widthsOf t) some (widths-some t)
-        (rows-fit t T (contents t) (t .header) (rows-cells _ (t .header) (T .header-row))) (fits-u (u .header) (rows-cells _ (u .header) (U .header-row)) w)
-        (rows-fit t T (contents t) (t .rows) (rows-cells _ (t .rows) (T .each-row))) (fits-u (u .rows) (rows-cells _ (u .rows) (U .each-row)) w) (lined t t-lines) (lined u u-lines) n in
+        (t-fits (t .header) (T .header-row)) (u-fits w (u .header) (U .header-row)) (t-fits (t .rows) (T .each-row)) (u-fits w (u .rows) (U .each-row))
+        (lined t t-lines) (lined u u-lines) n in
         record { widths = w; header = s .0; rows = s .1 }
 
     -- the characters of an area tell its bytes
     areas-told : Agree t u → (i k c : ℕ) → i < length (allRows t) → k < linesOf t i → c < length (visible t) → areaOf t i k c ≡ areaOf u i k c
     areas-told a i k c h l m =
-        text-tells (printable-areaAt t T (contents t) (rowAt t i) (row-cells t T i) k (columnOf t c)) (printable-areaAt u U (contents u) (rowAt u i) (row-cells u U i) k (columnOf u c))
-        (a .areas i k c h l m)
+        text-tells (printable-areaAt t T (contents t) (rowAt t i) (row-cells t T i) k (columnOf t c))
+        (printable-areaAt u U (contents u) (rowAt u i) (row-cells u U i) k (columnOf u c)) (a .areas i k c h l m)
 
     -- so pages are equal exactly where the tables agree
     pub pages-on-tables : (page t ≡ page u) ↔ Agree t u
@@ -105,26 +105,19 @@ is-delimiter : (t : Table) (i c : ℕ) → ltb (columnOf t c) (length (rowAt t i
     → isDelimiter t i c (delimiterOf t (columnAt t (columnOf t c)) (cellAt (rowAt t i) (columnOf t c))) ≡ true
 is-delimiter t i c h = let d = delimiterOf t (columnAt t (columnOf t c)) (cellAt (rowAt t i) (columnOf t c)) in rw (h, isDelimiter) (eq-eqb d d refl)
 
--- what is left of a cell's characters are the characters of what is left of its bytes
-letters-left : (p : ℕ → Bool) (l m : List ℕ) → keep p l ≡ keep p m → keep p (charactersIn l) ≡ keep p (charactersIn m)
-unfolding charactersIn
-letters-left p l m e =
-    let q : ℕ → Bool = λ b. not (isSecond b) in
-    keep-swap p q l ∙ ap (keep q) e ∙ sym (keep-swap p q m)
-
--- alike tables' cells hold the same text
-pub texts-on-tables : (t u : Table) → Alike t u → SameText t u
+-- agreeing tables' cells hold the same text
+pub texts-on-tables : (t u : Table) → Agree t u → SameText t u
 texts-on-tables t u a i c hi hc x y =
     let q = leftOut t u i c in
-    let g = alike-agree t u a in
     let dt = delimiterOf t (columnAt t (columnOf t c)) (cellAt (rowAt t i) (columnOf t c)) in
     let du = delimiterOf u (columnAt u (columnOf u c)) (cellAt (rowAt u i) (columnOf u c)) in
-    letters-left (λ ch. not (q ch)) (flat (cellAt (rowAt t i) (columnOf t c) .lines)) (flat (cellAt (rowAt u i) (columnOf u c) .lines)) (
-    sym (place-text q refl t i c hc (λ h. or-left (eqb dt 32 || isDelimiter t i c dt) (isDelimiter u i c dt) (or-right (eqb dt 32) (isDelimiter t i c dt) (is-delimiter t i c h))) x)
-    ∙ ap (λ l. keep (λ ch. not (q ch)) (flat l)) (map-below (λ k. areaOf t i k c) (λ k. areaOf u i k c) 0 (linesOf t i) (linesOf t i) (omega arith) (λ k l. area-alike t u a i k c hi l hc))
-    ∙ ap (λ n. keep (λ ch. not (q ch)) (flat (map (λ k. areaOf u i k c) (upFrom 0 n)))) (g .lines i hi)
-    ∙ place-text q refl u i c (omega (arith, length-widths t (contents t), length-widths u (contents u), ap length (g .widths))) (λ h. or-right (eqb du 32 || isDelimiter t i c du) (isDelimiter u i c du) (is-delimiter u i c h)) y
-    )
+    sym (place-characters q refl t i c hc (λ h. or-left (eqb dt 32 || isDelimiter t i c dt) (isDelimiter u i c dt)
+    (or-right (eqb dt 32) (isDelimiter t i c dt) (is-delimiter t i c h))) x)
+    ∙ ap (λ l. keep (λ ch. not (q ch)) (flat l)) (map-below (λ k. charactersIn (areaOf t i k c)) (λ k. charactersIn (areaOf u i k c)) 0
+    (linesOf t i) (linesOf t i) (omega arith) (λ k l. a .areas i k c hi l hc))
+    ∙ ap (λ n. keep (λ ch. not (q ch)) (flat (map (λ k. charactersIn (areaOf u i k c)) (upFrom 0 n)))) (a .lines i hi)
+    ∙ place-characters q refl u i c (omega (arith, length-widths t (contents t), length-widths u (contents u), ap length (a .widths)))
+    (λ h. or-right (eqb du 32 || isDelimiter t i c du) (isDelimiter u i c du) (is-delimiter u i c h)) y
 
 -- an area holds as many characters as its column's visible width
 area-filled : (t : Table) (i k c : ℕ) → c < length (visible t) → length (charactersIn (areaOf t i k c)) ≡ getD (widthsOf t) c 0
@@ -152,7 +145,4 @@ demand-3 = record { filled = filled; pages = pages; texts = texts }
         ((λ g. p .0 (sym e ∙ g ∙ f)), (λ a. e ∙ p .1 a ∙ sym f))
 
     texts : (s v : List ℕ) (t u : Table) → Comparable s v t u → (b d : List ℕ) → Answered s b → Answered v d → wrote s b ≡ wrote v d → SameText t u
-    texts s v t u C b d m n g =
-        let e = wrote-page s b t (C .first-accepted) m in
-        let f = wrote-page v d u (C .second-accepted) n in
-        texts-on-tables t u (page-alike t u (C .one-style) (limits s t (C .first-accepted)) (limits v u (C .second-accepted)) (C .readable) (C .first-column) (C .second-column) (C .first-lines) (C .second-lines) (sym e ∙ g ∙ f))
+    texts s v t u C b d m n g = texts-on-tables t u (pages s v t u C b d m n .0 g)

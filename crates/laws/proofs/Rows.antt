@@ -93,18 +93,22 @@ module _ {X : Type 0} (Fits : X → Type 0) (Rule : List ℕ → Type 0) (head t
   stops c (r ∷ rs) = rr-rule
 
   -- a row and what follows it
-  row-apart : (r q : Row) → All Fits (a r) → All Fits (b q) → (us vs : List (List ℕ)) → Stops Rule us → Stops Rule vs → map text (a r) ++ us ≡ map text (b q) ++ vs → (a r ≡ b q) × (us ≡ vs)
+  row-apart : (r q : Row) → All Fits (a r) → All Fits (b q) → (us vs : List (List ℕ)) → Stops Rule us → Stops Rule vs
+      → map text (a r) ++ us ≡ map text (b q) ++ vs → (a r ≡ b q) × (us ≡ vs)
   row-apart r q f g us vs s t e =
-      let c = at-stop Rule (map text (a r)) (map text (b q)) us vs (all-map (λ x. ¬ Rule x) text row-text (a r)) (all-map (λ x. ¬ Rule x) text row-text (b q)) s t e in
+      let c = at-stop Rule (map text (a r)) (map text (b q)) us vs (all-map (λ x. ¬ Rule x) text row-text (a r))
+      (all-map (λ x. ¬ Rule x) text row-text (b q)) s t e in
       (map-tells Fits text text-tells (a r) (b q) f g (c .0), c .1)
 
-  more-apart : (rs qs : List Row) → Fitting a rs → Fitting b qs → ruledMore (λ r. map text (a r)) (rr ∷ []) rs ≡ ruledMore (λ q. map text (b q)) (rr ∷ []) qs → map a rs ≡ map b qs
+  more-apart : (rs qs : List Row) → Fitting a rs → Fitting b qs
+      → ruledMore (λ r. map text (a r)) (rr ∷ []) rs ≡ ruledMore (λ q. map text (b q)) (rr ∷ []) qs → map a rs ≡ map b qs
   unfolding ruledMore
   more-apart [] [] f g e = refl
   more-apart [] (q ∷ qs) f g e = cc
   more-apart (r ∷ rs) [] f g e = cc
   more-apart (r ∷ rs) (q ∷ qs) f g e =
-      let c = row-apart r q (f .0) (g .0) (ruledMore (λ r. map text (a r)) (rr ∷ []) rs) (ruledMore (λ q. map text (b q)) (rr ∷ []) qs) (stops a rs) (stops b qs) cc in
+      let c = row-apart r q (f .0) (g .0) (ruledMore (λ r. map text (a r)) (rr ∷ []) rs) (ruledMore (λ q. map text (b q)) (rr ∷ []) qs)
+      (stops a rs) (stops b qs) cc in
       let i = more-apart rs qs (f .1) (g .1) (c .1) in
       cc
 
@@ -123,7 +127,8 @@ module _ {X : Type 0} (Fits : X → Type 0) (Rule : List ℕ → Type 0) (head t
   rows-apart [] (q ∷ qs) f g h k e = absurd (some-row b q (ruledMore (λ q. map text (b q)) (rr ∷ []) qs) (k .0) cc)
   rows-apart (r ∷ rs) [] f g h k e = absurd (some-row a r (ruledMore (λ q. map text (a q)) (rr ∷ []) rs) (h .0) e)
   rows-apart (r ∷ rs) (q ∷ qs) f g h k e =
-      let c = row-apart r q (f .0) (g .0) (ruledMore (λ r. map text (a r)) (rr ∷ []) rs) (ruledMore (λ q. map text (b q)) (rr ∷ []) qs) (stops a rs) (stops b qs) e in
+      let c = row-apart r q (f .0) (g .0) (ruledMore (λ r. map text (a r)) (rr ∷ []) rs) (ruledMore (λ q. map text (b q)) (rr ∷ []) qs)
+      (stops a rs) (stops b qs) e in
       let i = more-apart rs qs (f .1) (g .1) (c .1) in
       cc
 
@@ -144,8 +149,10 @@ module _ {X : Type 0} (Fits : X → Type 0) (Rule : List ℕ → Type 0) (head t
       next (q ∷ qs) e = unfold ruledMore in differ cc
 
   -- the lines between the borders tell what every row shows, and which of the rows are the header
-  pub apart : (hs is rs qs : List Row) → Fitting a hs → Fitting b is → Fitting a rs → Fitting b qs → All (λ r. 0 < length (a r)) rs → All (λ q. 0 < length (b q)) qs
-      → headed (λ r. map head (a r)) (hr ∷ []) hs ++ ruledRows (λ r. map text (a r)) (rr ∷ []) rs ≡ headed (λ q. map head (b q)) (hr ∷ []) is ++ ruledRows (λ q. map text (b q)) (rr ∷ []) qs
+  pub apart : (hs is rs qs : List Row) → Fitting a hs → Fitting b is → Fitting a rs → Fitting b qs
+      → All (λ r. 0 < length (a r)) rs → All (λ q. 0 < length (b q)) qs
+      → headed (λ r. map head (a r)) (hr ∷ []) hs ++ ruledRows (λ r. map text (a r)) (rr ∷ []) rs
+      ≡ headed (λ q. map head (b q)) (hr ∷ []) is ++ ruledRows (λ q. map text (b q)) (rr ∷ []) qs
       → (map a hs ≡ map b is) × (map a rs ≡ map b qs)
   unfolding headed
   apart [] [] rs qs fh fi fr fq h k e = (refl, rows-apart rs qs fr fq h k e)

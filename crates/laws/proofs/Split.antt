@@ -22,7 +22,8 @@ pub record Kept (w d : ℕ) (Out Line Piece : List ℕ → Type 0) : Type 0 wher
   pub joined : (l p : List ℕ) → Line l → Piece p → textWidth (glue d l p) ≤ w → Line (glue d l p)
   pub flushed : (l : List ℕ) → Line l → w - 2 < textWidth l → Out l
   pub tried : (l p : List ℕ) → Line l → w < textWidth (glue d l p) → tight w d l ≡ true → Out l
-  pub filled : (l p : List ℕ) → Line l → Piece p → tight w d l ≡ false → w < textWidth p → Out (glue d l (firstOf (room w d l) p)) × Piece (restOf (room w d l) p)
+  pub filled : (l p : List ℕ) → Line l → Piece p → tight w d l ≡ false → w < textWidth p
+      → Out (glue d l (firstOf (room w d l) p)) × Piece (restOf (room w d l) p)
   pub begun : (l p : List ℕ) → Line l → Piece p → w < textWidth (glue d l p) → textWidth p ≤ w → Out l × Line p
 
 -- then every line that is put out has its property, however many steps are made

@@ -103,7 +103,8 @@ pub width-first : (n : ℕ) (l : List ℕ) → textWidth (firstOf n l) ≡ min n
 width-first n [] = rw first-nil (omega (arith, width-nil))
 width-first n (b ∷ l) = go n (isSecond b) refl (λ m. width-first m l)
   where
-    go : (n : ℕ) (x : Bool) → isSecond b ≡ x → ((m : ℕ) → textWidth (firstOf m l) ≡ min m (textWidth l)) → textWidth (firstOf n (b ∷ l)) ≡ min n (textWidth (b ∷ l))
+    go : (n : ℕ) (x : Bool) → isSecond b ≡ x → ((m : ℕ) → textWidth (firstOf m l) ≡ min m (textWidth l))
+        → textWidth (firstOf n (b ∷ l)) ≡ min n (textWidth (b ∷ l))
     go n true e ih = rw (first-second n b l e) (omega (arith, width-second b (firstOf n l) e, width-second b l e, ih n))
     go zero false e ih = rw (first-zero b l e) (omega (arith, width-nil))
     go (suc n) false e ih = rw (first-suc n b l e) (omega (arith, width-cons b (firstOf n l) e, width-cons b l e, ih n))

@@ -11,7 +11,8 @@ use borrow.Author.Tests.{ne-eqb}
 use Rattle.rules.specs.Text.{keep, isSecond, charactersIn, textWidth, firstOf, restOf, All}
 use Rattle.rules.specs.Limits.{Printable, IsText, nothing, plain, degree, Plain}
 use Rattle.rules.specs.Wrap.{onto, pieces, glue}
-use Rattle.laws.proofs.Text.{width-nil, width-cons, width-second, first-nil, first-second, first-zero, first-suc, rest-nil, rest-second, rest-zero, rest-suc}
+use Rattle.laws.proofs.Text.{width-nil, width-cons, width-second}
+use Rattle.laws.proofs.Text.{first-nil, first-second, first-zero, first-suc, rest-nil, rest-second, rest-zero, rest-suc}
 
 -- a printable byte is a character, and no part of a pair
 pub printable-first : (b : ℕ) → Printable b → isSecond b ≡ false
