@@ -83,10 +83,15 @@ module _ (q : ℕ → Bool) (t : Table) (ws : List ℕ) (r : Row) (j : ℕ) (som
           let m : cellAt r j ≡ noCell = List·getD-eq-default (r .cells) noCell (ltb-false j (length (r .cells)) e) in
           rw m (ap (λ l. keep (λ ch. not (q ch)) (flat l)) (missing-lines (getD ws j 0) (delimiterOf t (columnAt t j) noCell)))
 
+-- the delimiter of the cell at a place is left out, where there is a cell
+abbrev pub Without : (ℕ → Bool) → Table → ℕ → ℕ → Type 0
+Without q t i c =
+    ltb (columnOf t c) (length (rowAt t i .cells)) ≡ true → q (delimiterOf t (columnAt t (columnOf t c)) (cellAt (rowAt t i) (columnOf t c))) ≡ true
+
 -- the bytes of a place
 place-text : (q : ℕ → Bool) → q 32 ≡ true → (t : Table) (i c : ℕ) → c < length (visible t)
-    → (ltb (columnOf t c) (length (rowAt t i .cells)) ≡ true → q (delimiterOf t (columnAt t (columnOf t c)) (cellAt (rowAt t i) (columnOf t c))) ≡ true)
-    → Uncut t i c → keep (λ ch. not (q ch)) (flat (map (λ k. areaOf t i k c) (upFrom 0 (linesOf t i))))
+    → Without q t i c → Uncut t i c
+    → keep (λ ch. not (q ch)) (flat (map (λ k. areaOf t i k c) (upFrom 0 (linesOf t i))))
     ≡ keep (λ ch. not (q ch)) (flat (cellAt (rowAt t i) (columnOf t c) .lines))
 unfolding areaAt height
 place-text q space t i c h d o =
@@ -114,8 +119,8 @@ characters-left p l m e =
 
 -- and its characters
 pub place-characters : (q : ℕ → Bool) → q 32 ≡ true → (t : Table) (i c : ℕ) → c < length (visible t)
-    → (ltb (columnOf t c) (length (rowAt t i .cells)) ≡ true → q (delimiterOf t (columnAt t (columnOf t c)) (cellAt (rowAt t i) (columnOf t c))) ≡ true)
-    → Uncut t i c → keep (λ ch. not (q ch)) (flat (map (λ k. charactersIn (areaOf t i k c)) (upFrom 0 (linesOf t i))))
+    → Without q t i c → Uncut t i c
+    → keep (λ ch. not (q ch)) (flat (map (λ k. charactersIn (areaOf t i k c)) (upFrom 0 (linesOf t i))))
     ≡ keep (λ ch. not (q ch)) (characters t i c)
 place-characters q space t i c h d o =
     let p : ℕ → Bool = λ ch. not (q ch) in

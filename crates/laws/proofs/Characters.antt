@@ -76,7 +76,7 @@ module _ (S : List ℕ) (chars : All Optional S) where
       go true = (printable-ruled always k vs, tt)
       go false = tt
 
-  -- a text line, of printable areas
+  -- a text line, of areas that are text
   pub printable-textLine : (k : ℕ) (ps : List (List ℕ)) → All IsText ps → IsText (textLine S k ps)
   unfolding textLine
   printable-textLine k ps h = search (text-lineOf, printable-edge)
@@ -100,11 +100,11 @@ printable-cutLine w i l h k = text-append (text-first (w - textWidth (shownIndic
     go false = nothing
 
 -- what a cell, missing or not, has
-abbrev Plain : Cell → Type 0
-Plain x = Optional (x .delimiter) × All IsText (x .lines)
+abbrev Legible : Cell → Type 0
+Legible x = Optional (x .delimiter) × All IsText (x .lines)
 
-plain-cell : (x : Cell) → CellLimits x → Plain x
-plain-cell x h = (h .delimiter, all-imp LineLimits IsText (λ l k. k .characters) (x .lines) (h .texts))
+legible-cell : (x : Cell) → CellLimits x → Legible x
+legible-cell x h = (h .delimiter, all-imp LineLimits IsText (λ l k. k .characters) (x .lines) (h .texts))
 
 -- and every cell of some rows
 pub rows-cells : (rs : List Row) (n : ℕ) → All (RowLimits n) rs → All (λ r. All CellLimits (r .cells)) rs
@@ -112,8 +112,8 @@ rows-cells rs n h = all-imp (RowLimits n) (λ r. All CellLimits (r .cells)) (λ 
 
 module _ (t : Table) (T : TableLimits t) (ws : List ℕ) where
   module _ (r : Row) (R : All CellLimits (r .cells)) where
-    plain-at : (j : ℕ) → Plain (cellAt r j)
-    plain-at j = all-default Plain (r .cells) j noCell (inl refl, (nothing, tt)) (all-imp CellLimits Plain plain-cell (r .cells) R)
+    legible-at : (j : ℕ) → Legible (cellAt r j)
+    legible-at j = all-default Legible (r .cells) j noCell (inl refl, (nothing, tt)) (all-imp CellLimits Legible legible-cell (r .cells) R)
 
     -- the delimiter chosen, the cell's lines, its areas
     pub printable-delimiter : (j : ℕ) → Printable (delimiterOf t (columnAt t j) (cellAt r j))
@@ -121,7 +121,7 @@ module _ (t : Table) (T : TableLimits t) (ws : List ℕ) where
         let space : Printable 32 = omega arith in
         let c = all-default (λ c. Optional (c .delimiter)) (t .columns) j noColumn (inl refl)
         (all-imp ColumnLimits (λ c. Optional (c .delimiter)) (λ c k. k .delimiter) (t .columns) (T .each-column)) in
-        printable-orElse (cellAt r j .delimiter) _ (plain-at j .0) (printable-orElse (columnAt t j .delimiter) _ c
+        printable-orElse (cellAt r j .delimiter) _ (legible-at j .0) (printable-orElse (columnAt t j .delimiter) _ c
         (printable-orElse (t .delimiter) 32 (T .delimiter) space))
 
     pub printable-cell : (j : ℕ) → All IsText (cellLines t ws r j)
@@ -129,7 +129,7 @@ module _ (t : Table) (T : TableLimits t) (ws : List ℕ) where
     printable-cell j =
         all-cut IsText (getD ws j 0) (t .indicator) (r .limit) (wrapped t ws r j) nothing
         (λ l k. printable-cutLine (getD ws j 0) (t .indicator) l (T .indicator-characters) k)
-        (text-wrapLines (delimiterOf t (columnAt t j) (cellAt r j)) (printable-delimiter j) (getD ws j 0) (cellAt r j .lines) (plain-at j .1))
+        (text-wrapLines (delimiterOf t (columnAt t j) (cellAt r j)) (printable-delimiter j) (getD ws j 0) (cellAt r j .lines) (legible-at j .1))
 
     pub printable-areaAt : (k j : ℕ) → IsText (areaAt t ws r k j)
     unfolding areaAt

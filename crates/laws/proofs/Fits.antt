@@ -73,7 +73,7 @@ width-areaAt t ws r k j =
     width-area (columnAt t j) (getD ws j 0) (alignmentOf (columnAt t j) (cellAt r j)) (getD (cellLines t ws r j) k [])
     (short-shown t ws r k j)
 
--- and a byte for each, and one for each pair
+-- and a byte for each of them and for each pair of its text
 pub length-areaAt : (t : Table) (ws : List ℕ) (r : Row) (k j : ℕ)
     → length (areaAt t ws r k j) + textWidth (getD (cellLines t ws r j) k []) ≡ visibleWidth t ws j + length (getD (cellLines t ws r j) k [])
 unfolding areaAt

@@ -39,7 +39,8 @@ unbroken t T = all-imp IsText (All (λ c. c ≢ 10)) (λ l h. text-unbroken h) (
 row-cells : (t : Table) → TableLimits t → (i : ℕ) → All CellLimits (rowAt t i .cells)
 row-cells t T i =
     all-default (λ r. All CellLimits (r .cells)) (allRows t) i noRow tt
-    (all-append (λ r. All CellLimits (r .cells)) (t .header) (t .rows) (rows-cells (t .header) _ (T .header-row)) (rows-cells (t .rows) _ (T .each-row)))
+    (all-append (λ r. All CellLimits (r .cells)) (t .header) (t .rows) (rows-cells (t .header) _ (T .header-row))
+    (rows-cells (t .rows) _ (T .each-row)))
 
 -- rows with a line
 lined : (t : Table) → ((i : ℕ) → i < length (allRows t) → 0 < linesOf t i) → All (λ r. 0 < length (shownIn t r)) (t .rows)
@@ -64,7 +65,8 @@ module _ (t u : Table) (one : t .style ≡ u .style) where
     t-fits rs h = rows-fit t T (contents t) rs (rows-cells rs _ h)
 
     -- the second table's areas, at the first one's widths
-    u-fits : widthsOf t ≡ widthsOf u → (rs : List Row) → All (RowLimits (length (u .columns))) rs → All (λ r. All (Fits (widthsOf t)) (shownIn u r)) rs
+    u-fits : widthsOf t ≡ widthsOf u → (rs : List Row) → All (RowLimits (length (u .columns))) rs
+        → All (λ r. All (Fits (widthsOf t)) (shownIn u r)) rs
     u-fits w rs h = rw w (rows-fit u U (contents u) rs (rows-cells rs _ h))
 
     -- in a readable style, tables with one page show the same
@@ -80,8 +82,8 @@ module _ (t u : Table) (one : t .style ≡ u .style) where
         (omega (arith, length-widths u (contents u))) m in
         let n = m ∙ ap (λ vs. drawn S vs (shownIn u) (u .header) (u .rows)) (sym w) in
         let s = drawn-shown S (shownIn t) (shownIn u) (t .header) (u .header) (t .rows) (u .rows) R (widthsOf t) some (widths-some t)
-        (t-fits (t .header) (T .header-row)) (u-fits w (u .header) (U .header-row)) (t-fits (t .rows) (T .each-row)) (u-fits w (u .rows) (U .each-row))
-        (lined t t-lines) (lined u u-lines) n in
+        (t-fits (t .header) (T .header-row)) (u-fits w (u .header) (U .header-row))
+        (t-fits (t .rows) (T .each-row)) (u-fits w (u .rows) (U .each-row)) (lined t t-lines) (lined u u-lines) n in
         record { widths = w; header = s .0; rows = s .1 }
 
     -- the characters of an area tell its bytes

@@ -20,12 +20,12 @@ before-le a n = go (eqb a 2) (eqb a 3)
     go false true = omega arith
     go false false = omega arith
 
--- a line of a cell area takes the content width and both paddings, in columns
+-- a cell area takes the content width and both paddings, in columns
 pub width-area : (c : Column) (w a : ℕ) (l : List ℕ) → textWidth l ≤ w → textWidth (area c w a l) ≡ w + padding c
 unfolding area
 width-area c w a l h = simp (width-append, width-blank) (omega (arith, before-le a (w - textWidth l)))
 
--- and in bytes one more for each pair
+-- and in bytes one more for each pair of its text
 pub length-area : (c : Column) (w a : ℕ) (l : List ℕ) → textWidth l ≤ w → length (area c w a l) + textWidth l ≡ w + padding c + length l
 unfolding area
 length-area c w a l h = simp (length-append, length-replicate) (omega (arith, before-le a (w - textWidth l)))

@@ -24,7 +24,7 @@ width-plain b l h = width-cons b l (printable-first b h)
 pub width-degree : (l : List ℕ) → textWidth (194 ∷ 176 ∷ l) ≡ suc (textWidth l)
 width-degree l = width-cons 194 (176 ∷ l) refl ∙ ap suc (width-second 176 l refl)
 
--- printable characters alone
+-- printable characters alone are a text, without a pair
 pub text-all : (l : List ℕ) → All Printable l → IsText l
 text-all [] h = nothing
 text-all (b ∷ l) h = plain b l (h .0) (text-all l (h .1))
