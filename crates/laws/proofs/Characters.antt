@@ -45,7 +45,7 @@ printable-glyph (suc c) (inl e) = absurd (omega arith)
 printable-glyph (suc c) (inr h) = h
 
 -- a code that stands in for another
-pub printable-orElse : (a b : ℕ) → Optional a → Printable b → Printable (orElse a b)
+printable-orElse : (a b : ℕ) → Optional a → Printable b → Printable (orElse a b)
 printable-orElse zero b h k = k
 printable-orElse (suc a) b (inl e) k = absurd (omega arith)
 printable-orElse (suc a) b (inr h) k = h

@@ -1,6 +1,7 @@
 -- How many lines and bytes the page of an accepted sheet has at most, and which columns its lines show. Assumes nothing.
 use Prim.Native.Nat.{ℕ, zero, suc, _+_, _-_, _*_, _≤_, _<_}
 use mathlib.Core.Path.{_≡_, refl}
+use mathlib.Core.Logic.{_⊎_, inl, inr}
 use mathlib.Core.List.{List, [], _∷_, _++_, map}
 use mathlib.Core.Bool.{Bool, true, false, not, cond}
 use native.Mathlib.Omega.{arith}
@@ -22,9 +23,8 @@ use Rattle.laws.proofs.Lists.{all-map, all-map-imp, all-imp, all-append
 use Rattle.laws.proofs.Bounds.{Most, greatest-le, contents-801}
 use Rattle.laws.proofs.Areas.{visible-below, visible-some, length-widths, length-areas}
 use Rattle.laws.proofs.Rows.{all-headed, all-ruledRows}
-use Rattle.laws.proofs.Text.{width-le}
 use Rattle.laws.proofs.PairCounts.{PairsUpTo, shown-100}
-use Rattle.laws.proofs.Lines.{text-width, text-bound, rule-length, border-length}
+use Rattle.laws.proofs.Lines.{rule-length, border-length, rule-width, border-width, text-width, text-bound}
 use Rattle.laws.proofs.Sizes.{length-closed}
 
 -- ---- lines of a cell
@@ -313,58 +313,61 @@ module _ (t : Table) (T : TableLimits t) where
         widths-bound,
       )
 
+  border-length-most : borderLength t (contents t) ≤ 842 * length (visible t) + 2
+  unfolding borderLength
+  border-length-most = omega (arith, oneIf-le (anyLeft (t .style)), oneIf-le (anyRight (t .style)), widths-bound)
+
   -- rules, and text lines in columns
   pub line-length-bound : lineLength t (contents t) ≤ widestLine
   line-length-bound = omega (arith, line-length-most, visible-count t, T .columns)
 
   -- borders
   pub border-length-bound : borderLength t (contents t) ≤ widestLine
-  unfolding borderLength
-  border-length-bound = omega (arith, oneIf-le (anyLeft (t .style)), oneIf-le (anyRight (t .style)), widths-bound, visible-count t, T .columns)
+  border-length-bound = omega (arith, border-length-most, visible-count t, T .columns)
 
--- a line of at most so many columns, and so many bytes
-abbrev Bounded : List ℕ → Type 0
-Bounded l = (textWidth l ≤ widestLine) × (length l ≤ longestLine)
+-- every line takes one of two numbers of columns, and shows at most 100 pairs in each visible column
+abbrev Drawn : Table → List ℕ → Type 0
+Drawn t l =
+    ((textWidth l ≡ lineLength t (contents t)) ⊎ (textWidth l ≡ borderLength t (contents t))) × (length l ≤ textWidth l + 100 * length (visible t))
 
 module _ (t : Table) (T : TableLimits t) where
-  shown-bounded : (always : Bool) (k : ℕ) → All Bounded (shown (t .style) always k (widthsOf t))
+  shown-drawn : (always : Bool) (k : ℕ) → All (Drawn t) (shown (t .style) always k (widthsOf t))
   unfolding shown
-  shown-bounded always k = go always (isVisible (t .style) k)
+  shown-drawn always k = go always (isVisible (t .style) k)
     where
-      bounded : (l : List ℕ) → length l ≤ widestLine → Bounded l
-      bounded l h = (omega (arith, width-le l), omega arith)
-
-      go : (a b : Bool) → All Bounded (elim b as (λ x. List (List ℕ)) [ true ↦ ruled (t .style) a k (widthsOf t) ∷ [] | false ↦ [] ])
-      go true true = (bounded (ruled (t .style) true k (widthsOf t)) (omega (arith, border-length t (contents t) k, border-length-bound t T)), tt)
-      go false true = (bounded (ruled (t .style) false k (widthsOf t)) (omega (arith, rule-length t (contents t) k, line-length-bound t T)), tt)
+      go : (a b : Bool) → All (Drawn t) (elim b as (λ x. List (List ℕ)) [ true ↦ ruled (t .style) a k (widthsOf t) ∷ [] | false ↦ [] ])
+      go true true =
+          let e = border-width t (T .style-characters) (contents t) k in
+          ((inr e, omega (arith, e, border-length t (contents t) k)), tt)
+      go false true =
+          let e = rule-width t (T .style-characters) (contents t) k in
+          ((inl e, omega (arith, e, rule-length t (contents t) k)), tt)
       go a false = tt
 
-  -- in a text line, each column shows at most 100 pairs
-  text-bounded : (r : Row) → All CellLimits (r .cells) → (k i : ℕ) → Bounded (textLine (t .style) k (map (areaAt t (contents t) r i) (visible t)))
-  text-bounded r R k i =
+  text-drawn : (r : Row) → All CellLimits (r .cells) → (k i : ℕ) → Drawn t (textLine (t .style) k (map (areaAt t (contents t) r i) (visible t)))
+  text-drawn r R k i =
+      let e = text-width t (T .style-characters) (contents t) r k i in
       let few = all-imp (λ j. 1 ≤ getD (contents t) j 0) (λ j. PairsUpTo 100 (getD (cellLines t (contents t) r j) i []))
-      (λ j some. shown-100 t T (contents t) r R i j some) (visible t) (visible-some t) in (
-        omega (arith, text-width t (T .style-characters) (contents t) r k i, line-length-bound t T),
-        omega (arith, text-bound t (contents t) r k i 100 few, line-length-most t T, visible-count t, T .columns),
-      )
+      (λ j some. shown-100 t T (contents t) r R i j some) (visible t) (visible-some t) in
+      (inl e, omega (arith, e, text-bound t (contents t) r k i 100 few))
 
-  texts-bounded : (k n : ℕ) (rs : List Row) → All (RowLimits n) rs → All (λ r. All Bounded (rowText t (contents t) k r)) rs
+  texts-drawn : (k n : ℕ) (rs : List Row) → All (RowLimits n) rs → All (λ r. All (Drawn t) (rowText t (contents t) k r)) rs
   unfolding rowText areas
-  texts-bounded k n [] h = tt
-  texts-bounded k n (r ∷ rs) h = (
-    all-map-imp (λ x. Bounded (textLine (t .style) k x)) Bounded (textLine (t .style) k) (λ x h. h) (areas t (contents t) r)
-        (all-map (λ x. Bounded (textLine (t .style) k x)) (λ i. map (areaAt t (contents t) r i) (visible t)) (text-bounded r (h .0 .each) k)
+  texts-drawn k n [] h = tt
+  texts-drawn k n (r ∷ rs) h = (
+    all-map-imp (λ x. Drawn t (textLine (t .style) k x)) (Drawn t) (textLine (t .style) k) (λ x h. h) (areas t (contents t) r)
+        (all-map (λ x. Drawn t (textLine (t .style) k x)) (λ i. map (areaAt t (contents t) r i) (visible t)) (text-drawn r (h .0 .each) k)
         (upFrom 0 (height t (contents t) r))),
-    texts-bounded k n rs (h .1),
+    texts-drawn k n rs (h .1),
   )
 
-  -- every line over some of the rows
-  framed-bounded : (rs : List Row) → All (RowLimits (length (t .columns))) rs → All Bounded (framed t (contents t) rs)
+  -- over some of the rows
+  pub framed-line-lengths : (rs : List Row) → All (RowLimits (length (t .columns))) rs → All (Drawn t) (framed t (contents t) rs)
   unfolding framed
-  framed-bounded rs h =
-      let head = texts-bounded headerLines (length (t .columns)) (t .header) (T .header-row) in
-      let rest = texts-bounded contentLines (length (t .columns)) rs h in
-      search (all-append, all-headed, all-ruledRows, shown-bounded, head, rest)
+  framed-line-lengths rs h =
+      let head = texts-drawn headerLines (length (t .columns)) (t .header) (T .header-row) in
+      let rest = texts-drawn contentLines (length (t .columns)) rs h in
+      search (all-append, all-headed, all-ruledRows, shown-drawn, head, rest)
 
 bytes-longest : (ls : List (List ℕ)) → All (λ l. length l ≤ longestLine) ls → sum (map (λ l. length l + 1) ls) ≤ (longestLine + 1) * length ls
 unfolding sum
@@ -374,7 +377,11 @@ bytes-longest (l ∷ ls) h = omega (arith, bytes-longest ls (h .1), h .0)
 module _ (t : Table) (T : TableLimits t) where
   -- no line has more bytes, over some of the rows
   pub framed-line-bound : (rs : List Row) → All (RowLimits (length (t .columns))) rs → All (λ l. length l ≤ longestLine) (framed t (contents t) rs)
-  framed-line-bound rs h = all-imp Bounded (λ l. length l ≤ longestLine) (λ l b. b .1) (framed t (contents t) rs) (framed-bounded t T rs h)
+  framed-line-bound rs h = all-imp (Drawn t) (λ l. length l ≤ longestLine) go (framed t (contents t) rs) (framed-line-lengths t T rs h)
+    where
+      go : (l : List ℕ) → Drawn t l → length l ≤ longestLine
+      go l (inl e, f) = omega (arith, line-length-most t T, visible-count t, T .columns)
+      go l (inr e, f) = omega (arith, border-length-most t T, visible-count t, T .columns)
 
   -- the bytes of lines over some of the rows
   pub framed-byte-bound : (rs : List Row) → length rs ≤ 100 → All (RowLimits (length (t .columns))) rs → length (closed (framed t (contents t) rs)) ≤

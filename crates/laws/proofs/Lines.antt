@@ -1,6 +1,6 @@
 -- How long lines are: rules have one length, borders another; a text line has a rule's columns, and a byte more for each pair. Assumes nothing.
 use Prim.Native.Nat.{ℕ, _+_, _-_, _*_, _≤_}
-use mathlib.Core.Path.{_≡_, refl, _∙_}
+use mathlib.Core.Path.{_≡_, refl, sym, _∙_}
 use mathlib.Core.List.{List, [], _∷_, _++_, map}
 use mathlib.Core.Bool.{Bool, true, false, _||_, cond}
 use mathlib.Core.Logic.{inl}
@@ -8,14 +8,14 @@ use native.Mathlib.Omega.{arith}
 use lib.ListN.{length, getD, replicate, length-append, length-replicate, length-map}
 use Rattle.rules.specs.Text.{textWidth, sum, oneIf, All}
 use Rattle.rules.specs.Sheet.{Row, Table}
-use Rattle.rules.specs.Limits.{Optional, Plain, PlainRow, CellLimits, TableLimits}
+use Rattle.rules.specs.Limits.{Printable, Optional, Plain, PlainRow, CellLimits, TableLimits}
 use Rattle.rules.specs.Style.{glyphAt, glyph, anyLeft, anyRight, anyJunction, bordersOf}
 use Rattle.rules.specs.Widths.{visible, borders, contents}
 use Rattle.rules.specs.Page.{edge, joinedMore, joined, lineOf, ruled, textLine, cellLines, areaAt}
 use Rattle.rules.specs.Page.{visibleWidth, visibleWidths, lineLength, borderLength}
-use Rattle.laws.proofs.Lists.{all-default, all-imp}
+use Rattle.laws.proofs.Lists.{all-default, all-imp, all-replicate}
 use Rattle.laws.proofs.Text.{width-nil, width-append, width-le}
-use Rattle.laws.proofs.Texts.{width-plain}
+use Rattle.laws.proofs.Texts.{plain-all}
 use Rattle.laws.proofs.Fits.{width-areaAt, length-areaAt, area-widths}
 use Rattle.laws.proofs.PairCounts.{PairsUpTo, plain-shown}
 use Rattle.laws.proofs.Characters.{printable-glyph}
@@ -47,30 +47,42 @@ module _ (m : List ℕ → ℕ) (none : m [] ≡ 0) (add : (l k : List ℕ) → 
   unfolding lineOf
   measured-line a b d l c r e f g ps = simp add (omega (arith, e, g, measured-joined b c f ps))
 
+  -- drawn with characters that count one each
+  module _ (S : List ℕ) (edges : (b : Bool) (n : ℕ) → m (edge b (glyphAt S n)) ≡ oneIf b)
+      (fills : (v n : ℕ) → m (replicate v (glyph (glyphAt S n))) ≡ v) where
+    -- the parts of a border or rule have the widths
+    measured-fills : (n : ℕ) (vs : List ℕ) → map m (map (λ v. replicate v (glyph (glyphAt S n))) vs) ≡ vs
+    measured-fills n [] = refl
+    measured-fills n (v ∷ vs) = let e = fills v n in let i = measured-fills n vs in cc
+
+    measured-ruled : (always : Bool) (k : ℕ) (vs : List ℕ)
+        → m (ruled S always k vs) ≡ oneIf (anyLeft S) + oneIf (anyRight S) + cond (always || anyJunction S) (length vs - 1) 0 + sum vs
+    unfolding ruled
+    measured-ruled always k vs =
+        measured-line (anyLeft S) (always || anyJunction S) (anyRight S) (glyphAt S k) (glyphAt S (k + 2)) (glyphAt S (k + 3))
+        (edges (anyLeft S) k) (edges (always || anyJunction S) (k + 2)) (edges (anyRight S) (k + 3))
+        (map (λ v. replicate v (glyph (glyphAt S (k + 1)))) vs)
+        ∙ rw (measured-fills (k + 1) vs, length-map)
+
+    measured-text : (k : ℕ) (ps : List (List ℕ)) → m (textLine S k ps) ≡ bordersOf S (length ps) + sum (map m ps)
+    unfolding textLine bordersOf
+    measured-text k ps =
+        measured-line (anyLeft S) (anyJunction S) (anyRight S) (glyphAt S k) (glyphAt S (k + 1)) (glyphAt S (k + 2))
+        (edges (anyLeft S) k) (edges (anyJunction S) (k + 1)) (edges (anyRight S) (k + 2)) ps
+
+-- bytes
 length-edge : (b : Bool) (c : ℕ) → length (edge b c) ≡ oneIf b
 length-edge true c = refl
 length-edge false c = refl
 
-width-edge : (b : Bool) (c : ℕ) → Optional c → textWidth (edge b c) ≡ oneIf b
-width-edge true c h = width-plain (glyph c) [] (printable-glyph c h) ∙ omega (arith, width-nil)
-width-edge false c h = width-nil
-
-length-lineOf : (a b d : Bool) (l c r : ℕ) (ps : List (List ℕ))
-    → length (lineOf (edge a l) (edge b c) (edge d r) ps) ≡ oneIf a + oneIf d + cond b (length ps - 1) 0 + sum (map length ps)
-length-lineOf a b d l c r ps = measured-line length refl length-append a b d l c r (length-edge a l) (length-edge b c) (length-edge d r) ps
-
--- the parts of a border or rule have the widths
-fill-lengths : (c : ℕ) (vs : List ℕ) → map length (map (λ v. replicate v c) vs) ≡ vs
-fill-lengths c [] = refl
-fill-lengths c (v ∷ vs) = let e = length-replicate v c in let i = fill-lengths c vs in cc
-
 length-ruled : (S : List ℕ) (always : Bool) (k : ℕ) (vs : List ℕ)
     → length (ruled S always k vs) ≡ oneIf (anyLeft S) + oneIf (anyRight S) + cond (always || anyJunction S) (length vs - 1) 0 + sum vs
-unfolding ruled
-length-ruled S always k vs =
-    length-lineOf (anyLeft S) (always || anyJunction S) (anyRight S) (glyphAt S k) (glyphAt S (k + 2)) (glyphAt S (k + 3))
-    (map (λ v. replicate v (glyph (glyphAt S (k + 1)))) vs)
-    ∙ rw (fill-lengths (glyph (glyphAt S (k + 1))) vs, length-map)
+length-ruled S =
+    measured-ruled length refl length-append S (λ b n. length-edge b (glyphAt S n)) (λ v n. length-replicate v (glyph (glyphAt S n)))
+
+length-textLine : (S : List ℕ) (k : ℕ) (ps : List (List ℕ)) → length (textLine S k ps) ≡ bordersOf S (length ps) + sum (map length ps)
+length-textLine S =
+    measured-text length refl length-append S (λ b n. length-edge b (glyphAt S n)) (λ v n. length-replicate v (glyph (glyphAt S n)))
 
 -- a rule
 pub rule-length : (t : Table) (ws : List ℕ) (k : ℕ) → length (ruled (t .style) false k (visibleWidths t ws)) ≡ lineLength t ws
@@ -82,27 +94,45 @@ pub border-length : (t : Table) (ws : List ℕ) (k : ℕ) → length (ruled (t .
 unfolding borderLength visibleWidths
 border-length t ws k = length-ruled (t .style) true k (visibleWidths t ws) ∙ rw length-map
 
--- a text line of a row, in columns
-pub text-width : (t : Table) → All Optional (t .style) → (ws : List ℕ) (r : Row) (i k : ℕ)
-    → textWidth (textLine (t .style) i (map (areaAt t ws r k) (visible t))) ≡ lineLength t ws
-unfolding textLine lineLength borders visibleWidths bordersOf
-text-width t O ws r i k =
-    let S = t .style in
-    let at : (n : ℕ) → Optional (glyphAt S n) = λ n. all-default Optional S n 0 (inl refl) O in
-    measured-line textWidth width-nil width-append (anyLeft S) (anyJunction S) (anyRight S) (glyphAt S i) (glyphAt S (i + 1)) (glyphAt S (i + 2))
-    (width-edge (anyLeft S) (glyphAt S i) (at i)) (width-edge (anyJunction S) (glyphAt S (i + 1)) (at (i + 1)))
-    (width-edge (anyRight S) (glyphAt S (i + 2)) (at (i + 2))) (map (areaAt t ws r k) (visible t))
-    ∙ rw (area-widths t ws r k (visible t), length-map)
+-- columns, where the style's characters are unset or printable
+module _ (t : Table) (optional : All Optional (t .style)) (ws : List ℕ) where
+  glyphs : (n : ℕ) → Printable (glyph (glyphAt (t .style) n))
+  glyphs n = printable-glyph (glyphAt (t .style) n) (all-default Optional (t .style) n 0 (inl refl) optional)
+
+  width-edge : (b : Bool) (n : ℕ) → textWidth (edge b (glyphAt (t .style) n)) ≡ oneIf b
+  width-edge true n = plain-all (glyph (glyphAt (t .style) n) ∷ []) (glyphs n, tt)
+  width-edge false n = width-nil
+
+  width-fill : (v n : ℕ) → textWidth (replicate v (glyph (glyphAt (t .style) n))) ≡ v
+  width-fill v n =
+      let fill = glyph (glyphAt (t .style) n) in
+      plain-all (replicate v fill) (all-replicate Printable fill v (glyphs n)) ∙ length-replicate v fill
+
+  width-ruled : (always : Bool) (k : ℕ) (vs : List ℕ) → textWidth (ruled (t .style) always k vs) ≡ length (ruled (t .style) always k vs)
+  width-ruled always k vs =
+      measured-ruled textWidth width-nil width-append (t .style) width-edge width-fill always k vs ∙ sym (length-ruled (t .style) always k vs)
+
+  -- a rule
+  pub rule-width : (k : ℕ) → textWidth (ruled (t .style) false k (visibleWidths t ws)) ≡ lineLength t ws
+  rule-width k = width-ruled false k (visibleWidths t ws) ∙ rule-length t ws k
+
+  -- a border
+  pub border-width : (k : ℕ) → textWidth (ruled (t .style) true k (visibleWidths t ws)) ≡ borderLength t ws
+  border-width k = width-ruled true k (visibleWidths t ws) ∙ border-length t ws k
+
+  -- a text line of a row
+  pub text-width : (r : Row) (i k : ℕ) → textWidth (textLine (t .style) i (map (areaAt t ws r k) (visible t))) ≡ lineLength t ws
+  unfolding lineLength borders visibleWidths
+  text-width r i k =
+      measured-text textWidth width-nil width-append (t .style) width-edge width-fill i (map (areaAt t ws r k) (visible t))
+      ∙ rw (area-widths t ws r k (visible t), length-map)
 
 module _ (t : Table) (ws : List ℕ) (r : Row) (i k : ℕ) where
-  -- the same in bytes: the borders drawn, and its areas
+  -- its bytes: the borders drawn, and those of its areas
   pub text-bytes : length (textLine (t .style) i (map (areaAt t ws r k) (visible t)))
       ≡ borders t + sum (map length (map (areaAt t ws r k) (visible t)))
-  unfolding textLine borders bordersOf
-  text-bytes =
-      let S = t .style in
-      length-lineOf (anyLeft S) (anyJunction S) (anyRight S) (glyphAt S i) (glyphAt S (i + 1)) (glyphAt S (i + 2)) (map (areaAt t ws r k) (visible t))
-      ∙ rw length-map
+  unfolding borders
+  text-bytes = length-textLine (t .style) i (map (areaAt t ws r k) (visible t)) ∙ rw length-map
 
   -- an area has a byte for each column, and one for each pair
   area-bytes : (n : ℕ) (js : List ℕ) → All (λ j. PairsUpTo n (getD (cellLines t ws r j) k [])) js
