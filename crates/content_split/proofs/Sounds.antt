@@ -1,8 +1,8 @@
 -- Where characters begin: a text is sound with a printable delimiter, and so is what follows a part of it. Assumes nothing.
-use Prim.Native.Nat.{ℕ, suc, _+_, _-_, _≤_}
+use Prim.Native.Nat.{ℕ, suc, _+_, _-_}
 use mathlib.Core.Path.{_≡_, refl, sym, ap, _∙_}
 use mathlib.Core.List.{List, []}
-use mathlib.Core.Bool.{Bool, false}
+use mathlib.Core.Bool.{false}
 use native.Mathlib.Omega.{arith}
 use lib.ListN.{drop, getD}
 use lib.Seq.{getD-drop}

@@ -1,10 +1,10 @@
 -- The next wrapped line of a text, by positions. Assumes nothing.
-use Prim.Native.Nat.{ℕ, _-_, _≤_, _<_, max}
+use Prim.Native.Nat.{ℕ, _-_, _≤_, _<_}
 use mathlib.Core.Path.{_≡_}
 use mathlib.Core.List.{List, [], _∷_}
 use lib.ListN.{length, drop, getD}
 use lib.Seq.{slice}
-use mathlib.Core.Bool.{Bool, true, false}
+use mathlib.Core.Bool.{false}
 use Rattle.rules.specs.Text.{isSecond, textWidth}
 use Rattle.rules.specs.Wrap.{split}
 use Rattle.content_split.specs.declared.Part.{Part}

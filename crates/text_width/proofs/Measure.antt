@@ -7,8 +7,8 @@ use mathlib.Core.Bool.{Bool, true, false}
 use native.Mathlib.Omega.{arith}
 use native.Mathlib.Numerals.{add-one}
 use borrow.Author.Tests.{eq-eqb, ne-eqb}
-use lib.ListN.{length, take, drop, getD, take-append-drop, List·getD-eq-default}
-use lib.Seq.{slice, slice-empty, slice-cons, take-length, take-take, take-suc, drop-drop, getD-drop, drop-append-le, length-take-le, length-slice, take-append-seam, drop-append-seam}
+use lib.ListN.{length, take, getD, take-append-drop, List·getD-eq-default}
+use lib.Seq.{slice, slice-empty, slice-cons, take-length, take-take, take-suc, drop-append-le, length-take-le, length-slice, take-append-seam, drop-append-seam}
 use Rattle.rules.specs.Text.{isSecond, textWidth, bytesOf, firstOf, restOf}
 use Rattle.rules.specs.Limits.{Plain}
 use Rattle.laws.proofs.Text.{width-append, width-nil, width-cons, width-second, width-le, bytes-append, bytes-all, plain-take}
@@ -140,13 +140,18 @@ walked-there T {e = e} f q h o l =
 pub walked-out : (T : List ℕ) {from w e left : ℕ} → from ≤ e → e ≤ length T → col T e + left ≡ col T from + w → length T ≤ e → Reached T from w e left
 walked-out T {e = e} f i q h = record { from = f; within = i; columns = q; whole = end-whole T e h; end = λ k. omega arith }
 
--- columns counted up to a place, and the others reached from there on
-pub counted-few : (T : List ℕ) (from w n : ℕ) → from + w ≤ length T → n ≡ textWidth (slice from (from + w) T) → n ≤ w
-counted-few T from w n k e = omega (arith, col-slice T from (from + w) (omega arith), col-bytes T from (from + w) (omega arith) k)
+-- a part has no more columns than bytes, and is counted part by part
+pub counted-few : (T : List ℕ) (from to n : ℕ) → to ≤ length T → n ≡ textWidth (slice from to T) → n ≤ to - from
+counted-few T from to n k e = omega (arith, width-le (slice from to T), length-slice from to T k)
 
-pub reached-from : (T : List ℕ) (from w n : ℕ) {z left : ℕ} → from + w ≤ length T → n ≡ textWidth (slice from (from + w) T) → Reached T (from + w) (w - n) z left → Reached T from w z left
+pub counted-part : (T : List ℕ) (from i e n few : ℕ) → col T from + n ≡ col T i → i ≤ e → few ≡ textWidth (slice i e T) → col T from + (n + few) ≡ col T e
+counted-part T from i e n few q h o = omega (arith, col-slice T i e h)
+
+-- columns counted up to a place, and the others reached from there on
+pub reached-from : (T : List ℕ) (from w n : ℕ) {z left : ℕ} → from + w ≤ length T → n ≡ textWidth (slice from (from + w) T)
+    → Reached T (from + w) (w - n) z left → Reached T from w z left
 reached-from T from w n k e r =
-    let b = counted-few T from w n k e in
+    let b = counted-few T from (from + w) n k e in
     let c = col-slice T from (from + w) (omega arith) in
     record { from = omega (arith, r .from); within = r .within; columns = omega (arith, r .columns); whole = r .whole; end = r .end }
 

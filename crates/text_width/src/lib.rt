@@ -1,7 +1,7 @@
 // The columns of a text: comfy-table's `measure_text_width`. A character is a byte, or a pair whose second byte is B0, and takes one column.
 
 ghost use mathlib.Core.Path.{_≡_};
-ghost use Prim.Native.Nat.{_-_, _≤_};
+ghost use Prim.Native.Nat.{_-_, _≤_, _<_};
 ghost use lib.ListN.{length};
 ghost use lib.Seq.{slice};
 ghost use mathlib.Core.List.{[], _∷_};
@@ -15,13 +15,40 @@ pub struct Place {
 }
 
 // The columns of a byte: none for B0, the second byte of a pair.
-fn width_of(b: u8) -> usize
+fn width_of(b: u8) -> u8
     ensures { λ r. ⌜ (r ≡ textWidth (b ∷ [])) × (r ≤ 1) ⌝ }
 {
     if b == 176 {
         return 0;
     }
     1
+}
+
+// The columns of at most 255 bytes. A sum of one byte is what lets the compiler take sixteen bytes at a time, and so does a loop that
+// nothing ends early.
+fn count_few(text: &[u8], from: usize, to: usize) -> u8
+    requires { ⌜ (from ≤ to) × ((to ≤ length (now text)) × (to - from ≤ 255)) ⌝ }
+    ensures { λ r. ⌜ r ≡ textWidth (slice from to (now (text .entry))) ⌝ }
+{
+    let mut n: u8 = 0;
+    let mut i = from;
+    while i < to {
+        let one = width_of(text[i]);
+        n += one;
+        i += 1;
+    }
+    n
+}
+
+// The end of the next bytes to count.
+fn few_end(from: usize, to: usize) -> usize
+    requires { ⌜ from < to ⌝ }
+    ensures { λ r. ⌜ (from < r) × ((r ≤ to) × (r - from ≤ 255)) ⌝ }
+{
+    if 255 < to - from {
+        return from + 255;
+    }
+    to
 }
 
 // The columns of the bytes from `from` up to `to`, counted.
@@ -32,9 +59,10 @@ fn count(text: &[u8], from: usize, to: usize) -> usize
     let mut n: usize = 0;
     let mut i = from;
     while i < to {
-        let one = width_of(text[i]);
-        n += one;
-        i += 1;
+        let e = few_end(i, to);
+        let few = count_few(text, i, e);
+        n += few as usize;
+        i = e;
     }
     n
 }
@@ -58,7 +86,7 @@ fn walk(text: &[u8], from: usize, width: usize) -> Place
     let mut e = from;
     let mut left = width;
     while e < text.len() {
-        let one = width_of(text[e]);
+        let one = width_of(text[e]) as usize;
         if left < one {
             return Place { at: e, left };
         }

@@ -14,43 +14,19 @@ Inv-loop text from width e₀ left₀ e left = (from ≤ e) × (e ≤ length tex
 abbrev μ-loop : tie.MeasureT-loop
 μ-loop text from width e₀ left₀ e left = length text - e
 
-loop-holds : tie.Need-loop-holds Inv-loop μ-loop
-loop-holds c = (omega arith, omega arith, omega arith)
-
-shared-slice-read-width-of : tie.Need-shared-slice-read-width-of Inv-loop μ-loop
-shared-slice-read-width-of c = search needs
-
-width-of-requires : tie.Need-width-of-requires Inv-loop μ-loop
-width-of-requires c κs = search needs
-
-returns : tie.Need-returns Inv-loop μ-loop
-returns c = search (needs, walked-there)
-
-add-e : tie.Need-add-e Inv-loop μ-loop
-add-e c = search needs
-
-loop-less : tie.Need-loop-less Inv-loop μ-loop
-loop-less c = search needs
-
-loop-again : tie.Need-loop-again Inv-loop μ-loop
-loop-again c =
-    let s = c .before .before .before .before in
-    (omega arith, omega arith, walked-on _ _ _ _ _ _ (s .loop .inv .2) (omega arith) (c .before .width-of .ensures .0) (omega arith))
-
-returns-2 : tie.Need-returns-2 Inv-loop μ-loop
-returns-2 c = search (needs, walked-out)
-
 pub walk-spec : {M : Type 1} → statement M
 walk-spec =
     tie.close
     (tie.spec
     Inv-loop
     μ-loop
-    loop-holds
-    shared-slice-read-width-of
-    width-of-requires
-    returns
-    add-e
-    loop-less
-    loop-again
-    returns-2)
+    (λ c. (omega arith, omega arith, omega arith))
+    (λ c. search needs)
+    (λ c κs. search needs)
+    (λ c. search needs)
+    (λ c. search (needs, walked-there))
+    (λ c. search needs)
+    (λ c. search needs)
+    (λ c. let s = c .before .before .before .before in
+    (omega arith, omega arith, walked-on _ _ _ _ _ _ (s .loop .inv .2) (omega arith) (c .before .width-of .ensures .0) (omega arith)))
+    (λ c. search (needs, walked-out)))
