@@ -24,11 +24,13 @@ use Rattle.content_split.proofs.Steps.{Going, skipped, piece, ends, fil
 -- a line starts with a character
 pub start-first : (d : ℕ) (T : List ℕ) (a s : ℕ) → Sound d T a → Start d T a s → isSecond (getD T s 0) ≡ false
 start-first d T a zero sound b = let q : a ≡ 0 = omega (arith, b .from) in rw q at (sound .begins)
-start-first d T a (suc s) sound b = ⊎-elim (λ q. rw q at (sound .begins)) (λ q. sound .after s (omega arith) (b .skipped s (omega arith) (omega arith))) (eq-or-lt-of-le (b .from))
+start-first d T a (suc s) sound b =
+    ⊎-elim (λ q. rw q at (sound .begins)) (λ q. sound .after s (omega arith) (b .skipped s (omega arith) (omega arith))) (eq-or-lt-of-le (b .from))
 
 -- what is sound from a on is so from there on
 pub start-sound : (d : ℕ) (T : List ℕ) {a s : ℕ} → Sound d T a → Start d T a s → Sound d T s
-start-sound d T {a} {s} sound b = record { first = sound .first; begins = start-first d T a s sound b; after = λ k l e. sound .after k (omega (arith, b .from)) e }
+start-sound d T {a} {s} sound b =
+    record { first = sound .first; begins = start-first d T a s sound b; after = λ k l e. sound .after k (omega (arith, b .from)) e }
 
 -- a delimiter is one column
 delimiter-column : (d : ℕ) (T : List ℕ) {a : ℕ} → Sound d T a → (k : ℕ) → k < length T → getD T k 0 ≡ d → col T (suc k) ≡ suc (col T k)

@@ -42,7 +42,8 @@ module _ (w d : ℕ) (some : 0 < w) where
           let k = ltb-false (w - 2) (textWidth (glue d l p)) f in
           fuel.run-join w d some l p ps h k ∙ sym (settled-open w d (glue d l p) ps k)
 
-  pub run-begin : (l p : List ℕ) (ps : List (List ℕ)) → w < textWidth (glue d l p) → tight w d l ≡ false → textWidth p ≤ w → run w d l (p ∷ ps) ≡ l ∷ settled w d p ps
+  pub run-begin : (l p : List ℕ) (ps : List (List ℕ)) → w < textWidth (glue d l p) → tight w d l ≡ false → textWidth p ≤ w
+      → run w d l (p ∷ ps) ≡ l ∷ settled w d p ps
   run-begin l p ps h t k = go (ltb (w - 2) (textWidth p)) refl
     where
       go : (b : Bool) → ltb (w - 2) (textWidth p) ≡ b → run w d l (p ∷ ps) ≡ l ∷ settled w d p ps

@@ -197,7 +197,9 @@ module _ (w d : ℕ) (pos : 0 < w) (T : List ℕ) where
     tight-here = tight-some w d _ (omega (arith, long)) ∙ rw glued-none
 
     pieces-on : settled w d (slice s m T) (after d T m) ≡ run w d (slice s m T) (slice (suc m) e T ∷ after d T e)
-    pieces-on = settled-open w d (slice s m T) _ (omega (arith, col-slice T s m (omega arith))) ∙ rw (after-more d T m more, pieces-cut d T (suc m) e c)
+    pieces-on =
+        settled-open w d (slice s m T) _ (omega (arith, col-slice T s m (omega arith)))
+        ∙ rw (after-more d T m more, pieces-cut d T (suc m) e c)
 
     pub next-joins : col T e ≤ col T s + w → settled w d (slice s m T) (after d T m) ≡ settled w d (slice s e T) (after d T e)
     next-joins h =
@@ -219,7 +221,8 @@ module _ (w d : ℕ) (pos : 0 < w) (T : List ℕ) where
     loose : col T (suc m) + 2 < col T s + w → tight w d (slice s m T) ≡ false
     loose k = tight-here ∙ lt-leb (w - textWidth (slice s (suc m) T)) 2 (omega (arith, begun))
 
-    pub next-wraps : col T s + w < col T e → col T (suc m) + 2 < col T s + w → col T e ≤ col T (suc m) + w → settled w d (slice s m T) (after d T m) ≡ slice s m T ∷ from-on (suc m)
+    pub next-wraps : col T s + w < col T e → col T (suc m) + 2 < col T s + w → col T e ≤ col T (suc m) + w
+        → settled w d (slice s m T) (after d T m) ≡ slice s m T ∷ from-on (suc m)
     next-wraps h k l =
         pieces-on
         ∙ run-begin w d pos (slice s m T) (slice (suc m) e T) (after d T e) (too-long h) (loose k) (omega (arith, piece-on))

@@ -118,16 +118,19 @@ some-first b h = go (isSecond b) refl
     go false e = e
 
 -- a loop that counts columns, and one that goes on until they are reached
-pub counted-on : (T : List ℕ) (from i n one : ℕ) → col T from + n ≡ col T i → i < length T → one ≡ textWidth (getD T i 0 ∷ []) → col T from + (n + one) ≡ col T (i + 1)
+pub counted-on : (T : List ℕ) (from i n one : ℕ) → col T from + n ≡ col T i → i < length T → one ≡ textWidth (getD T i 0 ∷ [])
+    → col T from + (n + one) ≡ col T (i + 1)
 counted-on T from i n one e h o = omega (arith, col-byte T i h)
 
 pub counted-all : (T : List ℕ) (from to i n : ℕ) → from ≤ to → i ≤ to → to ≤ i → col T from + n ≡ col T i → n ≡ textWidth (slice from to T)
 counted-all T from to i n h k l e = let q : i ≡ to = omega arith in omega (arith, col-slice T from to h, ap (col T) q)
 
-pub walked-on : (T : List ℕ) (from w e left one : ℕ) → col T e + left ≡ col T from + w → e < length T → one ≡ textWidth (getD T e 0 ∷ []) → one ≤ left → col T (e + 1) + (left - one) ≡ col T from + w
+pub walked-on : (T : List ℕ) (from w e left one : ℕ) → col T e + left ≡ col T from + w → e < length T → one ≡ textWidth (getD T e 0 ∷ [])
+    → one ≤ left → col T (e + 1) + (left - one) ≡ col T from + w
 walked-on T from w e left one q h o l = omega (arith, col-byte T e h)
 
-pub walked-there : (T : List ℕ) {from w e left one : ℕ} → from ≤ e → col T e + left ≡ col T from + w → e < length T → one ≡ textWidth (getD T e 0 ∷ []) → left < one → Reached T from w e left
+pub walked-there : (T : List ℕ) {from w e left one : ℕ} → from ≤ e → col T e + left ≡ col T from + w → e < length T → one ≡ textWidth (getD T e 0 ∷ [])
+    → left < one → Reached T from w e left
 walked-there T {e = e} f q h o l =
     record {
       from = f;
@@ -144,7 +147,8 @@ walked-out T {e = e} f i q h = record { from = f; within = i; columns = q; whole
 pub counted-few : (T : List ℕ) (from to n : ℕ) → to ≤ length T → n ≡ textWidth (slice from to T) → n ≤ to - from
 counted-few T from to n k e = omega (arith, width-le (slice from to T), length-slice from to T k)
 
-pub counted-part : (T : List ℕ) (from i e n few : ℕ) → col T from + n ≡ col T i → i ≤ e → few ≡ textWidth (slice i e T) → col T from + (n + few) ≡ col T e
+pub counted-part : (T : List ℕ) (from i e n few : ℕ) → col T from + n ≡ col T i → i ≤ e → few ≡ textWidth (slice i e T)
+    → col T from + (n + few) ≡ col T e
 counted-part T from i e n few q h o = omega (arith, col-slice T i e h)
 
 -- columns counted up to a place, and the others reached from there on
@@ -172,7 +176,8 @@ plain-whole T p h = ⊎-elim (end-whole T p) (λ k. go k (isSecond (getD T p 0))
     go k true e = absurd (omega (arith, col-second T p k e, plain-col T p h (omega arith), plain-col T (suc p) h k))
     go k false e = e
 
-pub plain-columns : (b : Bool) (T : List ℕ) (from to : ℕ) → b ≡ true → from ≤ to → to ≤ length T → IsPlain b T → to - from ≡ textWidth (slice from to T)
+pub plain-columns : (b : Bool) (T : List ℕ) (from to : ℕ) → b ≡ true → from ≤ to → to ≤ length T → IsPlain b T
+    → to - from ≡ textWidth (slice from to T)
 plain-columns b T from to e h k p = omega (arith, col-slice T from to h, plain-col T from (p e) (omega arith), plain-col T to (p e) k)
 
 pub plain-reach : (b : Bool) (T : List ℕ) (from w : ℕ) → b ≡ true → from + w ≤ length T → IsPlain b T → Reached T from w (from + w) 0

@@ -14,7 +14,8 @@ use Rattle.content_split.proofs.count_parts.Tie as tie
 
 abbrev Inv-loop : tie.InvT-loop
 Inv-loop text width delimiter plain n₀ at₀ n at =
-    (n ≤ at) × (at ≤ length text) × (length (split width delimiter text) ≡ n + length (split width delimiter (drop at text))) × Sound delimiter text at × IsPlain plain text
+    (n ≤ at) × (at ≤ length text) × (length (split width delimiter text) ≡ n + length (split width delimiter (drop at text)))
+    × Sound delimiter text at × IsPlain plain text
 
 abbrev μ-loop : tie.MeasureT-loop
 μ-loop text width delimiter plain n₀ at₀ n at = length text - at
@@ -31,7 +32,8 @@ count-parts-spec =
     (λ c. search needs)
     (λ c. let l = is-line (c .before .next .given .1) (c .before .before .before .split-line .ensures) in omega arith)
     (λ c. let l = is-line (c .before .next .given .1) (c .before .before .before .split-line .ensures) in
-    (omega arith, l .within, omega (arith, ap length (l .wraps)), line-sound (c .before .before .before .before .before .loop .inv .3) l, c .before .before .before .before .before .loop .inv .4))
+    let inv = c .before .before .before .before .before .loop .inv in
+    (omega arith, l .within, omega (arith, ap length (l .wraps)), line-sound (inv .3) l, inv .4))
     (λ c. search needs)
     (λ c. let a = c .before .before .before .before .before .before .args in
     let at = c .before .before .before .before .loop .at in

@@ -15,5 +15,7 @@ long-piece-spec =
     (λ c. few-columns _ _ _ _ (c .before .before .reach .ensures) (c .if2 .taken))
     (λ c. search needs)
     (λ c κs. search needs)
-    (λ c. let p = c .before .before .before .before .before .before .reach .ensures in past-width _ _ _ _ (reached-all _ (omega arith) p) (c .before .before .piece-end .ensures) (c .if3 .taken))
-    (λ c. let p = c .before .before .before .before .before .before .reach .ensures in within-width _ _ _ _ (reached-all _ (omega arith) p) (c .before .before .piece-end .ensures) (omega arith)))
+    (λ c. let p = c .before .before .before .before .before .before .reach .ensures in
+    past-width _ _ _ _ (reached-all _ (omega arith) p) (c .before .before .piece-end .ensures) (c .if3 .taken))
+    (λ c. let p = c .before .before .before .before .before .before .reach .ensures in
+    within-width _ _ _ _ (reached-all _ (omega arith) p) (c .before .before .piece-end .ensures) (omega arith)))

@@ -16,7 +16,8 @@ use Rattle.content_split.proofs.longest_part.Tie as tie
 
 abbrev Inv-loop : tie.InvT-loop
 Inv-loop text width delimiter plain m₀ at₀ m at =
-    (at ≤ length text) × (greatest (map textWidth (split width delimiter text)) ≡ max m (greatest (map textWidth (split width delimiter (drop at text))))) × Sound delimiter text at × IsPlain plain text
+    (at ≤ length text) × (greatest (map textWidth (split width delimiter text)) ≡ max m (greatest (map textWidth (split width delimiter (drop at text)))))
+    × Sound delimiter text at × IsPlain plain text
 
 abbrev μ-loop : tie.MeasureT-loop
 μ-loop text width delimiter plain m₀ at₀ m at = length text - at
@@ -34,12 +35,17 @@ longest-part-spec =
     (λ c. let a = c .before .before .before .before .before .before .args in
     let q = is-none (a .width) (a .delimiter) (now (a .text)) _ (c .enum-told .given .1) (c .before .before .split-line .ensures) in
     omega (arith, longest-none q))
-    (λ c κs. let l = is-line (c .before .start .given .1) (c .before .before .before .split-line .ensures) in (omega (arith, l .some), (omega (arith, l .onward, l .within), c .before .before .before .before .before .loop .inv .3)))
-    (λ c. let l = is-line (c .before .before .before .start .given .1) (c .before .before .before .before .before .split-line .ensures) in omega arith)
+    (λ c κs. let l = is-line (c .before .start .given .1) (c .before .before .before .split-line .ensures) in
+    (omega (arith, l .some), (omega (arith, l .onward, l .within), c .before .before .before .before .before .loop .inv .3)))
     (λ c. let l = is-line (c .before .before .before .start .given .1) (c .before .before .before .before .before .split-line .ensures) in
-    (l .within, omega (arith, longest-on l, c .before .columns .ensures), line-sound (c .before .before .before .before .before .before .before .loop .inv .2) l, c .before .before .before .before .before .before .before .loop .inv .3))
-    (λ c. let l = is-line (c .before .before .before .start .given .1) (c .before .before .before .before .before .split-line .ensures) in omega arith)
+    omega arith)
     (λ c. let l = is-line (c .before .before .before .start .given .1) (c .before .before .before .before .before .split-line .ensures) in
-    (l .within, omega (arith, longest-on l, c .before .columns .ensures), line-sound (c .before .before .before .before .before .before .before .loop .inv .2) l, c .before .before .before .before .before .before .before .loop .inv .3))
+    let inv = c .before .before .before .before .before .before .before .loop .inv in
+    (l .within, omega (arith, longest-on l, c .before .columns .ensures), line-sound (inv .2) l, inv .3))
+    (λ c. let l = is-line (c .before .before .before .start .given .1) (c .before .before .before .before .before .split-line .ensures) in
+    omega arith)
+    (λ c. let l = is-line (c .before .before .before .start .given .1) (c .before .before .before .before .before .split-line .ensures) in
+    let inv = c .before .before .before .before .before .before .before .loop .inv in
+    (l .within, omega (arith, longest-on l, c .before .columns .ensures), line-sound (inv .2) l, inv .3))
     (λ c. let a = c .before .before .before .args in
     omega (arith, longest-none (none-at-end (a .width) (a .delimiter) (omega arith) (now (a .text)) (c .before .loop .at) (c .loop-test .left)))))

@@ -14,12 +14,16 @@ straddled-spec =
     (λ c. search needs)
     (λ c κs. search needs)
     (λ c κs. search needs)
-    (λ c. let s = c .before .before .before .before .before in
+    (λ c. let free = c .before .before .before in
+    let s = free .before .before in
     let p = s .before .before .pre in
-    ends-fill _ _ _ (p .1 .0) (p .0) (s .last-before .ensures) (c .before .before .before .before .if1 .left) (c .before .before .before .columns .ensures) (c .before .before .if2 .taken) (c .before .long-piece .ensures) (c .if3 .taken))
-    (λ c. let s = c .before .before .before .before .before in
+    ends-fill _ _ _ (p .1 .0) (p .0) (s .last-before .ensures) (free .before .if1 .left) (free .columns .ensures) (c .before .before .if2 .taken)
+    (c .before .long-piece .ensures) (c .if3 .taken))
+    (λ c. let free = c .before .before .before in
+    let s = free .before .before in
     let p = s .before .before .pre in
-    ends-wrap _ _ _ (p .1 .0) (p .0) (s .last-before .ensures) (c .before .before .before .before .if1 .left) (c .before .before .before .columns .ensures) (c .before .before .if2 .taken) (c .before .long-piece .ensures) (c .if3 .left))
+    ends-wrap _ _ _ (p .1 .0) (p .0) (s .last-before .ensures) (free .before .if1 .left) (free .columns .ensures) (c .before .before .if2 .taken)
+    (c .before .long-piece .ensures) (c .if3 .left))
     (λ c. let s = c .before .before .before in
     let p = s .before .before .pre in
     ends-tight _ _ _ (p .1 .0) (p .0) (s .last-before .ensures) (c .before .before .if1 .left) (c .before .columns .ensures) (omega arith)))

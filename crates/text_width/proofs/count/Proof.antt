@@ -24,11 +24,13 @@ count-spec =
     (λ c κs. search needs)
     (λ c κs. search needs)
     (λ c. search needs)
-    (λ c. let a = c .before .before .before .before .before .args in
-    omega (arith, counted-few (now (a .text)) (c .before .before .before .loop .i) (c .before .few-end .result) _ (omega arith) (c .count-few .ensures)))
+    (λ c. let at = c .before .before .before in
+    let t = now (at .before .before .args .text) in
+    omega (arith, counted-few t (at .loop .i) (c .before .few-end .result) _ (omega arith) (c .count-few .ensures)))
     (λ c. search needs)
-    (λ c. let a = c .before .before .before .before .before .args in
-    let i = c .before .before .before .loop .inv in
+    (λ c. let at = c .before .before .before in
+    let t = now (at .before .before .args .text) in
     let f = c .count-few .ensures in
-    (omega arith, omega arith, omega (arith, counted-few (now (a .text)) (c .before .before .before .loop .i) (c .before .few-end .result) _ (omega arith) f), counted-part _ _ _ _ _ _ (i .3) (omega arith) f))
+    let most = counted-few t (at .loop .i) (c .before .few-end .result) _ (omega arith) f in
+    (omega arith, omega arith, omega arith, counted-part _ _ _ _ _ _ (at .loop .inv .3) (omega arith) f))
     (λ c. let i = c .before .loop .inv in counted-all _ _ _ _ _ (omega arith) (i .1) (omega arith) (i .3)))

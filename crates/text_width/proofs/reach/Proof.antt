@@ -11,8 +11,11 @@ reach-spec =
     tie.close
     (tie.spec
     (λ c. search needs)
-    (λ c. let b = c .before .before in let a = b .args in plain-reach (a .plain) (now (a .text)) (a .from) (a .width) (c .if1 .taken) (omega arith) (b .pre .1 .1))
+    (λ c. let b = c .before .before in
+    let a = b .args in
+    plain-reach (a .plain) (now (a .text)) (a .from) (a .width) (c .if1 .taken) (omega arith) (b .pre .1 .1))
     (λ c κs. search needs)
-    (λ c. let a = c .before .before .before .args in omega (arith, counted-few (now (a .text)) (a .from) (a .from + a .width) _ (omega arith) (c .count .ensures)))
+    (λ c. let a = c .before .before .before .args in
+    omega (arith, counted-few (now (a .text)) (a .from) (a .from + a .width) _ (omega arith) (c .count .ensures)))
     (λ c κs. search needs)
     (λ c. reached-from _ _ _ _ (omega arith) (c .before .count .ensures) (c .walk .ensures)))

@@ -24,7 +24,8 @@ walk-spec =
     (λ c. search needs)
     (λ c κs. search needs)
     (λ c. search needs)
-    (λ c. search (needs, walked-there))
+    (λ c. let at = c .before .before .before .before in
+    walked-there _ (at .loop .inv .0) (at .loop .inv .2) (omega arith) (c .before .width-of .ensures .0) (c .if1 .taken))
     (λ c. search needs)
     (λ c. search needs)
     (λ c. let s = c .before .before .before .before in
