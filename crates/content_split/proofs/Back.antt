@@ -13,7 +13,7 @@ use lib.Dec.{ltb}
 use borrow.Author.Tests.{ltb-true, ltb-false, lt-ltb, le-ltb}
 use Rattle.rules.specs.Text.{isSecond, textWidth}
 use Rattle.text_width.specs.Measure.{col, Reach, Reached}
-use Rattle.content_split.specs.Cut.{Cut, Near, Start, Back, Straddle, Sound, Long}
+use Rattle.content_split.specs.Cut.{Cut, Near, Start, Back, AtWidth, Straddle, Sound, Long}
 use Rattle.content_split.specs.Parts.{LineIs, PartIs}
 use Rattle.content_split.specs.declared.Part.{Part}
 use Rattle.content_split.specs.declared.Part.the-variants.{Line, Nothing}
@@ -149,6 +149,14 @@ module _ (w d : ℕ) (pos : 0 < w) (T : List ℕ) where
         wraps = rw split-is (skipped w d pos T b ∙ rw split-is at (l .wraps));
       }
   from-start {a} {s} Nothing b l = split-is w d (drop a T) ∙ skipped w d pos T b ∙ rw split-is at l
+
+-- the line starts where it is looked for, and the width is reached
+pub width-reached : (w d : ℕ) → 0 < w → (T : List ℕ) {a s z : ℕ} → Start d T a s → s < length T → Reach T s w z → AtWidth w d T s z
+width-reached w d pos T b l r = record { some = pos; inside = l; reach = r; begun = b .stop l }
+
+pub starts-here : (w d : ℕ) (T : List ℕ) {s z : ℕ} → AtWidth w d T s z → Start d T s s
+starts-here w d T g =
+    record { from = omega arith; within = omega (arith, g .inside); skipped = λ k x y. absurd (omega arith); stop = λ l. g .begun }
 
 -- a piece goes on past the width, and the last delimiter before that is at r, or none is
 module _ (w d : ℕ) (T : List ℕ) {s z r : ℕ} (sound : Sound d T s) (g : Straddle w d T s z) (b : Back d T s z r) where

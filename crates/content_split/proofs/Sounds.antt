@@ -8,7 +8,7 @@ use lib.ListN.{drop, getD}
 use lib.Seq.{getD-drop}
 use Rattle.rules.specs.Text.{isSecond}
 use Rattle.rules.specs.Limits.{Printable, IsText}
-use Rattle.laws.proofs.Texts.{printable-first, text-after}
+use Rattle.laws.proofs.Texts.{printable-first, text-after, text-begins}
 use Rattle.content_split.specs.Cut.{Sound}
 
 -- a text, from a character on
@@ -18,6 +18,10 @@ sound-text d t n p h b = record {
   begins = b;
   after = λ k l e. text-after h k (omega (arith, e, p .0), omega (arith, e, p .1));
 }
+
+-- all of it
+pub sound-all : (d : ℕ) (t : List ℕ) → Printable d → IsText t → Sound d t 0
+sound-all d t p h = sound-text d t 0 p h (text-begins h)
 
 -- what is sound from n on, by itself
 pub sound-drop : (d : ℕ) (T : List ℕ) (n : ℕ) → Sound d T n → Sound d (drop n T) 0

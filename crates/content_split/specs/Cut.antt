@@ -38,6 +38,13 @@ pub record Back (d : ℕ) (t : List ℕ) (s z r : ℕ) : Type 0 where
   pub clear : (k : ℕ) → r < k → k < z → getD t k 0 ≡ d → ⊥
   pub found : s < r → getD t r 0 ≡ d
 
+-- w columns of t, from s on, are reached at z, and no delimiter is at s
+pub record AtWidth (w d : ℕ) (t : List ℕ) (s z : ℕ) : Type 0 where
+  pub some : 0 < w
+  pub inside : s < length t
+  pub reach : Reach t s w z
+  pub begun : getD t s 0 ≡ d → ⊥
+
 -- t goes on past the place z where w columns from s on are reached, and no delimiter is at s, nor on either side of that place
 pub record Straddle (w d : ℕ) (t : List ℕ) (s z : ℕ) : Type 0 where
   pub some : 0 < w

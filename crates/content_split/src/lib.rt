@@ -8,7 +8,7 @@ ghost use mathlib.Core.List.{map};
 ghost use Rattle.rules.specs.Text.{textWidth, greatest};
 ghost use Rattle.rules.specs.Wrap.{split};
 ghost use Rattle.text_width.specs.Measure.{IsPlain};
-ghost use Rattle.content_split.specs.Cut.{Near, Start, Back, Straddle, Sound, Long};
+ghost use Rattle.content_split.specs.Cut.{Near, Start, Back, AtWidth, Straddle, Sound, Long};
 ghost use Rattle.content_split.specs.Parts.{PartIs};
 
 // The next wrapped line, from `start` up to `end`, with the place where the search goes on; or that none is left.
@@ -126,7 +126,44 @@ fn straddled(
     Part::Line { start, end, next }
 }
 
-// The next line that `text` is split into, from `from` on. It is looked for backwards from the place where the width is reached.
+// The line from `start` on, where the width is reached at `stop`: it ends there if a piece does, on either side.
+fn at_width(
+    text: &[u8],
+    start: usize,
+    stop: usize,
+    width: usize,
+    delimiter: u8,
+    plain: bool,
+) -> Part
+    requires { ⌜ AtWidth width delimiter (now text) start stop × (Sound delimiter (now text) start × IsPlain plain (now text)) ⌝ }
+    ensures { λ r. ⌜ PartIs width delimiter (now (text .entry)) start r ⌝ }
+{
+    if text[stop - 1] == delimiter {
+        return Part::Line {
+            start,
+            end: stop - 1,
+            next: stop,
+        };
+    }
+    if text.len() == stop {
+        return Part::Line {
+            start,
+            end: text.len(),
+            next: text.len(),
+        };
+    }
+    if text[stop] == delimiter {
+        return Part::Line {
+            start,
+            end: stop,
+            next: stop + 1,
+        };
+    }
+    straddled(text, start, stop, width, delimiter, plain)
+}
+
+// The next line that `text` is split into, from `from` on. It is looked for backwards from the place where the width is reached: most bytes
+// of a plain text aren't read.
 pub fn split_line(text: &[u8], from: usize, width: usize, delimiter: u8, plain: bool) -> Part
     requires { ⌜ (from ≤ length (now text)) × ((0 < width) × (Sound delimiter (now text) from × IsPlain plain (now text))) ⌝ }
     ensures { λ r. ⌜ PartIs width delimiter (now (text .entry)) from r ⌝ }
@@ -150,29 +187,7 @@ pub fn split_line(text: &[u8], from: usize, width: usize, delimiter: u8, plain: 
             next: text.len(),
         };
     }
-    let stop = place.at;
-    if text[stop - 1] == delimiter {
-        return Part::Line {
-            start,
-            end: stop - 1,
-            next: stop,
-        };
-    }
-    if text.len() == stop {
-        return Part::Line {
-            start,
-            end: text.len(),
-            next: text.len(),
-        };
-    }
-    if text[stop] == delimiter {
-        return Part::Line {
-            start,
-            end: stop,
-            next: stop + 1,
-        };
-    }
-    straddled(text, start, stop, width, delimiter, plain)
+    at_width(text, start, place.at, width, delimiter, plain)
 }
 
 // How many lines `text` wraps into.
