@@ -185,26 +185,26 @@ module _ (s : List ℕ) (w d : ℕ) (plain : Bool) (pos : 0 < w) (all : Lines) w
     seeking-here h = S .same ∙ ap (wrapLines w d) (lines-some s c h) ∙ wrap-more w d (firstLine s c) (drop 1 (linesIn s c))
 
     module _ (some : 0 < c .left) (t : List ℕ) (e : t ≡ firstLine s c) (p : Part) (l : HeadIs w d t (wrapLine w d t) p) (r : Next)
-      (q : r ≡ taken t c plain p) where
-        head-here : HeadIs w d (firstLine s c) (wrapLine w d (firstLine s c)) p
-        head-here = subst (λ (x : List ℕ). HeadIs w d x (wrapLine w d x) p) e l
+        (q : r ≡ taken t c plain p) where
+      head-here : HeadIs w d (firstLine s c) (wrapLine w d (firstLine s c)) p
+      head-here = subst (λ (x : List ℕ). HeadIs w d x (wrapLine w d x) p) e l
 
-        taken-here : r ≡ taken (firstLine s c) c plain p
-        taken-here = subst (λ (x : List ℕ). r ≡ taken x c plain p) e q
+      taken-here : r ≡ taken (firstLine s c) c plain p
+      taken-here = subst (λ (x : List ℕ). r ≡ taken x c plain p) e q
 
-        pub seeking-found : r .found ≡ true → FirstOf s w d (wrapLines w d (linesIn s all)) r
-        seeking-found f =
-            rw (seeking-here some)
-            (taken-found s w d plain c (S .ends) (S .texts) (wrapLine w d (firstLine s c)) p r head-here taken-here f)
+      pub seeking-found : r .found ≡ true → FirstOf s w d (wrapLines w d (linesIn s all)) r
+      seeking-found f =
+          rw (seeking-here some)
+          (taken-found s w d plain c (S .ends) (S .texts) (wrapLine w d (firstLine s c)) p r head-here taken-here f)
 
-        pub seeking-on : r .found ≡ false → (k : Lines) → LinesNext s c k → Seeking s w d plain all k
-        seeking-on f k n = record {
-          same =
-              seeking-here some
-              ∙ rw (taken-none s w d plain c (firstLine s c) (wrapLine w d (firstLine s c)) p r head-here taken-here f, ← n .lines);
-          ends = omega (arith, S .ends, n .ends);
-          texts = texts-next plain s c k n (S .texts);
-        }
+      pub seeking-on : r .found ≡ false → (k : Lines) → LinesNext s c k → Seeking s w d plain all k
+      seeking-on f k n = record {
+        same =
+            seeking-here some
+            ∙ rw (taken-none s w d plain c (firstLine s c) (wrapLine w d (firstLine s c)) p r head-here taken-here f, ← n .lines);
+        ends = omega (arith, S .ends, n .ends);
+        texts = texts-next plain s c k n (S .texts);
+      }
 
     pub seeking-done : c .left ≤ 0 → (r : Next) → r ≡ noLine c plain → FirstOf s w d (wrapLines w d (linesIn s all)) r
     seeking-done h r q = rw (S .same, lines-none s c h, wrap-none w d, q) (blank-first s w d plain c pos (S .ends) h)
@@ -221,19 +221,19 @@ module _ (s : List ℕ) (w d : ℕ) (pos : 0 < w) (c : CellCursor) (I : Inside s
   rest-is = refl
 
   module _ (t : List ℕ) (e : t ≡ firstLine s (c .lines)) (p : Part) (l : PartIs w d t (c .from) p) (r : Next)
-    (q : r ≡ taken t (c .lines) (c .plain) p) where
-      head-at : HeadIs w d (firstLine s (c .lines)) (split w d (drop (c .from) (firstLine s (c .lines)))) p
-      head-at = subst (λ (x : List ℕ). HeadIs w d x (split w d (drop (c .from) x)) p) e (split-head w d pos t (c .from) p l)
+      (q : r ≡ taken t (c .lines) (c .plain) p) where
+    head-at : HeadIs w d (firstLine s (c .lines)) (split w d (drop (c .from) (firstLine s (c .lines)))) p
+    head-at = subst (λ (x : List ℕ). HeadIs w d x (split w d (drop (c .from) x)) p) e (split-head w d pos t (c .from) p l)
 
-      taken-at : r ≡ taken (firstLine s (c .lines)) (c .lines) (c .plain) p
-      taken-at = subst (λ (x : List ℕ). r ≡ taken x (c .lines) (c .plain) p) e q
+    taken-at : r ≡ taken (firstLine s (c .lines)) (c .lines) (c .plain) p
+    taken-at = subst (λ (x : List ℕ). r ≡ taken x (c .lines) (c .plain) p) e q
 
-      pub next-found : r .found ≡ true → FirstOf s w d (rest s w d c) r
-      next-found f = rw rest-is (taken-found s w d (c .plain) (c .lines) (I .ends) (I .texts) _ p r head-at taken-at f)
+    pub next-found : r .found ≡ true → FirstOf s w d (rest s w d c) r
+    next-found f = rw rest-is (taken-found s w d (c .plain) (c .lines) (I .ends) (I .texts) _ p r head-at taken-at f)
 
-      pub next-further : r .found ≡ false → (k : Lines) → LinesNext s (c .lines) k → rest s w d c ≡ wrapLines w d (linesIn s k)
-      next-further f k n =
-          rest-is ∙ rw (taken-none s w d (c .plain) (c .lines) (firstLine s (c .lines)) _ p r head-at taken-at f, ← n .lines)
+    pub next-further : r .found ≡ false → (k : Lines) → LinesNext s (c .lines) k → rest s w d c ≡ wrapLines w d (linesIn s k)
+    next-further f k n =
+        rest-is ∙ rw (taken-none s w d (c .plain) (c .lines) (firstLine s (c .lines)) _ p r head-at taken-at f, ← n .lines)
 
 -- ---- lines further on
 

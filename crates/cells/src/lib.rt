@@ -111,13 +111,7 @@ fn first_part(text: &[u8], width: usize, delimiter: u8, plain: bool) -> Part
 }
 
 // The first wrapped line of some cell lines. One that is made of delimiters alone may wrap into none.
-pub fn first_line(
-    sheet: &[u8],
-    lines: Lines,
-    width: usize,
-    delimiter: u8,
-    plain: bool,
-) -> Next
+pub fn first_line(sheet: &[u8], lines: Lines, width: usize, delimiter: u8, plain: bool) -> Next
     requires { ⌜ (linesEnd (now sheet) lines ≤ length (now sheet)) × All (TextIs plain) (linesIn (now sheet) lines) ⌝ }
     requires { ⌜ (0 < width) × Printable delimiter ⌝ }
     ensures { λ r. ⌜ FirstOf (now (sheet .entry)) width delimiter (wrapLines width delimiter (linesIn (now (sheet .entry)) lines)) r ⌝ }
@@ -183,13 +177,7 @@ fn line_height(text: &[u8], width: usize, delimiter: u8, plain: bool) -> usize
 }
 
 // How many lines some cell lines wrap into.
-pub fn cell_height(
-    sheet: &[u8],
-    lines: Lines,
-    width: usize,
-    delimiter: u8,
-    plain: bool,
-) -> usize
+pub fn cell_height(sheet: &[u8], lines: Lines, width: usize, delimiter: u8, plain: bool) -> usize
     requires { ⌜ (linesEnd (now sheet) lines ≤ length (now sheet)) × All (TextIs plain) (linesIn (now sheet) lines) ⌝ }
     requires { ⌜ (0 < width) × Printable delimiter ⌝ }
     ensures { λ r. ⌜ r ≡ length (wrapLines width delimiter (linesIn (now (sheet .entry)) lines)) ⌝ }

@@ -4,19 +4,22 @@ use mathlib.Core.Path.{_≡_}
 use mathlib.Core.List.{List, [], map}
 use mathlib.Core.Bool.{Bool, true}
 use lib.ListN.{length, take, getD}
+use Rattle.rules.specs.Text.{All}
 use lib.Dec.{ltb}
-use Rattle.rules.specs.Limits.{mostLines}
+use Rattle.rules.specs.Limits.{mostLines, longestLine}
 use Rattle.rules.specs.Sheet.{Row}
 use Rattle.rules.specs.Widths.{contents}
 use Rattle.rules.specs.Page.{lineOf, areas, height}
 use Rattle.table.specs.Held.{tableOf}
-use Rattle.table.specs.Walk.{rowsEnd}
+use Rattle.table.specs.Walk.{rowsEnd, firstRow}
 use Rattle.table.specs.declared.records.Rows.{Rows}
 use Rattle.table.specs.declared.records.Indicator.{Indicator}
 use Rattle.buffer.specs.Put.{byteIf}
 use Rattle.row.specs.View.{View, Views}
-use Rattle.row.specs.Open.{Rising, UsableAll}
+use Rattle.row.specs.Open.{CellKnown, Rising, UsableAll}
 use Rattle.row.specs.declared.Pending.{Pending}
+use Rattle.formatting.specs.Area.{IndicatorIs}
+use Rattle.formatting.specs.Line.{lineBytes, ReadyAll}
 use Rattle.formatting.specs.Stand.{StandsRow}
 use Rattle.formatting.specs.declared.content_format.TextStyle.{TextStyle}
 use Rattle.formatting.specs.declared.content_format.Entered.{Entered}
@@ -32,23 +35,32 @@ rowLines s y r = map (styled y) (areas (tableOf s) (contents (tableOf s)) r)
 abbrev pub rowHeight : List ℕ → Row → ℕ
 rowHeight s r = height (tableOf s) (contents (tableOf s)) r
 
--- there is a row, and the view shows the sheet's visible columns
-pub record Drawable (s : List ℕ) (view : View) (c : Rows) : Type 0 where
+-- there is a row, its texts are known, and the view shows the sheet's visible columns
+pub record Drawable (s : List ℕ) (view : View) (plain : Bool) (c : Rows) : Type 0 where
   pub some : 0 < c .left
   pub ends : rowsEnd s c ≤ length s
   pub views : Views (tableOf s) (contents (tableOf s)) view
   pub rising : Rising view
-  pub wide : UsableAll view
+  pub usable : UsableAll view
+  pub known : All (CellKnown plain) (firstRow s c .cells)
 
 -- the table's indicator
 pub record Marks (s : List ℕ) (i : Indicator) : Type 0 where
   pub are : take (i .count) (i .characters) ≡ tableOf s .indicator
-  pub within : i .count ≤ length (i .characters)
+  pub indicator : IndicatorIs i
 
--- each of a row's lines takes n bytes, its 0A included
-pub record Sized (s : List ℕ) (y : TextStyle) (r : Row) (n : ℕ) : Type 0 where
-  pub each : (k : ℕ) → k < rowHeight s r → length (getD (rowLines s y r) k []) + 1 ≡ n
+-- a row's lines are neither too long nor too many; if it is said to be plain, each takes n bytes, its 0A included
+pub record Sized (s : List ℕ) (y : TextStyle) (r : Row) (plain : Bool) (n : ℕ) : Type 0 where
+  pub each : plain ≡ true → (k : ℕ) → k < rowHeight s r → length (getD (rowLines s y r) k []) + 1 ≡ n
+  pub short : (k : ℕ) → k < rowHeight s r → length (getD (rowLines s y r) k []) ≤ longestLine
   pub few : rowHeight s r ≤ mostLines
+
+-- the line that is pending can be measured
+pub record Measurable (s : List ℕ) (view : View) (i : Indicator) (y : TextStyle) (ts : List Pending) (last plain : Bool) (n : ℕ) : Type 0 where
+  pub ready : ReadyAll s view ts
+  pub indicator : IndicatorIs i
+  pub short : length (lineBytes s view (take (i .count) (i .characters)) y ts last) ≤ longestLine + 1
+  pub each : plain ≡ true → n ≡ length (lineBytes s view (take (i .count) (i .characters)) y ts last)
 
 -- whether a row has line j, which is then pending
 pub record StandsAt (s : List ℕ) (view : View) (r : Row) (j : ℕ) (more : Bool) (ts : List Pending) : Type 0 where

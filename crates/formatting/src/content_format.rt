@@ -4,21 +4,22 @@ ghost use mathlib.Core.List.{_++_};
 ghost use mathlib.Core.Bool.{_&&_};
 ghost use Prim.Native.Nat.{_+_, _-_, _≤_, _<_};
 ghost use lib.ListN.{length, take, drop};
-ghost use lib.Dec.{leb};
-ghost use Rattle.rules.specs.Limits.{mostLines};
+ghost use lib.Dec.{leb, ltb};
+ghost use Rattle.rules.specs.Limits.{mostLines, longestLine, Printable};
 ghost use Rattle.rules.specs.Text.{textWidth};
 ghost use Rattle.rules.specs.Sheet.{mostColumns};
 ghost use Rattle.rules.specs.Page.{before};
 ghost use Rattle.table.specs.Walk.{firstRow};
 ghost use Rattle.buffer.specs.Put.{over, putAt, byteIf};
 ghost use Rattle.cells.specs.Cell.{Inside};
-ghost use Rattle.formatting.specs.Area.{areaIn, marksShown, shownText, After, columnPiece};
-ghost use Rattle.row.specs.Pending.{InSheet, anyFound};
-ghost use Rattle.formatting.specs.Line.{lineBytes, ReadyAll, AfterAll};
+ghost use Rattle.formatting.specs.Area.{areaIn, marksShown, IndicatorIs, LineIn, ShownIs, shownText, After, columnPiece};
+ghost use Rattle.row.specs.Pending.{InSheet, Ready, following, anyFound};
+ghost use Rattle.formatting.specs.Line.{linePiece, lineBytes, ReadyAll, AfterAll};
 ghost use Rattle.formatting.specs.Stand.{inLimit, lastOf};
 ghost use Rattle.row.specs.Packed.{viewOf, pendingsOf};
 ghost use Rattle.formatting.specs.Part.{PartIs};
-ghost use Rattle.formatting.specs.RowText.{Drawable, rowLines, EnteredIs, Sized, Marks};
+ghost use Rattle.formatting.specs.RowText.{Drawable, rowLines, rowHeight, EnteredIs, Measurable, Sized, Marks};
+use cells::Next;
 use row::Pending;
 use row::VisibleColumn;
 use row::packed;
@@ -38,16 +39,7 @@ fn spaces_before(alignment: u8, spare: usize) -> usize
     }
 }
 
-// The columns that a text and the indicator after it leave free.
-fn spare_columns(width: usize, text: &[u8], marks: &[u8]) -> usize
-    requires { ⌜ textWidth (now text) + textWidth (now marks) ≤ width ⌝ }
-    ensures { λ r. ⌜ r ≡ width - textWidth (now (text .entry) ++ now (marks .entry)) ⌝ }
-    ensures { λ r. ⌜ r + (length (now (text .entry)) + length (now (marks .entry))) ≡ width ⌝ }
-{
-    width - text.len() - marks.len()
-}
-
-// A column's area: padding, a part of the sheet and of the indicator, aligned, padding.
+// A column's area: padding, a part of the sheet and of the indicator, aligned, padding. They leave `spare` columns free.
 fn align_line(
     page: &mut [u8],
     at: usize,
@@ -55,13 +47,13 @@ fn align_line(
     marks: &[u8],
     v: VisibleColumn,
     alignment: u8,
+    spare: usize,
 ) -> usize
-    requires { ⌜ textWidth (now text) + textWidth (now marks) ≤ v .width ⌝ }
-    requires { ⌜ at + (v .left + (v .width + v .right)) ≤ length (now page) ⌝ }
-    ensures { λ r. ⌜ r ≡ at + (v .left + (v .width + v .right)) ⌝ }
+    requires { ⌜ spare ≡ v .width - textWidth (now text ++ now marks) ⌝ }
+    requires { ⌜ at + length (areaIn v alignment (now text ++ now marks)) ≤ length (now page) ⌝ }
+    ensures { λ r. ⌜ r ≡ at + length (areaIn v alignment (now (text .entry) ++ now (marks .entry))) ⌝ }
     ensures { λ _. ⌜ now (page .exit) ≡ putAt (now (page .entry)) at (areaIn v alignment (now (text .entry) ++ now (marks .entry))) ⌝ }
 {
-    let spare = spare_columns(v.width, text, marks);
     let b = spaces_before(alignment, spare);
     let p = buffer::fill(page, at, v.left + b, 32);
     let q = buffer::copy(page, p, text);
@@ -81,6 +73,37 @@ fn marks_shown(cut: bool, count: usize, width: usize) -> usize
     0
 }
 
+// Where a cell's line ends as it is shown, and its columns.
+pub struct Shown {
+    pub end: usize,
+    pub columns: usize,
+}
+
+// A cell's line shortened to `width` columns. A line with as many columns as bytes has no pair that a cut could fall into.
+fn shorten(text: &[u8], line: Next, width: usize) -> Shown
+    requires { ⌜ LineIn (now text) line ⌝ }
+    ensures { λ r. ⌜ ShownIs (now (text .entry)) line width r ⌝ }
+{
+    let start = line.start;
+    if line.columns <= width {
+        return Shown {
+            end: line.end,
+            columns: line.columns,
+        };
+    }
+    if line.columns == line.end - start {
+        return Shown {
+            end: start + width,
+            columns: width,
+        };
+    }
+    let place = text_width::reach(text, start, width, false);
+    Shown {
+        end: place.at,
+        columns: width,
+    }
+}
+
 // The area of a cell's line; where the cell is cut, the line is shortened until it and the indicator fit.
 fn draw_cell(
     page: &mut [u8],
@@ -91,9 +114,10 @@ fn draw_cell(
     indicator: Indicator,
     cut: bool,
 ) -> usize
-    requires { ⌜ InSheet (now sheet) (v .width) t × (indicator .count ≤ length (indicator .characters)) ⌝ }
-    requires { ⌜ at + (v .left + (v .width + v .right)) ≤ length (now page) ⌝ }
-    ensures { λ r. ⌜ r ≡ at + (v .left + (v .width + v .right)) ⌝ }
+    requires { ⌜ InSheet (now sheet) (v .width) t × IndicatorIs indicator ⌝ }
+    requires { ⌜ at + length (areaIn v (t .alignment) (shownText (now sheet) (v .width) (take (indicator .count) (indicator .characters)) cut t)) ≤ length (now page) ⌝ }
+    ensures { λ r.
+        ⌜ r ≡ at + length (areaIn v (t .alignment) (shownText (now (sheet .entry)) (v .width) (take (indicator .count) (indicator .characters)) cut t)) ⌝ }
     ensures { λ _.
         ⌜ now (page .exit) ≡ putAt (now (page .entry)) at
         (areaIn v (t .alignment) (shownText (now (sheet .entry)) (v .width) (take (indicator .count) (indicator .characters)) cut t)) ⌝ }
@@ -104,22 +128,24 @@ fn draw_cell(
     let cursor = line.cursor;
     let lines = cursor.lines;
     let text = cells::line_at(sheet, lines);
+    let shown = shorten(text, line, width - m);
     let start = line.start;
-    let stop = start + numbers::lesser(line.end - start, width - m);
+    let end = shown.end;
     let characters = indicator.characters;
     align_line(
         page,
         at,
-        &text[start..stop],
+        &text[start..end],
         &characters[..m],
         v,
         t.alignment,
+        width - m - shown.columns,
     )
 }
 
 // The cell's next line.
-pub fn advance(sheet: &[u8], width: usize, t: Pending) -> Pending
-    requires { ⌜ Inside (now sheet) (t .line .cursor) × (0 < width) ⌝ }
+fn advance(sheet: &[u8], width: usize, t: Pending) -> Pending
+    requires { ⌜ Inside (now sheet) (t .line .cursor) × ((0 < width) × Printable (t .delimiter)) ⌝ }
     ensures { λ r. ⌜ After (now (sheet .entry)) width t r ⌝ }
 {
     let line = t.line;
@@ -150,9 +176,11 @@ fn draw_column(
     joins: bool,
     junction: u8,
 ) -> Drawn
-    requires { ⌜ InSheet (now sheet) (v .width) t × (Inside (now sheet) (t .line .cursor) × ((0 < v .width) × (indicator .count ≤ length (indicator .characters)))) ⌝ }
-    requires { ⌜ at + (length (byteIf joins junction) + (v .left + (v .width + v .right))) ≤ length (now page) ⌝ }
-    ensures { λ r. ⌜ (r .at ≡ at + (length (byteIf joins junction) + (v .left + (v .width + v .right)))) × After (now (sheet .entry)) (v .width) t (r .pending) ⌝ }
+    requires { ⌜ Ready (now sheet) v t × IndicatorIs indicator ⌝ }
+    requires { ⌜ at + (length (byteIf joins junction) + length (columnPiece (now sheet) v t (take (indicator .count) (indicator .characters)) last)) ≤ length (now page) ⌝ }
+    ensures { λ r.
+        ⌜ (r .at ≡ at + (length (byteIf joins junction) + length (columnPiece (now (sheet .entry)) v t (take (indicator .count) (indicator .characters)) last)))
+        × After (now (sheet .entry)) (v .width) t (r .pending) ⌝ }
     ensures { λ _.
         ⌜ now (page .exit) ≡ putAt (now (page .entry)) at
         (byteIf joins junction ++ columnPiece (now (sheet .entry)) v t (take (indicator .count) (indicator .characters)) last) ⌝ }
@@ -193,9 +221,9 @@ fn write_line(
     indicator: Indicator,
     style: TextStyle,
     last: bool,
-    state: &mut [[usize; 8]; MOST_COLUMNS],
+    state: &mut [[usize; 10]; MOST_COLUMNS],
 ) -> Lined
-    requires { ⌜ ReadyAll (now sheet) (viewOf (now columns) count) (pendingsOf (now state)) × (indicator .count ≤ length (indicator .characters)) ⌝ }
+    requires { ⌜ ReadyAll (now sheet) (viewOf (now columns) count) (pendingsOf (now state)) × IndicatorIs indicator ⌝ }
     requires { ⌜ length (lineBytes (now sheet) (viewOf (now columns) count) (take (indicator .count) (indicator .characters)) style (pendingsOf (now state)) last)
         ≤ length (now page) ⌝ }
     ensures { λ r.
@@ -278,14 +306,15 @@ fn enter_row(
     count: usize,
     here: Rows,
     n: usize,
-    state: &mut [[usize; 8]; MOST_COLUMNS],
+    plain: bool,
+    state: &mut [[usize; 10]; MOST_COLUMNS],
 ) -> Entered
-    requires { ⌜ Drawable (now sheet) (viewOf (now columns) count) here × (length (now state) ≡ mostColumns) ⌝ }
+    requires { ⌜ Drawable (now sheet) (viewOf (now columns) count) plain here × (length (now state) ≡ mostColumns) ⌝ }
     ensures { λ r. ⌜ EnteredIs (now (sheet .entry)) (viewOf (now (columns .entry)) count) (firstRow (now (sheet .entry)) here) n r (pendingsOf (now (state .exit))) ⌝ }
 {
     let r = walk::row(sheet, here);
     let cells = r.cells;
-    let found = row::format_row(sheet, columns, count, cells, n, state);
+    let found = row::format_row(sheet, columns, count, cells, n, plain, state);
     Entered {
         limit: r.limit,
         more: has_line(r.limit, n, found),
@@ -306,7 +335,118 @@ fn goes_on(more: bool, room: usize, size: usize) -> bool
     if more { size <= room } else { false }
 }
 
-// The text lines of the first of some rows from its line `first` on, as many as the page has room for. Each takes `size` bytes, its 0A included.
+// Whether another line follows a cell's line, which is looked for only where the line is the last that the limit leaves.
+fn is_cut(sheet: &[u8], v: VisibleColumn, t: Pending, last: bool) -> bool
+    requires { ⌜ Ready (now sheet) v t ⌝ }
+    ensures { λ r. ⌜ r ≡ (last && ltb 0 (length (following (now (sheet .entry)) (v .width) t))) ⌝ }
+{
+    if !last {
+        return false;
+    }
+    let next = advance(sheet, v.width, t);
+    let line = next.line;
+    line.found
+}
+
+// The bytes of a column's area in a line: the second bytes of pairs come on top of its visible width.
+fn area_size(sheet: &[u8], v: VisibleColumn, t: Pending, indicator: Indicator, last: bool) -> usize
+    requires { ⌜ Ready (now sheet) v t × IndicatorIs indicator ⌝ }
+    requires { ⌜ length (columnPiece (now sheet) v t (take (indicator .count) (indicator .characters)) last) ≤ longestLine ⌝ }
+    ensures { λ r. ⌜ r ≡ length (columnPiece (now (sheet .entry)) v t (take (indicator .count) (indicator .characters)) last) ⌝ }
+{
+    let cut = is_cut(sheet, v, t, last);
+    let width = v.width;
+    let m = marks_shown(cut, indicator.count, width);
+    let line = t.line;
+    let cursor = line.cursor;
+    let lines = cursor.lines;
+    let text = cells::line_at(sheet, lines);
+    let shown = shorten(text, line, width - m);
+    v.left + (width - shown.columns + (shown.end - line.start)) + v.right
+}
+
+// The bytes of an edge.
+fn edge_size(drawn: bool, b: u8) -> usize
+    ensures { λ r. ⌜ r ≡ length (byteIf drawn b) ⌝ }
+{
+    if drawn { 1 } else { 0 }
+}
+
+// The bytes of the text line that is pending, its 0A included.
+pub fn line_size(
+    sheet: &[u8],
+    columns: &[[usize; 6]; MOST_COLUMNS],
+    count: usize,
+    indicator: Indicator,
+    style: TextStyle,
+    last: bool,
+    state: &[[usize; 10]; MOST_COLUMNS],
+) -> usize
+    requires { ⌜ ReadyAll (now sheet) (viewOf (now columns) count) (pendingsOf (now state)) × IndicatorIs indicator ⌝ }
+    requires { ⌜ length (lineBytes (now sheet) (viewOf (now columns) count) (take (indicator .count) (indicator .characters)) style (pendingsOf (now state)) last)
+        ≤ longestLine + 1 ⌝ }
+    ensures { λ r.
+        ⌜ r ≡ length (lineBytes (now (sheet .entry)) (viewOf (now (columns .entry)) count) (take (indicator .count) (indicator .characters)) style
+        (pendingsOf (now (state .entry))) last) ⌝ }
+{
+    let mut size = edge_size(style.opens, style.left) + edge_size(style.closes, style.right) + 1;
+    let mut i: usize = 0;
+    while i < count {
+        let y = columns[i];
+        let v = packed::column_from(y);
+        let x = state[i];
+        let t = packed::pending_from(x);
+        let joins = buffer::joins_before(i, style.joined);
+        let junction = edge_size(joins, style.junction);
+        let area = area_size(sheet, v, t, indicator, last);
+        size += junction + area;
+        i += 1;
+    }
+    size
+}
+
+// The line that comes next: whether it is the last that the limit leaves, and its bytes, its 0A included.
+pub struct Upcoming {
+    pub last: bool,
+    pub size: usize,
+}
+
+// On a plain page each text line takes `size` bytes, and needn't be measured.
+fn upcoming(
+    sheet: &[u8],
+    columns: &[[usize; 6]; MOST_COLUMNS],
+    count: usize,
+    indicator: Indicator,
+    style: TextStyle,
+    limit: usize,
+    line: usize,
+    more: bool,
+    plain: bool,
+    size: usize,
+    state: &[[usize; 10]; MOST_COLUMNS],
+) -> Upcoming
+    requires { ⌜ line ≤ mostLines ⌝ }
+    requires { ⌜ more ≡ true → Measurable (now sheet) (viewOf (now columns) count) indicator style (pendingsOf (now state)) (lastOf limit line) plain size ⌝ }
+    ensures { λ r. ⌜ r .last ≡ lastOf limit line ⌝ }
+    ensures { λ r.
+        ⌜ more ≡ true → r .size ≡ length (lineBytes (now (sheet .entry)) (viewOf (now (columns .entry)) count) (take (indicator .count) (indicator .characters)) style
+        (pendingsOf (now (state .entry))) (r .last)) ⌝ }
+{
+    let last = is_last(limit, line);
+    if plain {
+        return Upcoming { last, size };
+    }
+    if !more {
+        return Upcoming { last, size };
+    }
+    Upcoming {
+        last,
+        size: line_size(sheet, columns, count, indicator, style, last, state),
+    }
+}
+
+// The text lines of the first of some rows from its line `first` on, as many as the page has room for. On a plain page each takes `size` bytes, its
+// 0A included.
 pub fn draw_row(
     page: &mut [u8],
     sheet: &[u8],
@@ -316,20 +456,33 @@ pub fn draw_row(
     style: TextStyle,
     here: Rows,
     first: usize,
+    plain: bool,
     size: usize,
 ) -> Part
-    requires { ⌜ Drawable (now sheet) (viewOf (now columns) count) here × Marks (now sheet) indicator ⌝ }
-    requires { ⌜ Sized (now sheet) style (firstRow (now sheet) here) size ⌝ }
+    requires { ⌜ Drawable (now sheet) (viewOf (now columns) count) plain here × Marks (now sheet) indicator ⌝ }
+    requires { ⌜ Sized (now sheet) style (firstRow (now sheet) here) plain size × (first ≤ rowHeight (now sheet) (firstRow (now sheet) here)) ⌝ }
     ensures { λ r. ⌜ PartIs (drop first (rowLines (now (sheet .entry)) style (firstRow (now (sheet .entry)) here))) (now (page .entry)) (now (page .exit)) r ⌝ }
 {
-    let mut state = [[0usize; 8]; MOST_COLUMNS];
-    let entered = enter_row(sheet, columns, count, here, first, &mut state);
+    let mut state = [[0usize; 10]; MOST_COLUMNS];
+    let entered = enter_row(sheet, columns, count, here, first, plain, &mut state);
     let limit = entered.limit;
     let mut more = entered.more;
     let mut at: usize = 0;
     let mut line = first;
-    while goes_on(more, page.len() - at, size) {
-        let last = is_last(limit, line);
+    let mut next = upcoming(
+        sheet,
+        columns,
+        count,
+        indicator,
+        style,
+        limit,
+        line,
+        more,
+        plain,
+        size,
+        &state,
+    );
+    while goes_on(more, page.len() - at, next.size) {
         let l = write_line(
             &mut page[at..],
             sheet,
@@ -337,12 +490,25 @@ pub fn draw_row(
             count,
             indicator,
             style,
-            last,
+            next.last,
             &mut state,
         );
         at += l.written;
         line += 1;
         more = has_line(limit, line, l.more);
+        next = upcoming(
+            sheet,
+            columns,
+            count,
+            indicator,
+            style,
+            limit,
+            line,
+            more,
+            plain,
+            size,
+            &state,
+        );
     }
     Part {
         lines: line - first,

@@ -25,9 +25,10 @@ first-line-spec =
     (h .0, (h .1, rw (c .line .ensures) (first-known _ _ _ (i .if1 .taken) (a .loop .inv .texts)))))
     (λ c κs.
     let l = c .before in
-    let i = l .before in
-    (head-in _ _ _ _ (c .first-part .result) (c .first-part .ensures),
-    rw (l .line .ensures) (first-known _ _ _ (i .if1 .taken) (i .before .before .loop .inv .texts) .plain)))
+    let i = l .before in (
+      head-in _ _ _ _ (c .first-part .result) (c .first-part .ensures),
+      rw (l .line .ensures) (first-known _ _ _ (i .if1 .taken) (i .before .before .loop .inv .texts) .plain),
+    ))
     (λ c.
     let t = c .before in
     let p = t .before in

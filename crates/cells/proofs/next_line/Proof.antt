@@ -26,9 +26,10 @@ next-line-spec =
     let l = c .before in
     let i = l .before in
     let b = i .before .before .before .before in
-    let some : 0 < b .args .c .lines .left = omega (arith, i .if1 .left) in
-    (head-in _ _ _ _ (c .split-line .result) (split-head _ _ (b .pre .1 .0) _ _ (c .split-line .result) (c .split-line .ensures)),
-    rw (l .line .ensures) (first-known _ _ _ some (b .pre .0 .texts) .plain)))
+    let some : 0 < b .args .c .lines .left = omega (arith, i .if1 .left) in (
+      head-in _ _ _ _ (c .split-line .result) (split-head _ _ (b .pre .1 .0) _ _ (c .split-line .result) (c .split-line .ensures)),
+      rw (l .line .ensures) (first-known _ _ _ some (b .pre .0 .texts) .plain),
+    ))
     (λ c.
     let t = c .before in
     let p = t .before in
