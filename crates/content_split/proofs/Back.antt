@@ -96,46 +96,6 @@ module _ (w d : ℕ) (pos : 0 < w) (T : List ℕ) where
     pub ends-lacking : {z n : ℕ} → s < length T → Reached T s w z n → 0 < n → LineIs w d T a s (length T) (length T)
     ends-lacking {z} {n} l r h = let e = r .end h in let c = rw e at (r .columns) in ends-short l (omega arith)
 
-    module _ {z : ℕ} (l : s < length T) (r : Reach T s w z) where
-      after-start : s < z
-      after-start = reach-after T pos r
-
-      -- a piece ends just before the width
-      pub ends-before : getD T (z - 1) 0 ≡ d → LineIs w d T a s (z - 1) z
-      ends-before e =
-          let m = r .within in
-          let n = after-start in
-          let f : s ≤ z - 1 = omega arith in
-          let i : s < z - 1 = ⊎-elim (λ t. absurd (b .stop l (rw t e))) (λ t. t) (eq-or-lt-of-le f) in
-          let q : suc (z - 1) ≡ z = omega arith in
-          let u : col T z ≡ suc (col T (z - 1)) = rw q at (delimiter-column d T sound (z - 1) (omega arith) e) in
-          let v = col-first T s l (start-first d T a s sound b) in
-          rw q at (ends-full w d pos T sound
-          (reaches sound (omega arith) (λ y. e) (omega (arith, r .columns))
-          (λ k x y g. omega (arith, delimiter-column d T sound k (omega arith) g, col-le T (suc k) (z - 1) y, col-le T s k (omega arith), r .columns)) b i)
-          (omega arith) (omega (arith, r .columns, col-le T (suc s) (z - 1) i)))
-
-      -- the text ends at the width
-      pub ends-exact : length T ≡ z → (getD T (z - 1) 0 ≡ d → ⊥) → LineIs w d T a s (length T) (length T)
-      ends-exact q f =
-          ends-text w d pos T sound (reaches sound (omega arith) (λ y. absurd (omega arith)) (omega (arith, r .columns, ap (col T) q))
-          (λ k x y. open-still sound (b .from) r f k x (omega arith)) b l) (omega arith)
-
-      -- the text goes on past the width
-      module _ (n : (length T ≡ z) → ⊥) (f : getD T (z - 1) 0 ≡ d → ⊥) where
-        goes-past : z < length T
-        goes-past = ⊎-elim (λ t. absurd (n (sym t))) (λ t. t) (eq-or-lt-of-le (r .within))
-
-        -- a piece ends at the width
-        pub ends-at : getD T z 0 ≡ d → LineIs w d T a s z (z + 1)
-        ends-at e =
-            rw (add-one z) (ends-full w d pos T sound (reaches sound (r .within) (λ y. e) (omega (arith, r .columns)) (open-still sound (b .from) r f) b after-start)
-            goes-past (omega (arith, r .columns)))
-
-        -- no piece ends there
-        pub straddles : (getD T z 0 ≡ d → ⊥) → Straddle w d T s z
-        straddles e = record { some = pos; reach = r; more = goes-past; begun = b .stop l; last = f; past = e }
-
   -- what is split from the line's start on is what is split from before the delimiters that it skips
   pub from-start : {a s : ℕ} (p : Part) → Start d T a s → PartIs w d T s p → PartIs w d T a p
   from-start (Line x e n) b l =
@@ -154,15 +114,60 @@ module _ (w d : ℕ) (pos : 0 < w) (T : List ℕ) where
 pub width-reached : (w d : ℕ) → 0 < w → (T : List ℕ) {a s z : ℕ} → Start d T a s → s < length T → Reach T s w z → AtWidth w d T s z
 width-reached w d pos T b l r = record { some = pos; inside = l; reach = r; begun = b .stop l }
 
-pub starts-here : (w d : ℕ) (T : List ℕ) {s z : ℕ} → AtWidth w d T s z → Start d T s s
-starts-here w d T g =
-    record { from = omega arith; within = omega (arith, g .inside); skipped = λ k x y. absurd (omega arith); stop = λ l. g .begun }
+module _ (w d : ℕ) (T : List ℕ) {s z : ℕ} (g : AtWidth w d T s z) where
+  begins : Start d T s s
+  begins = record { from = omega arith; within = omega (arith, g .inside); skipped = λ k x y. absurd (omega arith); stop = λ l. g .begun }
+
+  pub after-start : s < z
+  after-start = reach-after T (g .some) (g .reach)
+
+  module _ (sound : Sound d T s) where
+    -- a piece ends just before the width
+    pub ends-before : getD T (z - 1) 0 ≡ d → LineIs w d T s s (z - 1) z
+    ends-before e =
+        let r = g .reach in
+        let m = r .within in
+        let n = after-start in
+        let f : s ≤ z - 1 = omega arith in
+        let i : s < z - 1 = ⊎-elim (λ t. absurd (g .begun (rw t e))) (λ t. t) (eq-or-lt-of-le f) in
+        let q : suc (z - 1) ≡ z = omega arith in
+        let u : col T z ≡ suc (col T (z - 1)) = rw q at (delimiter-column d T sound (z - 1) (omega arith) e) in
+        let v = col-first T s (g .inside) (sound .begins) in
+        let free : (k : ℕ) → s < k → k < z - 1 → getD T k 0 ≡ d → col T k ≤ col T s + (w - 2) =
+        λ k x y h.
+        omega (arith, delimiter-column d T sound k (omega arith) h, col-le T (suc k) (z - 1) y, col-le T s k (omega arith), r .columns) in
+        rw q at (ends-full w d (g .some) T sound (reaches w d (g .some) T sound (omega arith) (λ y. e) (omega (arith, r .columns)) free begins i)
+        (omega arith) (omega (arith, r .columns, col-le T (suc s) (z - 1) i)))
+
+    module _ (f : getD T (z - 1) 0 ≡ d → ⊥) where
+      -- the line goes on up to the width, where a piece ends or the text does
+      up-to : (z < length T → getD T z 0 ≡ d) → Going w d T s s z
+      up-to e =
+          let r = g .reach in
+          let free = open-still w d (g .some) T sound (omega arith) r f in
+          reaches w d (g .some) T sound (r .within) e (omega (arith, r .columns)) free begins after-start
+
+      -- the text ends at the width
+      pub ends-exact : length T ≡ z → LineIs w d T s s (length T) (length T)
+      ends-exact q = rw q (ends-text w d (g .some) T sound (up-to (λ y. absurd (omega arith))) (omega arith))
+
+      -- the text goes on past the width
+      module _ (n : (length T ≡ z) → ⊥) where
+        goes-past : z < length T
+        goes-past = ⊎-elim (λ t. absurd (n (sym t))) (λ t. t) (eq-or-lt-of-le (g .reach .within))
+
+        -- a piece ends at the width
+        pub ends-at : getD T z 0 ≡ d → LineIs w d T s s z (z + 1)
+        ends-at e = rw (add-one z) (ends-full w d (g .some) T sound (up-to (λ y. e)) goes-past (omega (arith, g .reach .columns)))
+
+        -- no piece ends there
+        pub straddles : (getD T z 0 ≡ d → ⊥) → Straddle w d T s z
+        straddles e = record { width = g; more = goes-past; last = f; past = e }
 
 -- a piece goes on past the width, and the last delimiter before that is at r, or none is
 module _ (w d : ℕ) (T : List ℕ) {s z r : ℕ} (sound : Sound d T s) (g : Straddle w d T s z) (b : Back d T s z r) where
-  -- the line starts where it is looked for
   begun : Start d T s s
-  begun = record { from = omega arith; within = omega (arith, g .more, g .reach .from); skipped = λ k x y. absurd (omega arith); stop = λ l. g .begun }
+  begun = begins w d T (g .width)
 
   -- a piece that ends after that ends past the width
   past : {p x : ℕ} → Cut d T p x → r < x → z < x
@@ -177,9 +182,10 @@ module _ (w d : ℕ) (T : List ℕ) {s z r : ℕ} (sound : Sound d T s) (g : Str
   pub fills-whole : r ≡ s → LineIs w d T s s z z
   fills-whole q =
       let m = g .more in
-      let x = piece d T s (omega (arith, g .reach .from)) in
-      let y : s < x .0 = ⊎-elim (λ t. absurd (g .begun (rw t (x .1 .stop (omega (arith, g .reach .from)))))) (λ t. t) (eq-or-lt-of-le (x .1 .from)) in
-      fills-cut w d (g .some) T begun (x .1) (g .reach) (past (x .1) (omega arith))
+      let i = g .width .inside in
+      let x = piece d T s (omega arith) in
+      let y : s < x .0 = ⊎-elim (λ t. absurd (g .width .begun (rw t (x .1 .stop (omega arith))))) (λ t. t) (eq-or-lt-of-le (x .1 .from)) in
+      fills-cut w d (g .width .some) T begun (x .1) (g .width .reach) (past (x .1) (omega arith))
 
   module _ (some : (r ≡ s) → ⊥) where
     later : s < r
@@ -187,13 +193,13 @@ module _ (w d : ℕ) (T : List ℕ) {s z r : ℕ} (sound : Sound d T s) (g : Str
 
     -- the delimiter isn't just before the width
     free : col T r ≤ col T s + (w - 2)
-    free = open-still w d (g .some) T sound (omega arith) (g .reach) (g .last) r later (b .before) (b .found later)
+    free = open-still w d (g .width .some) T sound (omega arith) (g .width .reach) (g .last) r later (b .before) (b .found later)
 
     going : Going w d T s s r
     going =
         let m = g .more in
         let l = b .before in
-        reaches w d (g .some) T sound (omega arith) (λ y. b .found later) (omega (arith, free))
+        reaches w d (g .width .some) T sound (omega arith) (λ y. b .found later) (omega (arith, free))
         (λ k x y e. omega (arith, free, col-le T k r (omega arith))) begun later
 
     -- the piece after the delimiter
@@ -201,10 +207,10 @@ module _ (w d : ℕ) (T : List ℕ) {s z r : ℕ} (sound : Sound d T s) (g : Str
     next = let l = b .before in piece d T (suc r) (omega (arith, g .more))
 
     next-past : col T s + w < col T (next .0)
-    next-past = reach-past T (g .reach) (next .0) (past (next .1) (next .1 .from)) (next .1 .within)
+    next-past = reach-past T (g .width .reach) (next .0) (past (next .1) (next .1 .from)) (next .1 .within)
 
     room-left : col T (suc r) + textWidth (slice (suc r) z T) ≡ col T s + w
-    room-left = col-slice T (suc r) z (b .before) ∙ g .reach .columns
+    room-left = col-slice T (suc r) z (b .before) ∙ g .width .reach .columns
 
     -- at most 2 columns are free after the delimiter
     pub ends-tight : {f : ℕ} → f ≡ textWidth (slice (r + 1) z T) → f ≤ 2 → LineIs w d T s s r (r + 1)
@@ -212,7 +218,7 @@ module _ (w d : ℕ) (T : List ℕ) {s z r : ℕ} (sound : Sound d T s) (g : Str
         let m = g .more in
         let l = b .before in
         let k : f ≡ textWidth (slice (suc r) z T) = rw add-one at e in
-        rw (add-one r) (tight-cut w d (g .some) T sound going (omega arith) free (next .1) next-past (omega (arith, room-left)))
+        rw (add-one r) (tight-cut w d (g .width .some) T sound going (omega arith) free (next .1) next-past (omega (arith, room-left)))
 
     module _ {f : ℕ} {long : Bool} (count : f ≡ textWidth (slice (r + 1) z T)) (loose : 2 < f) (c : Long w d T (r + 1) long) where
       roomy : col T (suc r) + 2 < col T s + w
@@ -230,7 +236,7 @@ module _ (w d : ℕ) (T : List ℕ) {s z r : ℕ} (sound : Sound d T s) (g : Str
           let m = g .more in
           let l = b .before in
           let k = ltb-false w (textWidth (slice (suc r) (next .0) T)) (sym told ∙ h) in
-          rw (add-one r) (wrap-cut w d (g .some) T sound going (omega arith) free (next .1) next-past roomy (omega (arith, piece-columns)))
+          rw (add-one r) (wrap-cut w d (g .width .some) T sound going (omega arith) free (next .1) next-past roomy (omega (arith, piece-columns)))
 
       -- the next piece is longer than the width
       pub ends-fill : long ≡ true → LineIs w d T s s z z
@@ -238,7 +244,7 @@ module _ (w d : ℕ) (T : List ℕ) {s z r : ℕ} (sound : Sound d T s) (g : Str
           let m = g .more in
           let l = b .before in
           let k = ltb-true w (textWidth (slice (suc r) (next .0) T)) (sym told ∙ h) in
-          fill-cut w d (g .some) T sound going (omega arith) free (next .1) (g .reach) roomy (omega (arith, piece-columns))
+          fill-cut w d (g .width .some) T sound going (omega arith) free (next .1) (g .width .reach) roomy (omega (arith, piece-columns))
 
 -- ---- whether a piece is longer than the width
 

@@ -45,12 +45,10 @@ pub record AtWidth (w d : ℕ) (t : List ℕ) (s z : ℕ) : Type 0 where
   pub reach : Reach t s w z
   pub begun : getD t s 0 ≡ d → ⊥
 
--- t goes on past the place z where w columns from s on are reached, and no delimiter is at s, nor on either side of that place
+-- t goes on past that place, and no delimiter is on either side of it
 pub record Straddle (w d : ℕ) (t : List ℕ) (s z : ℕ) : Type 0 where
-  pub some : 0 < w
-  pub reach : Reach t s w z
+  pub width : AtWidth w d t s z
   pub more : z < length t
-  pub begun : getD t s 0 ≡ d → ⊥
   pub last : getD t (z - 1) 0 ≡ d → ⊥
   pub past : getD t z 0 ≡ d → ⊥
 

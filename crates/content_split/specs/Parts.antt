@@ -10,7 +10,7 @@ use Rattle.rules.specs.Wrap.{split}
 use Rattle.content_split.specs.declared.Part.{Part}
 use Rattle.content_split.specs.declared.Part.the-variants.{Line, Nothing}
 
--- the text t wraps, from position a on, into the line of its bytes s to e, and the lines that it wraps into from position n on; a character begins there
+-- the text t wraps, from position a on, into the line of its bytes s to e, and the lines that it wraps into from n on, where a character begins
 pub record LineIs (w d : ℕ) (t : List ℕ) (a s e n : ℕ) : Type 0 where
   pub after : a ≤ s
   pub some : s < e

@@ -129,8 +129,8 @@ pub walked-on : (T : List ℕ) (from w e left one : ℕ) → col T e + left ≡ 
     → one ≤ left → col T (e + 1) + (left - one) ≡ col T from + w
 walked-on T from w e left one q h o l = omega (arith, col-byte T e h)
 
-pub walked-there : (T : List ℕ) {from w e left one : ℕ} → from ≤ e → col T e + left ≡ col T from + w → e < length T → one ≡ textWidth (getD T e 0 ∷ [])
-    → left < one → Reached T from w e left
+pub walked-there : (T : List ℕ) {from w e left one : ℕ} → from ≤ e → col T e + left ≡ col T from + w → e < length T
+    → one ≡ textWidth (getD T e 0 ∷ []) → left < one → Reached T from w e left
 walked-there T {e = e} f q h o l =
     record {
       from = f;

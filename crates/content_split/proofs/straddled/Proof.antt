@@ -1,7 +1,6 @@
 use borrow.Author.Needs.{needs}
 use native.Mathlib.Omega.{arith}
-use Rattle.text_width.proofs.Measure.{reach-after}
-use Rattle.content_split.proofs.Back.{fills-whole, ends-tight, ends-wrap, ends-fill}
+use Rattle.content_split.proofs.Back.{after-start, fills-whole, ends-tight, ends-wrap, ends-fill}
 use Rattle.content_split.proofs.straddled.Statement.{statement}
 use Rattle.content_split.proofs.straddled.Tie as tie
 
@@ -9,7 +8,8 @@ pub straddled-spec : {M : Type 1} → statement M
 straddled-spec =
     tie.close
     (tie.spec
-    (λ c κs. let g = c .before .pre .0 in (reach-after _ (g .some) (g .reach), g .reach .within))
+    (λ c κs. let g = c .before .pre .0 .width in
+    (after-start _ _ _ g, g .reach .within))
     (λ c. search (needs, fills-whole))
     (λ c. search needs)
     (λ c κs. search needs)
