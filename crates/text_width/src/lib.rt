@@ -24,8 +24,8 @@ fn width_of(b: u8) -> u8
     1
 }
 
-// The columns of at most 255 bytes. A sum of one byte is what lets the compiler take sixteen bytes at a time, and so does a loop that
-// nothing ends early.
+// The columns of at most 255 bytes. The sum is one byte and nothing ends the loop early, so that the compiler takes sixteen bytes at
+// a time.
 fn count_few(text: &[u8], from: usize, to: usize) -> u8
     requires { ⌜ (from ≤ to) × ((to ≤ length (now text)) × (to - from ≤ 255)) ⌝ }
     ensures { λ r. ⌜ r ≡ textWidth (slice from to (now (text .entry))) ⌝ }
@@ -96,7 +96,7 @@ fn walk(text: &[u8], from: usize, width: usize) -> Place
     Place { at: e, left }
 }
 
-// The same, where there are that many bytes: a plain text isn't read, and what has no pair is counted, many bytes at a time.
+// The same, where there are that many bytes: a plain text isn't read; of another, the first `width` bytes are counted, many at a time.
 pub fn reach(text: &[u8], from: usize, width: usize, plain: bool) -> Place
     requires { ⌜ (from ≤ length (now text)) × ((width ≤ length (now text) - from) × IsPlain plain (now text)) ⌝ }
     ensures { λ r. ⌜ Reached (now (text .entry)) from width (r .at) (r .left) ⌝ }
