@@ -1,26 +1,31 @@
 -- Pieces written one after another, areas, and a cell's line as it is shown. Assumes nothing.
-use Prim.Native.Nat.{ℕ, zero, suc, _+_, _-_, _≤_, _<_, min, zero-le, suc-le-suc}
+use Prim.Native.Nat.{ℕ, zero, suc, _+_, _-_, _≤_, _<_}
 use mathlib.Core.Path.{_≡_, refl, sym, ap, _∙_}
 use mathlib.Core.List.{List, [], _∷_, _++_, append-assoc, append-nil}
-use mathlib.Core.Logic.{_⊎_, inl, inr, ⊎-elim}
 use mathlib.Core.Bool.{Bool, true, false, cond, _&&_}
 use native.Mathlib.Omega.{arith}
-use lib.ListN.{length, take, drop, length-append, length-replicate, length-take}
-use lib.Seq.{slice, length-slice, take-all, take-length, length-take-le, take-take, take-nil}
-use lib.Dec.{leb}
+use lib.ListN.{length, take, drop, length-append, length-replicate}
+use lib.Seq.{slice, length-slice, length-take-le, take-take, take-nil}
+use lib.Dec.{leb, ltb}
 use borrow.Author.Tests.{le-leb, lt-leb}
-use Rattle.rules.specs.Text.{textWidth, firstOf, blank}
+use Rattle.rules.specs.Text.{textWidth, bytesOf, firstOf, blank}
+use Rattle.rules.specs.Limits.{Plain}
 use Rattle.rules.specs.Wrap.{shownIndicator, cutLine}
 use Rattle.rules.specs.Page.{before}
-use Rattle.laws.proofs.Text.{width-length, width-append}
+use Rattle.laws.proofs.Text.{width-nil, width-append, width-le, width-first, first-all, bytes-plain, plain-take}
 use Rattle.laws.proofs.Sizes.{before-le}
+use Rattle.text_width.specs.Measure.{col, Reached}
+use Rattle.text_width.proofs.Measure.{col-slice, col-le, reached-all, reach-below, first-reach}
 use Rattle.table.specs.Walk.{firstLine}
+use Rattle.table.specs.declared.records.Indicator.{Indicator}
 use Rattle.buffer.specs.Put.{putAt}
 use Rattle.buffer.proofs.Laws.{two}
-use Rattle.row.specs.Pending.{pendingText, InSheet}
+use Rattle.cells.specs.declared.Next.{Next}
+use Rattle.row.specs.Pending.{pendingText, following, InSheet}
 use Rattle.row.specs.declared.VisibleColumn.{VisibleColumn}
 use Rattle.row.specs.declared.Pending.{Pending}
-use Rattle.formatting.specs.Area.{areaIn, marksShown, shownText, After, columnPiece}
+use Rattle.formatting.specs.Area.{areaIn, marksShown, IndicatorIs, LineIn, ShownIs, shownText, After, columnPiece}
+use Rattle.formatting.specs.declared.content_format.Shown.{Shown}
 
 -- four pieces
 pub four : (d : List ℕ) (at : ℕ) (a b c e d₁ d₂ d₃ d₄ : List ℕ) (p q r : ℕ) → d₁ ≡ putAt d at a → d₂ ≡ putAt d₁ p b → d₃ ≡ putAt d₂ q c → d₄ ≡ putAt
@@ -39,18 +44,15 @@ pub area-is : (v : VisibleColumn) (a : ℕ) (text marks : List ℕ) (spare b : �
 unfolding areaIn
 area-is v a text marks spare b e q = rw (← e, q, append-assoc)
 
--- the columns that are left free
-pub spare-is : (w : ℕ) (text marks : List ℕ) → textWidth text + textWidth marks ≤ w
-    → (w - length text - length marks ≡ w - textWidth (text ++ marks)) × (w - length text - length marks + (length text + length marks) ≡ w)
-spare-is w text marks h =
-    let a = width-length text in
-    let b = width-length marks in
-    (omega (arith, width-append text marks), omega arith)
+pub area-total : (v : VisibleColumn) (a : ℕ) (text marks : List ℕ) (spare b : ℕ) → spare ≡ v .width - textWidth (text ++ marks) → b ≡ before a spare
+    → length (areaIn v a (text ++ marks)) ≡ v .left + b + (length text + (length marks + (spare - b + v .right)))
+area-total v a text marks spare b e q =
+    sym (ap length (area-is v a text marks spare b e q)) ∙ simp (length-append, length-replicate) (omega arith)
 
-pub area-length : (v : VisibleColumn) (a : ℕ) (text : List ℕ) → textWidth text ≤ v .width → length (areaIn v a text) ≡ v .left + (v .width + v .right)
+-- its bytes: the columns that the text leaves free, and the text's own
+pub area-size : (v : VisibleColumn) (a : ℕ) (l : List ℕ) → textWidth l ≤ v .width → length (areaIn v a l) ≡ v .left + (v .width - textWidth l + length l) + v .right
 unfolding areaIn
-area-length v a text h =
-    simp (length-append, length-replicate) (omega (arith, before-le a (v .width - textWidth text), width-length text))
+area-size v a l h = simp (length-append, length-replicate) (omega (arith, before-le a (v .width - textWidth l)))
 
 -- the indicator's bytes, exit by exit
 pub marks-whole : (cut : Bool) (n w : ℕ) → cut ≡ true → n ≤ w → n ≡ marksShown cut n w
@@ -62,94 +64,158 @@ marks-wide cut n w e h = rw (e, lt-leb n w h)
 pub marks-none : (cut : Bool) (n w : ℕ) → cut ≡ false → 0 ≡ marksShown cut n w
 marks-none cut n w e = rw e
 
-le-or-lt : (a b : ℕ) → (a ≤ b) ⊎ (b < a)
-le-or-lt zero b = inl zero-le
-le-or-lt (suc a) zero = inr (suc-le-suc zero-le)
-le-or-lt (suc a) (suc b) = ⊎-elim (λ p. inl (suc-le-suc p)) (λ q. inr (suc-le-suc q)) (le-or-lt a b)
-
-take-min : (a b : ℕ) (l : List ℕ) → take a (take b l) ≡ take (min b a) l
-take-min a b l =
-    ⊎-elim
-    (λ (h : a ≤ b). let z : min b a ≡ a = omega arith in rw (z, take-take a b l h))
-    (λ (h : b < a). let z : min b a ≡ b = omega arith in rw (z, take-all a (take b l) (omega (arith, length-take b l))))
-    (le-or-lt a b)
-
-fitting-whole : (w : ℕ) (ind : List ℕ) → leb (length ind) w ≡ true → shownIndicator w ind ≡ ind
-unfolding shownIndicator
-fitting-whole w ind e = rw (width-length ind, e, shownIndicator)
-
-fitting-none : (w : ℕ) (ind : List ℕ) → leb (length ind) w ≡ false → shownIndicator w ind ≡ []
-unfolding shownIndicator
-fitting-none w ind e = rw (width-length ind, e, shownIndicator)
-
--- a cut line: its first bytes, and the indicator's
-cut-line : (b : Bool) (w : ℕ) (ind l : List ℕ) → leb (length ind) w ≡ b
-    → cutLine w ind l ≡ take (w - cond b (length ind) 0) l ++ take (cond b (length ind) 0) ind
-unfolding cutLine firstOf
-cut-line true w ind l e = rw (fitting-whole w ind e, width-length ind, take-length)
-cut-line false w ind l e = rw (fitting-none w ind e, width-length [])
-
 -- the bytes a to e of a text, as they are lent
-lent-slice : (a e : ℕ) (l : List ℕ) → take (e - a) (drop a l) ≡ slice a e l
+pub lent-slice : (a e : ℕ) (l : List ℕ) → take (e - a) (drop a l) ≡ slice a e l
 lent-slice zero e l = let z : e - 0 ≡ e = omega arith in rw z
 lent-slice (suc a) e [] = simp take-nil
 lent-slice (suc a) zero (x ∷ l) = let z : 0 - suc a ≡ 0 = omega arith in rw z
 lent-slice (suc a) (suc e) (x ∷ l) = let z : suc e - suc a ≡ e - a = omega arith in rw z (lent-slice a e l)
 
+-- ---- a line shortened
+
+first-bytes : (w : ℕ) (l : List ℕ) → firstOf w l ≡ take (bytesOf w l) l
+unfolding firstOf
+first-bytes w l = refl
+
+module _ (t : List ℕ) (l : Next) (w : ℕ) (I : LineIn t l) where
+  -- no more columns than bytes
+  pub line-bytes : l .columns ≤ l .end - l .start
+  line-bytes =
+      let x = slice (l .start) (l .end) t in
+      omega (arith, I .columns, width-le x, length-slice (l .start) (l .end) t (I .within))
+
+  pub shorten-whole : l .columns ≤ w → ShownIs t l w (record { end = l .end; columns = l .columns })
+  shorten-whole h = record {
+    order = I .order;
+    within = omega arith;
+    text = sym (first-all w (slice (l .start) (l .end) t) (omega (arith, I .columns)));
+    columns = I .columns;
+  }
+
+  -- the first columns take these bytes
+  first-columns : (z : ℕ) → w ≤ l .columns → slice (l .start) z t ≡ firstOf w (slice (l .start) (l .end) t) → w ≡ textWidth (slice (l .start) z t)
+  first-columns z h e = omega (arith, I .columns, width-first w (slice (l .start) (l .end) t), ap textWidth e)
+
+  pub shorten-plain : w < l .columns → l .columns ≡ l .end - l .start → ShownIs t l w (record { end = l .start + w; columns = w })
+  shorten-plain h e =
+      let x = slice (l .start) (l .end) t in
+      let n : length x ≡ l .end - l .start = length-slice (l .start) (l .end) t (I .within) in
+      let b : bytesOf w x ≡ w = bytes-plain w x (omega (arith, I .columns)) ∙ omega arith in
+      let d : l .start + w - l .start ≡ w = omega arith in
+      let c : slice (l .start) (l .start + w) t ≡ firstOf w x =
+      sym (lent-slice (l .start) (l .start + w) t) ∙ ap (λ k. take k (drop (l .start) t)) d
+      ∙ sym (first-bytes w x ∙ ap (λ k. take k x) b ∙ ap (take w) (sym (lent-slice (l .start) (l .end) t))
+      ∙ take-take w (l .end - l .start) (drop (l .start) t) (omega arith)) in
+      record { order = omega arith; within = omega arith; text = c; columns = first-columns (l .start + w) (omega arith) c }
+
+  pub shorten-counted : w < l .columns → (z left : ℕ) → Reached t (l .start) w z left → ShownIs t l w (record { end = z; columns = w })
+  shorten-counted h z left R =
+      let e : col t (l .start) + l .columns ≡ col t (l .end) = rw (I .columns) (col-slice t (l .start) (l .end) (I .order)) in
+      let r = reached-all t (lacks-none z left e R) R in
+      let b = reach-below t r (l .end) (omega arith) in
+      let c = sym (first-reach t r (l .end) (omega arith) (I .within)) in
+      record { order = R .from; within = omega arith; text = c; columns = first-columns z (omega arith) c }
+    where
+      lacks-none : (z left : ℕ) → col t (l .start) + l .columns ≡ col t (l .end) → Reached t (l .start) w z left → left ≤ 0
+      lacks-none z zero e R = omega arith
+      lacks-none z (suc n) e R =
+          let q = R .end (omega arith) in
+          absurd (omega (arith, R .columns, col-le t (l .end) z (omega (arith, I .within))))
+
+-- ---- a cell's line as it is shown
+
+-- a cut line: its first columns, and the indicator where it isn't wider than the content
+shown-cut : (w n m : ℕ) (chars l part : List ℕ) → n ≤ length chars → Plain (take n chars) → m ≡ cond (leb n w) n 0 → part ≡ firstOf (w - m) l
+    → part ++ take m chars ≡ cutLine w (take n chars) l
+unfolding cutLine shownIndicator
+shown-cut w n m chars l part h k e f = go (leb n w) refl
+  where
+    width : textWidth (take n chars) ≡ n
+    width = k ∙ length-take-le n chars h
+
+    whole : leb n w ≡ true → shownIndicator w (take n chars) ≡ take n chars
+    whole b = rw (width, b, shownIndicator)
+
+    none : leb n w ≡ false → shownIndicator w (take n chars) ≡ []
+    none b = rw (width, b, shownIndicator)
+
+    go : (b : Bool) → leb n w ≡ b → part ++ take m chars ≡ cutLine w (take n chars) l
+    go true b = let c : m ≡ n = rw b at e in rw (whole b, width, f, c)
+    go false b = let c : m ≡ 0 = rw b at e in rw (none b, width-nil, f, c)
+
 module _ (s : List ℕ) (w : ℕ) (t : Pending) (I : InSheet s w t) where
-  pending-length : length (pendingText s t) ≡ t .line .end - t .line .start
-  pending-length = length-slice (t .line .start) (t .line .end) (firstLine s (t .line .cursor .lines)) (I .within)
+  -- the line lies in its cell line
+  pub line-in : (text : List ℕ) → text ≡ firstLine s (t .line .cursor .lines) → LineIn text (t .line)
+  line-in text e = rw e (record { order = I .order; within = I .within; columns = I .columns })
 
-  pub pending-fits : t .line .end - t .line .start ≤ w
-  pending-fits = omega (arith, I .fits, width-length (pendingText s t), pending-length)
+  module _ (text : List ℕ) (et : text ≡ firstLine s (t .line .cursor .lines)) (ind : Indicator) (K : IndicatorIs ind) (cut : Bool) (m : ℕ)
+    (e : m ≡ marksShown cut (ind .count) w) (h : m ≤ w) (k : m ≤ ind .count) (r : Shown) (S : ShownIs text (t .line) (w - m) r) where
+      part-is : slice (t .line .start) (r .end) text ≡ firstOf (w - m) (pendingText s t)
+      part-is = S .text ∙ ap (λ x. firstOf (w - m) (slice (t .line .start) (t .line .end) x)) et
 
-  module _ (bytes : List ℕ) (n : ℕ) (k : n ≤ length bytes) (m stop : ℕ) (l : m ≤ n)
-      (q : stop ≡ t .line .start + min (t .line .end - t .line .start) (w - m)) where
-    -- how much of the cell line it takes
-    pub shown-within : (t .line .start ≤ stop) × (stop ≤ length (firstLine s (t .line .cursor .lines)))
-    shown-within = (omega arith, omega (arith, I .within, I .order))
+      -- the part of the cell line and of the indicator that are shown
+      pub shown-is : take (r .end - t .line .start) (drop (t .line .start) text) ++ take m (ind .characters)
+          ≡ shownText s w (take (ind .count) (ind .characters)) cut t
+      unfolding shownText
+      shown-is = ap (λ x. x ++ take m (ind .characters)) (lent-slice (t .line .start) (r .end) text) ∙ go cut refl
+        where
+          go : (b : Bool) → cut ≡ b
+              → slice (t .line .start) (r .end) text ++ take m (ind .characters) ≡ shownText s w (take (ind .count) (ind .characters)) b t
+          go true f = shown-cut w (ind .count) m (ind .characters) (pendingText s t) _ (K .within) (K .plain) (rw f at e) part-is
+          go false f =
+              let z : m ≡ 0 = rw f at e in
+              let a = part-is ∙ first-all (w - m) (pendingText s t) (omega (arith, I .fits)) in
+              rw (a, z) (append-nil (pendingText s t))
 
-    -- the part of the cell line and of the indicator that are shown
-    pub shown-is : (cut : Bool) → m ≡ marksShown cut n w
-        → take (stop - t .line .start) (drop (t .line .start) (firstLine s (t .line .cursor .lines))) ++ take m bytes ≡ shownText s w (take n bytes)
-        cut t
-    unfolding shownText
-    shown-is true e =
-        let i = length-take-le n bytes k in
-        let z : stop - t .line .start ≡ min (t .line .end - t .line .start) (w - m) = omega arith in
-        let b : take m (take n bytes) ≡ take m bytes = take-take m n bytes l in
-        let y : cond (leb (length (take n bytes)) w) (length (take n bytes)) 0 ≡ m = rw i (sym e) in
-        sym (cut-line (leb (length (take n bytes)) w) w (take n bytes) (pendingText s t) refl
-        ∙ rw (
-          y,
-          b,
-          z,
-          ← lent-slice (t .line .start) (t .line .end) (firstLine s (t .line .cursor .lines)),
-          take-min (w - m) (t .line .end - t .line .start) (drop (t .line .start) (firstLine s (t .line .cursor .lines))),
-        ))
-    shown-is false e =
-        let f = pending-fits in
-        let z : stop - t .line .start ≡ t .line .end - t .line .start = omega arith in
-        rw (e, append-nil, z) (lent-slice (t .line .start) (t .line .end) (firstLine s (t .line .cursor .lines)))
+      marks-width : textWidth (take m (ind .characters)) ≡ m
+      marks-width =
+          let a : take m (take (ind .count) (ind .characters)) ≡ take m (ind .characters) = take-take m (ind .count) (ind .characters) k in
+          let b = plain-take m (take (ind .count) (ind .characters)) (K .plain) in
+          rw a at b ∙ length-take-le m (ind .characters) (omega (arith, K .within))
 
-    -- how much of the column it takes
-    pub shown-fits : m ≤ w → textWidth (take (stop - t .line .start) (drop (t .line .start) (firstLine s (t .line .cursor .lines)))) + textWidth
-        (take m bytes) ≤ w
-    shown-fits x =
-        let a = take (stop - t .line .start) (drop (t .line .start) (firstLine s (t .line .cursor .lines))) in
-        let f = pending-fits in
-        omega (
-          arith,
-          width-length a,
-          width-length (take m bytes),
-          length-take-le m bytes (omega arith),
-          length-take (stop - t .line .start)
-              (drop (t .line .start) (firstLine s (t .line .cursor .lines))),
-        )
+      part-width : textWidth (take (r .end - t .line .start) (drop (t .line .start) text)) ≡ r .columns
+      part-width = ap textWidth (lent-slice (t .line .start) (r .end) text) ∙ sym (S .columns)
 
--- whether the line is cut is told by the line after it
+      -- its columns, its bytes, and what it leaves free
+      pub shown-columns : (textWidth (shownText s w (take (ind .count) (ind .characters)) cut t) ≡ r .columns + m) × (r .columns + m ≤ w)
+      shown-columns =
+          let part = take (r .end - t .line .start) (drop (t .line .start) text) in
+          let a = sym (ap textWidth shown-is) ∙ width-append part (take m (ind .characters)) in
+          let b = width-first (w - m) (pendingText s t) in
+          let c = S .columns ∙ ap textWidth part-is in
+          (omega (arith, a, part-width, marks-width), omega (arith, b, c))
+
+      pub shown-bytes : length (shownText s w (take (ind .count) (ind .characters)) cut t) ≡ r .end - t .line .start + m
+      shown-bytes =
+          let part = take (r .end - t .line .start) (drop (t .line .start) text) in
+          let a = sym (ap length shown-is) ∙ length-append part (take m (ind .characters)) in
+          let b = ap length (lent-slice (t .line .start) (r .end) text) ∙ length-slice (t .line .start) (r .end) text shown-within in
+          omega (arith, a, b, length-take-le m (ind .characters) (omega (arith, K .within)))
+        where
+          shown-within : r .end ≤ length text
+          shown-within = omega (arith, S .within, I .within, ap length et)
+
+      pub shown-inside : r .end ≤ length text
+      shown-inside = omega (arith, S .within, I .within, ap length et)
+
+      pub shown-spare : w - m - r .columns ≡ w - textWidth (shownText s w (take (ind .count) (ind .characters)) cut t)
+      shown-spare = omega (arith, shown-columns .0, shown-columns .1)
+
+      pub shown-size : (v : VisibleColumn) (a : ℕ) → w ≡ v .width
+          → v .left + (w - r .columns + (r .end - t .line .start)) + v .right
+          ≡ length (areaIn v a (shownText s w (take (ind .count) (ind .characters)) cut t))
+      shown-size v a f =
+          let l = shownText s w (take (ind .count) (ind .characters)) cut t in
+          let b = area-size v a l (omega (arith, f, shown-columns .0, shown-columns .1)) in
+          omega (arith, b, f, shown-columns .0, shown-columns .1, shown-bytes)
+
+-- whether a line is cut is told by the line after it
+pub piece-cut : (s : List ℕ) (v : VisibleColumn) (t : Pending) (ind : List ℕ) (last cut : Bool) → cut ≡ (last && ltb 0 (length (following s (v .width) t)))
+    → areaIn v (t .alignment) (shownText s (v .width) ind cut t) ≡ columnPiece s v t ind last
+unfolding columnPiece
+piece-cut s v t ind last cut e = rw e
+
 pub piece-is : (s : List ℕ) (v : VisibleColumn) (t r : Pending) (ind : List ℕ) (last cut : Bool) → cut ≡ (last && r .line .found) → After s (v .width)
     t r
     → areaIn v (t .alignment) (shownText s (v .width) ind cut t) ≡ columnPiece s v t ind last
-unfolding columnPiece
-piece-is s v t r ind last cut e a = rw (e, a .line .found)
+piece-is s v t r ind last cut e a = piece-cut s v t ind last cut (e ∙ ap (λ b. last && b) (a .line .found))

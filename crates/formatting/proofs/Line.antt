@@ -3,27 +3,23 @@ use Prim.Native.Nat.{ℕ, _+_, _≤_, _<_}
 use mathlib.Core.Path.{_≡_, refl, sym, ap, _∙_}
 use mathlib.Core.List.{List, [], _∷_, _++_, append-assoc}
 use mathlib.Core.Logic.{⊎-elim}
-use mathlib.Core.Bool.{Bool, true, false, _&&_, _||_}
+use mathlib.Core.Bool.{Bool, false, _||_}
 use native.Mathlib.Omega.{arith}
 use native.Mathlib.Numerals.{add-one}
 use native.Mathlib.Nat.{eq-or-lt-of-le}
 use lib.ListN.{length, set, length-set, length-append}
 use lib.Seq.{getD-set-same, getD-set-other}
-use lib.Dec.{ltb}
-use Rattle.rules.specs.Text.{textWidth}
 use Rattle.rules.specs.Sheet.{mostColumns}
-use Rattle.laws.proofs.Fits.{short-cutLine}
+use Rattle.rules.specs.Limits.{longestLine}
 use Rattle.buffer.specs.Put.{over, putAt, build, byteIf, lead}
 use Rattle.buffer.proofs.Laws.{put-nil, put-one, over-put-zero, build-room, build-more, two}
-use Rattle.row.specs.Pending.{InSheet, pendingText, following, noPending, pendingAt, Ready, anyFound}
+use Rattle.row.specs.Pending.{noPending, pendingAt, Ready, anyFound}
 use Rattle.row.specs.View.{View, visibleAt}
-use Rattle.row.specs.declared.VisibleColumn.{VisibleColumn}
 use Rattle.row.specs.declared.Pending.{Pending}
 use Rattle.row.proofs.Stand.{same-below}
-use Rattle.formatting.specs.Area.{After, shownText, columnPiece}
+use Rattle.formatting.specs.Area.{After, columnPiece}
 use Rattle.formatting.specs.Line.{linePiece, lineBytes, ReadyAll, AfterAll}
 use Rattle.formatting.specs.declared.content_format.TextStyle.{TextStyle}
-use Rattle.formatting.proofs.Area.{area-length}
 
 -- ---- every visible column's cell at its next line
 
@@ -66,16 +62,6 @@ module _ (s : List ℕ) (view : View) where
       (record { size = p .size; each = λ k l. p .done k (omega arith) }, rw e at (p .found))
 
 -- ---- lengths
-
-shown-length : (s : List ℕ) (w : ℕ) (ind : List ℕ) (cut : Bool) (t : Pending) → InSheet s w t → textWidth (shownText s w ind cut t) ≤ w
-unfolding shownText
-shown-length s w ind true t h = short-cutLine w ind (pendingText s t)
-shown-length s w ind false t h = h .fits
-
-pub piece-length : (s : List ℕ) (v : VisibleColumn) (t : Pending) (ind : List ℕ) (last : Bool) → InSheet s (v .width) t → length
-    (columnPiece s v t ind last) ≡ v .left + (v .width + v .right)
-unfolding columnPiece
-piece-length s v t ind last h = area-length v (t .alignment) _ (shown-length s (v .width) ind (last && ltb 0 (length (following s (v .width) t))) t h)
 
 module _ (s : List ℕ) (view : View) (ind : List ℕ) (style : TextStyle) (ts : List Pending) (last : Bool) where
   pub line-is : lineBytes s view ind style ts last ≡ byteIf (style .opens) (style .left) ++
@@ -137,23 +123,20 @@ module _ (s : List ℕ) (view : View) (ind : List ℕ) (style : TextStyle) (ts�
     unfolding linePiece
     piece-at = rw (D .passing .todo i (omega arith))
 
-    here-length : length (linePiece s view ind style ts₀ last i) ≡ length (byteIf (lead i (style .joined)) (style .junction)) +
-        (visibleAt view i .left + (visibleAt view i .width + visibleAt view i .right))
+    here-length : length (linePiece s view ind style ts₀ last i) ≡ length (byteIf (lead i (style .joined)) (style .junction))
+        + length (columnPiece s (visibleAt view i) (pendingAt ts i) ind last)
     here-length =
         sym (ap length piece-at)
         ∙ length-append (byteIf (lead i (style .joined)) (style .junction)) (columnPiece s (visibleAt view i) (pendingAt ts i) ind last)
-        ∙ ap (λ n. length (byteIf (lead i (style .joined)) (style .junction)) + n)
-        (piece-length s (visibleAt view i) (pendingAt ts i) ind last (ready .line))
 
     pub drawing-room : at₀ + length (build (linePiece s view ind style ts₀ last) (view .count)) ≤ length page₀
-        → at + (length (byteIf (lead i (style .joined)) (style .junction)) +
-        (visibleAt view i .left + (visibleAt view i .width + visibleAt view i .right))) ≤ length page
+        → at + (length (byteIf (lead i (style .joined)) (style .junction)) + length (columnPiece s (visibleAt view i) (pendingAt ts i) ind last))
+        ≤ length page
     drawing-room r = omega (arith, D .place, D .size, here-length, build-room (linePiece s view ind style ts₀ last) i (view .count) h)
 
     pub drawing-on : (page₁ : List ℕ) (u : Pending) (at₁ : ℕ) (m : Bool) → at₀ + length (build (linePiece s view ind style ts₀ last) (view .count)) ≤
         length page₀
-        → at₁ ≡ at + (length (byteIf (lead i (style .joined)) (style .junction)) +
-        (visibleAt view i .left + (visibleAt view i .width + visibleAt view i .right)))
+        → at₁ ≡ at + (length (byteIf (lead i (style .joined)) (style .junction)) + length (columnPiece s (visibleAt view i) (pendingAt ts i) ind last))
         → After s (visibleAt view i .width) (pendingAt ts i) u
         → page₁ ≡ putAt page at (byteIf (lead i (style .joined)) (style .junction) ++ columnPiece s (visibleAt view i) (pendingAt ts i) ind last)
         → length page₁ ≡ length page → m ≡ (more || u .line .found) → Drawing s view ind style ts₀ last page₀ at₀ page₁ (set ts i u) m at₁ (i + 1)
@@ -175,3 +158,42 @@ module _ (s : List ℕ) (view : View) (ind : List ℕ) (style : TextStyle) (ts�
       let w = D .passing .within in
       let e : i ≡ view .count = omega arith in
       rw e at D
+
+-- ---- a line measured, column by column
+
+-- the edges, the 0A and the columns before i take `size` bytes
+pub record Measuring (s : List ℕ) (view : View) (ind : List ℕ) (style : TextStyle) (ts : List Pending) (last : Bool) (size i : ℕ) : Type 0 where
+  pub within : i ≤ view .count
+  pub sum : size ≡ length (byteIf (style .opens) (style .left)) + length (byteIf (style .closes) (style .right)) + 1
+      + length (build (linePiece s view ind style ts last) i)
+
+module _ (s : List ℕ) (view : View) (ind : List ℕ) (style : TextStyle) (ts : List Pending) (last : Bool) where
+  pub measuring-begins : (a b n : ℕ) → a ≡ length (byteIf (style .opens) (style .left)) → b ≡ length (byteIf (style .closes) (style .right))
+      → n ≡ a + b + 1 → Measuring s view ind style ts last n 0
+  measuring-begins a b n e f g = record { within = omega arith; sum = omega (arith, e, f, g) }
+
+  module _ (size i : ℕ) (M : Measuring s view ind style ts last size i) where
+    -- a line that isn't too long leaves room for each of its columns
+    pub measuring-room : i < view .count → length (lineBytes s view ind style ts last) ≤ longestLine + 1
+        → size + (length (byteIf (lead i (style .joined)) (style .junction)) + length (columnPiece s (visibleAt view i) (pendingAt ts i) ind last))
+        ≤ longestLine + 1
+    unfolding linePiece
+    measuring-room h k =
+        let g = linePiece s view ind style ts last in
+        let a = length-append (byteIf (lead i (style .joined)) (style .junction)) (columnPiece s (visibleAt view i) (pendingAt ts i) ind last) in
+        omega (arith, a, M .sum, line-length s view ind style ts last, build-room g i (view .count) h)
+
+    pub measuring-on : i < view .count → (n : ℕ)
+        → n ≡ size + (length (byteIf (lead i (style .joined)) (style .junction)) + length (columnPiece s (visibleAt view i) (pendingAt ts i) ind last))
+        → Measuring s view ind style ts last n (i + 1)
+    unfolding linePiece
+    measuring-on h n e =
+        let g = linePiece s view ind style ts last in
+        let a = length-append (byteIf (lead i (style .joined)) (style .junction)) (columnPiece s (visibleAt view i) (pendingAt ts i) ind last) in
+        record { within = omega arith; sum = omega (arith, a, e, M .sum, ap length (build-more g i), length-append (build g i) (g i)) }
+
+    pub measuring-done : view .count ≤ i → size ≡ length (lineBytes s view ind style ts last)
+    measuring-done h =
+        let w = M .within in
+        let e : i ≡ view .count = omega arith in
+        omega (arith, rw e at (M .sum), line-length s view ind style ts last)

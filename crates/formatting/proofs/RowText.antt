@@ -22,7 +22,7 @@ use Rattle.row.specs.View.{View, Views}
 use Rattle.formatting.specs.Line.{lineBytes, AfterAll, ReadyAll}
 use Rattle.row.specs.Pending.{anyFound}
 use Rattle.formatting.specs.Part.{PartIs}
-use Rattle.formatting.specs.RowText.{styled, rowLines, rowHeight, Marks, Sized, StandsAt}
+use Rattle.formatting.specs.RowText.{styled, rowLines, rowHeight, Marks, Sized, Measurable, StandsAt}
 use Rattle.formatting.specs.Stand.{inLimit, lastOf}
 use Rattle.row.specs.Open.{OpenedRow}
 use Rattle.row.specs.declared.Pending.{Pending}
@@ -69,6 +69,29 @@ module _ (s : List ℕ) (view : View) (r : Row) (W : Views (tableOf s) (contents
     stands-within = first-true (inLimit (r .limit) j) (anyFound ts (view .count))
         (sym (height-has s (tableOf s) (contents (tableOf s)) r view W j ts (S .stands e)) ∙ sym (S .has) ∙ e)
 
+    -- the pending line is the row's
+    module _ (i : Indicator) (M : Marks s i) (y : TextStyle) (limit : ℕ) (el : limit ≡ r .limit) (last : Bool) (ea : last ≡ lastOf limit j) where
+      pub line-here : lineBytes s view (take (i .count) (i .characters)) y ts last ≡ getD (rowLines s y r) j [] ++ (10 ∷ [])
+      line-here =
+          rw (M .are, ea, el)
+          (line-styled s (tableOf s) (contents (tableOf s)) r view W j ts (S .stands e) y stands-within
+          ∙ ap (λ l. l ++ (10 ∷ [])) (sym (line-of s y r j stands-less)))
+
+      pub here-size : length (lineBytes s view (take (i .count) (i .characters)) y ts last) ≡ length (getD (rowLines s y r) j []) + 1
+      here-size = ap length line-here ∙ length-append (getD (rowLines s y r) j []) (10 ∷ [])
+
+    -- it can be measured
+    pub stands-measurable : (i : Indicator) → Marks s i → (y : TextStyle) (limit : ℕ) → limit ≡ r .limit → (plain : Bool) (n : ℕ) → Sized s y r plain n
+        → Measurable s view i y ts (lastOf limit j) plain n
+    stands-measurable i M y limit el plain n Z =
+        let h = here-size i M y limit el (lastOf limit j) refl in
+        record {
+          ready = stands-drawn;
+          indicator = M .indicator;
+          short = omega (arith, h, Z .short j stands-less);
+          each = λ p. sym (h ∙ Z .each p j stands-less);
+        }
+
     -- the row goes on
     pub stands-more : (limit : ℕ) → limit ≡ r .limit → (us : List Pending) (found m : Bool) → AfterAll s view ts us → found ≡ anyFound us
         (view .count)
@@ -79,22 +102,40 @@ module _ (s : List ℕ) (view : View) (r : Row) (W : Views (tableOf s) (contents
 
 -- ---- lines drawn
 
--- the lines from `first` up to `line` are written, and line `line` is pending, if the row has it
+-- the lines from `first` up to `line` are written, and line `line`, which takes `size` bytes, is pending, if the row has it
 pub record Running (s : List ℕ) (view : View) (y : TextStyle) (r : Row) (first : ℕ) (b page : List ℕ) (ts : List Pending) (more : Bool)
-    (at line : ℕ) : Type 0 where
+    (at line : ℕ) (last : Bool) (size : ℕ) : Type 0 where
   pub onward : first ≤ line
   pub stands : StandsAt s view r line more ts
   pub part : PartIs (take (line - first) (drop first (rowLines s y r))) b page (record { lines = line - first; bytes = at; whole = true })
+  pub last-is : last ≡ lastOf (r .limit) line
+  pub size-is : more ≡ true → size ≡ length (getD (rowLines s y r) line []) + 1
 
-module _ (s : List ℕ) (view : View) (y : TextStyle) (r : Row) (first : ℕ) (W : Views (tableOf s) (contents (tableOf s)) view) (b : List ℕ) where
-  pub running-begins : (ts : List Pending) (more : Bool) → StandsAt s view r first more ts → Running s view y r first b b ts more 0 first
-  running-begins ts more S =
+module _ (s : List ℕ) (view : View) (y : TextStyle) (r : Row) (first : ℕ) (W : Views (tableOf s) (contents (tableOf s)) view) (b : List ℕ)
+    (i : Indicator) (M : Marks s i) (limit : ℕ) (el : limit ≡ r .limit) where
+  -- what is known of the line that comes next
+  ahead-size : (line : ℕ) (more : Bool) (ts : List Pending) (last : Bool) (size : ℕ) → StandsAt s view r line more ts → last ≡ lastOf limit line
+      → (more ≡ true → size ≡ length (lineBytes s view (take (i .count) (i .characters)) y ts last))
+      → more ≡ true → size ≡ length (getD (rowLines s y r) line []) + 1
+  ahead-size line more ts last size S ea h e = h e ∙ here-size s view r W line more ts S e i M y limit el last ea
+
+  pub running-begins : (ts : List Pending) (more last : Bool) (size : ℕ) → StandsAt s view r first more ts → last ≡ lastOf limit first
+      → (more ≡ true → size ≡ length (lineBytes s view (take (i .count) (i .characters)) y ts last))
+      → Running s view y r first b b ts more 0 first last size
+  running-begins ts more last size S ea h =
       let z : first - first ≡ 0 = omega arith in
-      record { onward = omega arith; stands = S; part = rw z (part-none b) }
+      record {
+        onward = omega arith;
+        stands = S;
+        part = rw z (part-none b);
+        last-is = ea ∙ ap (λ n. lastOf n first) el;
+        size-is = ahead-size first more ts last size S ea h;
+      }
 
-  module _ (page : List ℕ) (ts : List Pending) (more : Bool) (at line : ℕ) (G : Running s view y r first b page ts more at line) where
-    pub running-size : length page ≡ length b
-    running-size = part-length _ b page _ (G .part)
+  module _ (page : List ℕ) (ts : List Pending) (more : Bool) (at line : ℕ) (last : Bool) (size : ℕ)
+      (G : Running s view y r first b page ts more at line last size) where
+    pub running-length : length page ≡ length b
+    running-length = part-length _ b page _ (G .part)
 
     pub running-room : at ≤ length page
     running-room = part-room _ b page _ (G .part)
@@ -109,46 +150,44 @@ module _ (s : List ℕ) (view : View) (y : TextStyle) (r : Row) (first : ℕ) (W
       here-at : getD (drop first (rowLines s y r)) (line - first) [] ≡ getD (rowLines s y r) line []
       here-at = getD-drop first (rowLines s y r) (line - first) [] ∙ ap (λ k. getD (rowLines s y r) k []) (omega (arith, G .onward))
 
-      module _ (i : Indicator) (M : Marks s i) (limit : ℕ) (el : limit ≡ r .limit) (last : Bool) (ea : last ≡ lastOf limit line) where
-        pub line-here : lineBytes s view (take (i .count) (i .characters)) y ts last ≡ getD (rowLines s y r) line [] ++ (10 ∷ [])
-        line-here =
-            rw (M .are, ea, el)
-            (line-styled s (tableOf s) (contents (tableOf s)) r view W line ts (G .stands .stands e) y
-            (stands-within s view r W line more ts (G .stands) e)
-            ∙ ap (λ l. l ++ (10 ∷ [])) (sym (line-of s y r line less)))
+      here : lineBytes s view (take (i .count) (i .characters)) y ts last ≡ getD (rowLines s y r) line [] ++ (10 ∷ [])
+      here = line-here s view r W line more ts (G .stands) e i M y limit el last (G .last-is ∙ ap (λ n. lastOf n line) (sym el))
 
-        pub line-size : (size : ℕ) → Sized s y r size → length (lineBytes s view (take (i .count) (i .characters)) y ts last) ≡ size
-        line-size size Z = ap length line-here ∙ length-append (getD (rowLines s y r) line []) (10 ∷ []) ∙ Z .each line less
+      pub running-size : length (lineBytes s view (take (i .count) (i .characters)) y ts last) ≡ size
+      running-size = ap length here ∙ length-append (getD (rowLines s y r) line []) (10 ∷ []) ∙ sym (G .size-is e)
 
-        pub running-on : (size : ℕ) → Sized s y r size → size ≤ length page - at → (c ys : List ℕ) (us : List Pending) (found m : Bool) (n : ℕ)
-            → ys ≡ over (lineBytes s view (take (i .count) (i .characters)) y ts last) (take (length page - at) (drop at page)) → c ≡ putMid at
-            (length page - at) page ys
-            → n ≡ length (lineBytes s view (take (i .count) (i .characters)) y ts last) → AfterAll s view ts us → found ≡ anyFound us (view .count)
-            → m ≡ (inLimit limit (line + 1) && found) → Running s view y r first b c us m (at + n) (line + 1)
-        running-on size Z room c ys us found m n o p q a f g =
-            let l = getD (rowLines s y r) line [] in
-            let lines = drop first (rowLines s y r) in
-            let wide : n ≡ length (getD (rowLines s y r) line []) + 1 = q ∙ ap length line-here ∙ length-append (getD (rowLines s y r) line [])
-            (10 ∷ []) in
-            let fits : length (getD (rowLines s y r) line []) + 1 ≤ length (take (length page - at) (drop at page)) =
-            omega (arith, room, Z .each line less, ap length (lent page at), length-drop at page) in
-            let one = part-line (getD (rowLines s y r) line []) (take (length page - at) (drop at page)) ys fits
-            (o ∙ ap (λ t. over t (take (length page - at) (drop at page))) line-here) in
-            let so-far = take (line - first) (drop first (rowLines s y r)) in
-            let both = part-join (take (line - first) (drop first (rowLines s y r))) (getD (rowLines s y r) line [] ∷ []) b page c ys
-            (record { lines = line - first; bytes = at; whole = true })
-            (record { lines = 1; bytes = length (getD (rowLines s y r) line []) + 1; whole = true })
-            (G .part) refl one p in
-            let k : line + 1 - first ≡ suc (line - first) = omega (arith, G .onward) in
-            let grown : take (line + 1 - first) (drop first (rowLines s y r)) ≡ take (line - first) (drop first (rowLines s y r)) ++
-            (getD (rowLines s y r) line [] ∷ []) =
-            ap (λ j. take j (drop first (rowLines s y r))) k ∙ take-suc (drop first (rowLines s y r)) (line - first) [] left ∙ rw here-at in
-            let count : line + 1 - first ≡ line - first + 1 = omega (arith, G .onward) in
-            record {
-              onward = omega (arith, G .onward);
-              stands = stands-more s view r W line more ts (G .stands) e limit el us found m a f g;
-              part = rw (grown, count, wide) both;
-            }
+      module _ (room : size ≤ length page - at) (c ys : List ℕ) (us : List Pending) (found m : Bool) (n : ℕ)
+        (o : ys ≡ over (lineBytes s view (take (i .count) (i .characters)) y ts last) (take (length page - at) (drop at page)))
+        (p : c ≡ putMid at (length page - at) page ys) (q : n ≡ length (lineBytes s view (take (i .count) (i .characters)) y ts last))
+        (a : AfterAll s view ts us) (f : found ≡ anyFound us (view .count)) (g : m ≡ (inLimit limit (line + 1) && found)) where
+          pub running-stands : StandsAt s view r (line + 1) m us
+          running-stands = stands-more s view r W line more ts (G .stands) e limit el us found m a f g
+
+          pub running-on : (last′ : Bool) (size′ : ℕ) → last′ ≡ lastOf limit (line + 1)
+              → (m ≡ true → size′ ≡ length (lineBytes s view (take (i .count) (i .characters)) y us last′))
+              → Running s view y r first b c us m (at + n) (line + 1) last′ size′
+          running-on last′ size′ ea h =
+              let wide : n ≡ length (getD (rowLines s y r) line []) + 1 = q ∙ running-size ∙ G .size-is e in
+              let fits : length (getD (rowLines s y r) line []) + 1 ≤ length (take (length page - at) (drop at page)) =
+              omega (arith, room, G .size-is e, ap length (lent page at), length-drop at page) in
+              let one = part-line (getD (rowLines s y r) line []) (take (length page - at) (drop at page)) ys fits
+              (o ∙ ap (λ t. over t (take (length page - at) (drop at page))) here) in
+              let both = part-join (take (line - first) (drop first (rowLines s y r))) (getD (rowLines s y r) line [] ∷ []) b page c ys
+              (record { lines = line - first; bytes = at; whole = true })
+              (record { lines = 1; bytes = length (getD (rowLines s y r) line []) + 1; whole = true })
+              (G .part) refl one p in
+              let k : line + 1 - first ≡ suc (line - first) = omega (arith, G .onward) in
+              let grown : take (line + 1 - first) (drop first (rowLines s y r)) ≡ take (line - first) (drop first (rowLines s y r)) ++
+              (getD (rowLines s y r) line [] ∷ []) =
+              ap (λ j. take j (drop first (rowLines s y r))) k ∙ take-suc (drop first (rowLines s y r)) (line - first) [] left ∙ rw here-at in
+              let count : line + 1 - first ≡ line - first + 1 = omega (arith, G .onward) in
+              record {
+                onward = omega (arith, G .onward);
+                stands = running-stands;
+                part = rw (grown, count, wide) both;
+                last-is = ea ∙ ap (λ n. lastOf n (line + 1)) el;
+                size-is = ahead-size (line + 1) m us last′ size′ running-stands ea h;
+              }
 
     -- the row has no further line
     pub running-ends : more ≡ false → PartIs (drop first (rowLines s y r)) b page (record { lines = line - first; bytes = at; whole = true })
@@ -159,11 +198,9 @@ module _ (s : List ℕ) (view : View) (y : TextStyle) (r : Row) (first : ℕ) (W
         rw all at (G .part)
 
     -- there is no room for it
-    pub running-full : more ≡ true → (size : ℕ) → Sized s y r size → length page - at < size
+    pub running-full : more ≡ true → length page - at < size
         → PartIs (drop first (rowLines s y r)) b page (record { lines = line - first; bytes = at; whole = false })
-    running-full e size Z h =
-        let lines = drop first (rowLines s y r) in
-        let rest = drop (suc (line - first)) (drop first (rowLines s y r)) in
+    running-full e h =
         let next : drop (line - first) (drop first (rowLines s y r)) ≡ getD (rowLines s y r) line [] ∷ drop (suc (line - first))
         (drop first (rowLines s y r)) =
         drop-cons (drop first (rowLines s y r)) (line - first) [] (left e) ∙ rw (here-at e) in
@@ -173,7 +210,7 @@ module _ (s : List ℕ) (view : View) (y : TextStyle) (r : Row) (first : ℕ) (W
         sym (take-append-drop (line - first) (drop first (rowLines s y r))) ∙ rw next in
         let none = part-full (getD (rowLines s y r) line []) (drop (suc (line - first)) (drop first (rowLines s y r)))
         (take (length page - at) (drop at page))
-        (omega (arith, Z .each line (less e), ap length (lent page at), length-drop at page)) in
+        (omega (arith, G .size-is e, ap length (lent page at), length-drop at page)) in
         let both = part-join (take (line - first) (drop first (rowLines s y r)))
         (getD (rowLines s y r) line [] ∷ drop (suc (line - first)) (drop first (rowLines s y r)))
         b page page (take (length page - at) (drop at page)) (record { lines = line - first; bytes = at; whole = true })
@@ -184,12 +221,12 @@ module _ (s : List ℕ) (view : View) (y : TextStyle) (r : Row) (first : ℕ) (W
         subst (λ (ls : List (List ℕ)). PartIs ls b page (record { lines = line - first; bytes = at; whole = false })) (sym whole) (rw (z, w) at both)
 
     -- what has been drawn where the loop ends
-    pub running-done : (size : ℕ) → Sized s y r size → (t : Bool) → t ≡ (more && leb size (length page - at)) → t ≡ false
+    pub running-done : (t : Bool) → t ≡ (more && leb size (length page - at)) → t ≡ false
         → PartIs (drop first (rowLines s y r)) b page (record { lines = line - first; bytes = at; whole = not more })
-    running-done size Z t e f = by more refl
+    running-done t e f = by more refl
       where
         by : (m : Bool) → more ≡ m → PartIs (drop first (rowLines s y r)) b page (record { lines = line - first; bytes = at; whole = not m })
-        by true q = running-full q size Z (leb-false size (length page - at) (sym (rw q at e) ∙ f))
+        by true q = running-full q (leb-false size (length page - at) (sym (rw q at e) ∙ f))
         by false q = running-ends q
 
 -- ---- the loop's test

@@ -1,7 +1,7 @@
 // The text lines of a row, drawn one after another. A cell's next wrapped line is found one line ahead, so that each is found once.
 ghost use mathlib.Core.Path.{_≡_};
 ghost use mathlib.Core.List.{_++_};
-ghost use mathlib.Core.Bool.{_&&_};
+ghost use mathlib.Core.Bool.{true, _&&_};
 ghost use Prim.Native.Nat.{_+_, _-_, _≤_, _<_};
 ghost use lib.ListN.{length, take, drop};
 ghost use lib.Dec.{leb, ltb};
@@ -412,7 +412,7 @@ pub struct Upcoming {
 }
 
 // On a plain page each text line takes `size` bytes, and needn't be measured.
-fn upcoming(
+fn look_ahead(
     sheet: &[u8],
     columns: &[[usize; 6]; MOST_COLUMNS],
     count: usize,
@@ -426,11 +426,11 @@ fn upcoming(
     state: &[[usize; 10]; MOST_COLUMNS],
 ) -> Upcoming
     requires { ⌜ line ≤ mostLines ⌝ }
-    requires { ⌜ more ≡ true → Measurable (now sheet) (viewOf (now columns) count) indicator style (pendingsOf (now state)) (lastOf limit line) plain size ⌝ }
+    requires { ⌜ (more ≡ true → Measurable (now sheet) (viewOf (now columns) count) indicator style (pendingsOf (now state)) (lastOf limit line) plain size) ⌝ }
     ensures { λ r. ⌜ r .last ≡ lastOf limit line ⌝ }
     ensures { λ r.
-        ⌜ more ≡ true → r .size ≡ length (lineBytes (now (sheet .entry)) (viewOf (now (columns .entry)) count) (take (indicator .count) (indicator .characters)) style
-        (pendingsOf (now (state .entry))) (r .last)) ⌝ }
+        ⌜ (more ≡ true → r .size ≡ length (lineBytes (now (sheet .entry)) (viewOf (now (columns .entry)) count) (take (indicator .count) (indicator .characters))
+        style (pendingsOf (now (state .entry))) (r .last))) ⌝ }
 {
     let last = is_last(limit, line);
     if plain {
@@ -469,7 +469,7 @@ pub fn draw_row(
     let mut more = entered.more;
     let mut at: usize = 0;
     let mut line = first;
-    let mut next = upcoming(
+    let mut next = look_ahead(
         sheet,
         columns,
         count,
@@ -496,7 +496,7 @@ pub fn draw_row(
         at += l.written;
         line += 1;
         more = has_line(limit, line, l.more);
-        next = upcoming(
+        next = look_ahead(
             sheet,
             columns,
             count,

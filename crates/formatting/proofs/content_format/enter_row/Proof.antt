@@ -16,7 +16,8 @@ enter-row-spec =
     let s = c .before .before .before .before in
     let D = s .pre .0 in
     let r = c .before .before .row in
-    ((D .rising, (D .wide, cells-inside (now (s .args .sheet)) (s .args .here) (r .result) (D .some) (D .ends) (r .ensures))), s .pre .1))
+    ((D .rising, (D .usable, s .pre .1)),
+    (cells-inside (now (s .args .sheet)) (s .args .here) (r .result) (D .some) (D .ends) (r .ensures), rw (r .ensures .cells) (D .known))))
     (λ c κs. search needs)
     (λ c.
     let s = c .before .before .before .before .before .before in
@@ -27,6 +28,6 @@ enter-row-spec =
     record {
       limit = r .ensures .limit;
       stands = enters (now (a .sheet)) (viewOf (now (a .columns)) (a .count)) (firstRow (now (a .sheet)) (a .here)) (D .views) (a .n)
-          (pendingsOf (f .last .1 .1 .1 .1 .1 .0)) (f .result) (c .has-line .result) _ (rw (r .ensures .cells) at (f .ensures .0)) (f .ensures .1)
+          (pendingsOf (f .last .1 .1 .1 .1 .1 .1 .0)) (f .result) (c .has-line .result) _ (rw (r .ensures .cells) at (f .ensures .0)) (f .ensures .1)
           (r .ensures .limit) (c .has-line .ensures);
     }))
