@@ -149,65 +149,65 @@ module _ (s : List ℕ) (w : ℕ) (t : Pending) (I : InSheet s w t) where
   line-in text e = rw e (record { order = I .order; within = I .within; columns = I .columns })
 
   module _ (text : List ℕ) (et : text ≡ firstLine s (t .line .cursor .lines)) (ind : Indicator) (K : IndicatorIs ind) (cut : Bool) (m : ℕ)
-    (e : m ≡ marksShown cut (ind .count) w) (h : m ≤ w) (k : m ≤ ind .count) (r : Shown) (S : ShownIs text (t .line) (w - m) r) where
-      part-is : slice (t .line .start) (r .end) text ≡ firstOf (w - m) (pendingText s t)
-      part-is = S .text ∙ ap (λ x. firstOf (w - m) (slice (t .line .start) (t .line .end) x)) et
+      (e : m ≡ marksShown cut (ind .count) w) (h : m ≤ w) (k : m ≤ ind .count) (r : Shown) (S : ShownIs text (t .line) (w - m) r) where
+    part-is : slice (t .line .start) (r .end) text ≡ firstOf (w - m) (pendingText s t)
+    part-is = S .text ∙ ap (λ x. firstOf (w - m) (slice (t .line .start) (t .line .end) x)) et
 
-      -- the part of the cell line and of the indicator that are shown
-      pub shown-is : take (r .end - t .line .start) (drop (t .line .start) text) ++ take m (ind .characters)
-          ≡ shownText s w (take (ind .count) (ind .characters)) cut t
-      unfolding shownText
-      shown-is = ap (λ x. x ++ take m (ind .characters)) (lent-slice (t .line .start) (r .end) text) ∙ go cut refl
-        where
-          go : (b : Bool) → cut ≡ b
-              → slice (t .line .start) (r .end) text ++ take m (ind .characters) ≡ shownText s w (take (ind .count) (ind .characters)) b t
-          go true f = shown-cut w (ind .count) m (ind .characters) (pendingText s t) _ (K .within) (K .plain) (rw f at e) part-is
-          go false f =
-              let z : m ≡ 0 = rw f at e in
-              let a = part-is ∙ first-all (w - m) (pendingText s t) (omega (arith, I .fits)) in
-              rw (a, z) (append-nil (pendingText s t))
+    -- the part of the cell line and of the indicator that are shown
+    pub shown-is : take (r .end - t .line .start) (drop (t .line .start) text) ++ take m (ind .characters)
+        ≡ shownText s w (take (ind .count) (ind .characters)) cut t
+    unfolding shownText
+    shown-is = ap (λ x. x ++ take m (ind .characters)) (lent-slice (t .line .start) (r .end) text) ∙ go cut refl
+      where
+        go : (b : Bool) → cut ≡ b
+            → slice (t .line .start) (r .end) text ++ take m (ind .characters) ≡ shownText s w (take (ind .count) (ind .characters)) b t
+        go true f = shown-cut w (ind .count) m (ind .characters) (pendingText s t) _ (K .within) (K .plain) (rw f at e) part-is
+        go false f =
+            let z : m ≡ 0 = rw f at e in
+            let a = part-is ∙ first-all (w - m) (pendingText s t) (omega (arith, I .fits)) in
+            rw (a, z) (append-nil (pendingText s t))
 
-      marks-width : textWidth (take m (ind .characters)) ≡ m
-      marks-width =
-          let a : take m (take (ind .count) (ind .characters)) ≡ take m (ind .characters) = take-take m (ind .count) (ind .characters) k in
-          let b = plain-take m (take (ind .count) (ind .characters)) (K .plain) in
-          rw a at b ∙ length-take-le m (ind .characters) (omega (arith, K .within))
+    marks-width : textWidth (take m (ind .characters)) ≡ m
+    marks-width =
+        let a : take m (take (ind .count) (ind .characters)) ≡ take m (ind .characters) = take-take m (ind .count) (ind .characters) k in
+        let b = plain-take m (take (ind .count) (ind .characters)) (K .plain) in
+        rw a at b ∙ length-take-le m (ind .characters) (omega (arith, K .within))
 
-      part-width : textWidth (take (r .end - t .line .start) (drop (t .line .start) text)) ≡ r .columns
-      part-width = ap textWidth (lent-slice (t .line .start) (r .end) text) ∙ sym (S .columns)
+    part-width : textWidth (take (r .end - t .line .start) (drop (t .line .start) text)) ≡ r .columns
+    part-width = ap textWidth (lent-slice (t .line .start) (r .end) text) ∙ sym (S .columns)
 
-      -- its columns, its bytes, and what it leaves free
-      pub shown-columns : (textWidth (shownText s w (take (ind .count) (ind .characters)) cut t) ≡ r .columns + m) × (r .columns + m ≤ w)
-      shown-columns =
-          let part = take (r .end - t .line .start) (drop (t .line .start) text) in
-          let a = sym (ap textWidth shown-is) ∙ width-append part (take m (ind .characters)) in
-          let b = width-first (w - m) (pendingText s t) in
-          let c = S .columns ∙ ap textWidth part-is in
-          (omega (arith, a, part-width, marks-width), omega (arith, b, c))
+    -- its columns, its bytes, and what it leaves free
+    pub shown-columns : (textWidth (shownText s w (take (ind .count) (ind .characters)) cut t) ≡ r .columns + m) × (r .columns + m ≤ w)
+    shown-columns =
+        let part = take (r .end - t .line .start) (drop (t .line .start) text) in
+        let a = sym (ap textWidth shown-is) ∙ width-append part (take m (ind .characters)) in
+        let b = width-first (w - m) (pendingText s t) in
+        let c = S .columns ∙ ap textWidth part-is in
+        (omega (arith, a, part-width, marks-width), omega (arith, b, c))
 
-      pub shown-bytes : length (shownText s w (take (ind .count) (ind .characters)) cut t) ≡ r .end - t .line .start + m
-      shown-bytes =
-          let part = take (r .end - t .line .start) (drop (t .line .start) text) in
-          let a = sym (ap length shown-is) ∙ length-append part (take m (ind .characters)) in
-          let b = ap length (lent-slice (t .line .start) (r .end) text) ∙ length-slice (t .line .start) (r .end) text shown-within in
-          omega (arith, a, b, length-take-le m (ind .characters) (omega (arith, K .within)))
-        where
-          shown-within : r .end ≤ length text
-          shown-within = omega (arith, S .within, I .within, ap length et)
+    pub shown-bytes : length (shownText s w (take (ind .count) (ind .characters)) cut t) ≡ r .end - t .line .start + m
+    shown-bytes =
+        let part = take (r .end - t .line .start) (drop (t .line .start) text) in
+        let a = sym (ap length shown-is) ∙ length-append part (take m (ind .characters)) in
+        let b = ap length (lent-slice (t .line .start) (r .end) text) ∙ length-slice (t .line .start) (r .end) text shown-within in
+        omega (arith, a, b, length-take-le m (ind .characters) (omega (arith, K .within)))
+      where
+        shown-within : r .end ≤ length text
+        shown-within = omega (arith, S .within, I .within, ap length et)
 
-      pub shown-inside : r .end ≤ length text
-      shown-inside = omega (arith, S .within, I .within, ap length et)
+    pub shown-inside : r .end ≤ length text
+    shown-inside = omega (arith, S .within, I .within, ap length et)
 
-      pub shown-spare : w - m - r .columns ≡ w - textWidth (shownText s w (take (ind .count) (ind .characters)) cut t)
-      shown-spare = omega (arith, shown-columns .0, shown-columns .1)
+    pub shown-spare : w - m - r .columns ≡ w - textWidth (shownText s w (take (ind .count) (ind .characters)) cut t)
+    shown-spare = omega (arith, shown-columns .0, shown-columns .1)
 
-      pub shown-size : (v : VisibleColumn) (a : ℕ) → w ≡ v .width
-          → v .left + (w - r .columns + (r .end - t .line .start)) + v .right
-          ≡ length (areaIn v a (shownText s w (take (ind .count) (ind .characters)) cut t))
-      shown-size v a f =
-          let l = shownText s w (take (ind .count) (ind .characters)) cut t in
-          let b = area-size v a l (omega (arith, f, shown-columns .0, shown-columns .1)) in
-          omega (arith, b, f, shown-columns .0, shown-columns .1, shown-bytes)
+    pub shown-size : (v : VisibleColumn) (a : ℕ) → w ≡ v .width
+        → v .left + (w - r .columns + (r .end - t .line .start)) + v .right
+        ≡ length (areaIn v a (shownText s w (take (ind .count) (ind .characters)) cut t))
+    shown-size v a f =
+        let l = shownText s w (take (ind .count) (ind .characters)) cut t in
+        let b = area-size v a l (omega (arith, f, shown-columns .0, shown-columns .1)) in
+        omega (arith, b, f, shown-columns .0, shown-columns .1, shown-bytes)
 
 -- whether a line is cut is told by the line after it
 pub piece-cut : (s : List ℕ) (v : VisibleColumn) (t : Pending) (ind : List ℕ) (last cut : Bool) → cut ≡ (last && ltb 0 (length (following s (v .width) t)))

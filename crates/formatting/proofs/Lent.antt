@@ -3,6 +3,7 @@ use Prim.Native.Nat.{ℕ, _+_, _≤_, _<_}
 use mathlib.Core.Path.{_≡_, sym, ap, _∙_}
 use mathlib.Core.List.{List, [], _++_}
 use mathlib.Core.Bool.{Bool, _||_}
+use native.Mathlib.Omega.{arith}
 use lib.ListN.{length, take, set, getD}
 use Rattle.rules.specs.Limits.{longestLine}
 use Rattle.table.specs.declared.records.Indicator.{Indicator}
@@ -16,7 +17,7 @@ use Rattle.row.proofs.Lent.{column-at, pending-at, pendings-set}
 use Rattle.formatting.specs.Area.{After, IndicatorIs, columnPiece}
 use Rattle.formatting.specs.Line.{linePiece, lineBytes, ReadyAll}
 use Rattle.formatting.specs.declared.content_format.TextStyle.{TextStyle}
-use Rattle.formatting.proofs.Line.{Drawing, column-ready, drawing-room, drawing-on, Measuring, measuring-room, measuring-on}
+use Rattle.formatting.proofs.Line.{Passing, passing-on, Drawing, column-ready, drawing-room, drawing-on, Measuring, measuring-room, measuring-on}
 
 -- the next line of a cell, at its entry
 pub same-cell : (x : List ℕ) {s : List ℕ} {w : ℕ} {t u : Pending} → t ≡ pendingFrom x → After s w t u
@@ -85,3 +86,21 @@ module _ (s : List ℕ) (cols : List (List ℕ)) (n : ℕ) (ind : Indicator) (st
       → m ≡ size + (a + b) → Measuring s (viewOf cols n) (take (ind .count) (ind .characters)) style (pendingsOf st) last m (i + 1)
   measured-on a b m x y z =
       measuring-on s (viewOf cols n) (take (ind .count) (ind .characters)) style (pendingsOf st) last size i M h m (z ∙ rw (x, y, mv, mt, ej))
+
+-- the column and the line that a cell is moved on by
+module _ (s : List ℕ) (cols : List (List ℕ)) (n : ℕ) (st₀ : List (List ℕ)) (R : ReadyAll s (viewOf cols n) (pendingsOf st₀))
+    (st : List (List ℕ)) (more : Bool) (i : ℕ) (P : Passing s (viewOf cols n) (pendingsOf st₀) (pendingsOf st) more i) (h : i < n)
+    (v : VisibleColumn) (t : Pending) (ev : v ≡ columnFrom (getD cols i [])) (et : t ≡ pendingFrom (getD st i [])) where
+  pv : v ≡ visibleAt (viewOf cols n) i
+  pv = ev ∙ sym (column-at cols n i)
+
+  pt : t ≡ pendingAt (pendingsOf st) i
+  pt = et ∙ sym (pending-at st i)
+
+  pub passed-ready : Ready s v t
+  passed-ready = rw (pv, pt, P .todo i (omega arith)) (R .each i h)
+
+  pub passed-on : (u : Pending) (m : Bool) (z : List ℕ) → After s (v .width) t u → m ≡ (more || u .line .found) → u ≡ pendingFrom z
+      → Passing s (viewOf cols n) (pendingsOf st₀) (pendingsOf (set st i z)) m (i + 1)
+  passed-on u m z a x y =
+      rw (pendings-set st i z u y) (passing-on s (viewOf cols n) (pendingsOf st₀) (pendingsOf st) more m i u (R .most) h P (rw (pv, pt) at a) x)

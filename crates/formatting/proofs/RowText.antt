@@ -1,5 +1,5 @@
 -- Lines of a row drawn one after another. Assumes nothing.
-use Prim.Native.Nat.{ℕ, suc, _+_, _-_, _≤_, _<_}
+use Prim.Native.Nat.{ℕ, suc, _+_, _-_, _*_, _≤_, _<_}
 use mathlib.Core.Path.{_≡_, refl, sym, ap, subst, _∙_}
 use mathlib.Core.List.{List, [], _∷_, _++_, map}
 use mathlib.Core.Bool.{Bool, true, false, not, _&&_}
@@ -11,9 +11,11 @@ use borrow.Author.Tests.{ltb-true, ltb-false, leb-true, leb-false}
 use borrow.Rule.Slice.PartMut.{putMid}
 use Rattle.rules.specs.Sheet.{Row}
 use Rattle.rules.specs.Widths.{visible, contents}
-use Rattle.rules.specs.Page.{areaAt, areas}
+use Rattle.rules.specs.Page.{areaAt, areas, closed}
+use Rattle.rules.specs.Limits.{mostLines, longestLine}
 use Rattle.laws.proofs.Areas.{length-areas, line-at}
 use Rattle.laws.proofs.Lists.{getD-map}
+use Rattle.laws.proofs.Sizes.{closed-one, closed-append}
 use Rattle.table.specs.Held.{tableOf}
 use Rattle.table.specs.declared.records.Indicator.{Indicator}
 use Rattle.buffer.specs.Put.{over}
@@ -22,7 +24,7 @@ use Rattle.row.specs.View.{View, Views}
 use Rattle.formatting.specs.Line.{lineBytes, AfterAll, ReadyAll}
 use Rattle.row.specs.Pending.{anyFound}
 use Rattle.formatting.specs.Part.{PartIs}
-use Rattle.formatting.specs.RowText.{styled, rowLines, rowHeight, Marks, Sized, Measurable, StandsAt}
+use Rattle.formatting.specs.RowText.{styled, rowLines, rowHeight, Marks, Bounded, Sized, Measurable, StandsAt}
 use Rattle.formatting.specs.Stand.{inLimit, lastOf}
 use Rattle.row.specs.Open.{OpenedRow}
 use Rattle.row.specs.declared.Pending.{Pending}
@@ -88,7 +90,7 @@ module _ (s : List ℕ) (view : View) (r : Row) (W : Views (tableOf s) (contents
         record {
           ready = stands-drawn;
           indicator = M .indicator;
-          short = omega (arith, h, Z .short j stands-less);
+          short = omega (arith, h, Z .bounded .short j stands-less);
           each = λ p. sym (h ∙ Z .each p j stands-less);
         }
 
@@ -157,37 +159,37 @@ module _ (s : List ℕ) (view : View) (y : TextStyle) (r : Row) (first : ℕ) (W
       running-size = ap length here ∙ length-append (getD (rowLines s y r) line []) (10 ∷ []) ∙ sym (G .size-is e)
 
       module _ (room : size ≤ length page - at) (c ys : List ℕ) (us : List Pending) (found m : Bool) (n : ℕ)
-        (o : ys ≡ over (lineBytes s view (take (i .count) (i .characters)) y ts last) (take (length page - at) (drop at page)))
-        (p : c ≡ putMid at (length page - at) page ys) (q : n ≡ length (lineBytes s view (take (i .count) (i .characters)) y ts last))
-        (a : AfterAll s view ts us) (f : found ≡ anyFound us (view .count)) (g : m ≡ (inLimit limit (line + 1) && found)) where
-          pub running-stands : StandsAt s view r (line + 1) m us
-          running-stands = stands-more s view r W line more ts (G .stands) e limit el us found m a f g
+          (o : ys ≡ over (lineBytes s view (take (i .count) (i .characters)) y ts last) (take (length page - at) (drop at page)))
+          (p : c ≡ putMid at (length page - at) page ys) (q : n ≡ length (lineBytes s view (take (i .count) (i .characters)) y ts last))
+          (a : AfterAll s view ts us) (f : found ≡ anyFound us (view .count)) (g : m ≡ (inLimit limit (line + 1) && found)) where
+        pub running-stands : StandsAt s view r (line + 1) m us
+        running-stands = stands-more s view r W line more ts (G .stands) e limit el us found m a f g
 
-          pub running-on : (last′ : Bool) (size′ : ℕ) → last′ ≡ lastOf limit (line + 1)
-              → (m ≡ true → size′ ≡ length (lineBytes s view (take (i .count) (i .characters)) y us last′))
-              → Running s view y r first b c us m (at + n) (line + 1) last′ size′
-          running-on last′ size′ ea h =
-              let wide : n ≡ length (getD (rowLines s y r) line []) + 1 = q ∙ running-size ∙ G .size-is e in
-              let fits : length (getD (rowLines s y r) line []) + 1 ≤ length (take (length page - at) (drop at page)) =
-              omega (arith, room, G .size-is e, ap length (lent page at), length-drop at page) in
-              let one = part-line (getD (rowLines s y r) line []) (take (length page - at) (drop at page)) ys fits
-              (o ∙ ap (λ t. over t (take (length page - at) (drop at page))) here) in
-              let both = part-join (take (line - first) (drop first (rowLines s y r))) (getD (rowLines s y r) line [] ∷ []) b page c ys
-              (record { lines = line - first; bytes = at; whole = true })
-              (record { lines = 1; bytes = length (getD (rowLines s y r) line []) + 1; whole = true })
-              (G .part) refl one p in
-              let k : line + 1 - first ≡ suc (line - first) = omega (arith, G .onward) in
-              let grown : take (line + 1 - first) (drop first (rowLines s y r)) ≡ take (line - first) (drop first (rowLines s y r)) ++
-              (getD (rowLines s y r) line [] ∷ []) =
-              ap (λ j. take j (drop first (rowLines s y r))) k ∙ take-suc (drop first (rowLines s y r)) (line - first) [] left ∙ rw here-at in
-              let count : line + 1 - first ≡ line - first + 1 = omega (arith, G .onward) in
-              record {
-                onward = omega (arith, G .onward);
-                stands = running-stands;
-                part = rw (grown, count, wide) both;
-                last-is = ea ∙ ap (λ n. lastOf n (line + 1)) el;
-                size-is = ahead-size (line + 1) m us last′ size′ running-stands ea h;
-              }
+        pub running-on : (last′ : Bool) (size′ : ℕ) → last′ ≡ lastOf limit (line + 1)
+            → (m ≡ true → size′ ≡ length (lineBytes s view (take (i .count) (i .characters)) y us last′))
+            → Running s view y r first b c us m (at + n) (line + 1) last′ size′
+        running-on last′ size′ ea h =
+            let wide : n ≡ length (getD (rowLines s y r) line []) + 1 = q ∙ running-size ∙ G .size-is e in
+            let fits : length (getD (rowLines s y r) line []) + 1 ≤ length (take (length page - at) (drop at page)) =
+            omega (arith, room, G .size-is e, ap length (lent page at), length-drop at page) in
+            let one = part-line (getD (rowLines s y r) line []) (take (length page - at) (drop at page)) ys fits
+            (o ∙ ap (λ t. over t (take (length page - at) (drop at page))) here) in
+            let both = part-join (take (line - first) (drop first (rowLines s y r))) (getD (rowLines s y r) line [] ∷ []) b page c ys
+            (record { lines = line - first; bytes = at; whole = true })
+            (record { lines = 1; bytes = length (getD (rowLines s y r) line []) + 1; whole = true })
+            (G .part) refl one p in
+            let k : line + 1 - first ≡ suc (line - first) = omega (arith, G .onward) in
+            let grown : take (line + 1 - first) (drop first (rowLines s y r)) ≡ take (line - first) (drop first (rowLines s y r)) ++
+            (getD (rowLines s y r) line [] ∷ []) =
+            ap (λ j. take j (drop first (rowLines s y r))) k ∙ take-suc (drop first (rowLines s y r)) (line - first) [] left ∙ rw here-at in
+            let count : line + 1 - first ≡ line - first + 1 = omega (arith, G .onward) in
+            record {
+              onward = omega (arith, G .onward);
+              stands = running-stands;
+              part = rw (grown, count, wide) both;
+              last-is = ea ∙ ap (λ n. lastOf n (line + 1)) el;
+              size-is = ahead-size (line + 1) m us last′ size′ running-stands ea h;
+            }
 
     -- the row has no further line
     pub running-ends : more ≡ false → PartIs (drop first (rowLines s y r)) b page (record { lines = line - first; bytes = at; whole = true })
@@ -228,6 +230,62 @@ module _ (s : List ℕ) (view : View) (y : TextStyle) (r : Row) (first : ℕ) (W
         by : (m : Bool) → more ≡ m → PartIs (drop first (rowLines s y r)) b page (record { lines = line - first; bytes = at; whole = not m })
         by true q = running-full q (leb-false size (length page - at) (sym (rw q at e) ∙ f))
         by false q = running-ends q
+
+-- ---- a row's lines measured
+
+-- the lines before `line` take so many bytes, and line `line` is pending, if the row has it
+pub record Summing (s : List ℕ) (view : View) (y : TextStyle) (r : Row) (ts : List Pending) (more : Bool) (bytes line : ℕ) : Type 0 where
+  pub stands : StandsAt s view r line more ts
+  pub sum : bytes ≡ length (closed (take line (rowLines s y r)))
+  pub small : bytes ≤ line * (longestLine + 1)
+  pub within : line ≤ rowHeight s r
+
+module _ (s : List ℕ) (view : View) (y : TextStyle) (r : Row) (W : Views (tableOf s) (contents (tableOf s)) view) where
+  pub summing-begins : (ts : List Pending) (more : Bool) → StandsAt s view r 0 more ts → Summing s view y r ts more 0 0
+  unfolding closed
+  summing-begins ts more S = record { stands = S; sum = refl; small = omega arith; within = omega arith }
+
+  module _ (i : Indicator) (M : Marks s i) (D : Bounded s y r) (limit : ℕ) (el : limit ≡ r .limit) (ts : List Pending) (more : Bool) (bytes line : ℕ)
+      (G : Summing s view y r ts more bytes line) where
+    module _ (e : more ≡ true) (last : Bool) (ea : last ≡ lastOf limit line) where
+      below : line < rowHeight s r
+      below = stands-less s view r W line more ts (G .stands) e
+
+      -- the pending line
+      pub summing-here : length (lineBytes s view (take (i .count) (i .characters)) y ts last) ≡ length (getD (rowLines s y r) line []) + 1
+      summing-here = here-size s view r W line more ts (G .stands) e i M y limit el last ea
+
+      pub summing-short : length (lineBytes s view (take (i .count) (i .characters)) y ts last) ≤ longestLine + 1
+      summing-short = omega (arith, summing-here, D .short line below)
+
+      pub summing-few : line < mostLines
+      summing-few = omega (arith, below, D .few)
+
+      pub summing-room : (n : ℕ) → n ≡ length (lineBytes s view (take (i .count) (i .characters)) y ts last) → bytes + n ≤ mostLines * (longestLine + 1)
+      summing-room n q = omega (arith, G .small, q, summing-short, summing-few)
+
+      pub summing-on : (n : ℕ) → n ≡ length (lineBytes s view (take (i .count) (i .characters)) y ts last) → (us : List Pending) (found m : Bool)
+          → AfterAll s view ts us → found ≡ anyFound us (view .count) → m ≡ (inLimit limit (line + 1) && found)
+          → Summing s view y r us m (bytes + n) (line + 1)
+      summing-on n q us found m a f g =
+          let ls = rowLines s y r in
+          let k : line + 1 ≡ suc line = omega arith in
+          let t : take (line + 1) (rowLines s y r) ≡ take line (rowLines s y r) ++ (getD (rowLines s y r) line [] ∷ []) =
+          ap (λ j. take j (rowLines s y r)) k ∙ take-suc (rowLines s y r) line [] (omega (arith, below, lines-count s y r)) in
+          let c = ap (λ l. length (closed l)) t ∙ ap length (closed-append (take line (rowLines s y r)) (getD (rowLines s y r) line [] ∷ []))
+          ∙ length-append (closed (take line (rowLines s y r))) (closed (getD (rowLines s y r) line [] ∷ [])) in
+          let d = ap length (closed-one (getD (rowLines s y r) line [])) ∙ length-append (getD (rowLines s y r) line []) (10 ∷ []) in
+          record {
+            stands = stands-more s view r W line more ts (G .stands) e limit el us found m a f g;
+            sum = omega (arith, G .sum, q, summing-here, c, d);
+            small = omega (arith, G .small, q, summing-short);
+            within = omega (arith, below);
+          }
+
+    pub summing-done : more ≡ false → bytes ≡ length (closed (rowLines s y r))
+    summing-done e =
+        let h = ltb-false line (rowHeight s r) (sym (G .stands .has) ∙ e) in
+        G .sum ∙ ap (λ l. length (closed l)) (take-all line (rowLines s y r) (omega (arith, lines-count s y r)))
 
 -- ---- the loop's test
 

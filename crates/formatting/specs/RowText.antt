@@ -49,11 +49,15 @@ pub record Marks (s : List ℕ) (i : Indicator) : Type 0 where
   pub are : take (i .count) (i .characters) ≡ tableOf s .indicator
   pub indicator : IndicatorIs i
 
--- a row's lines are neither too long nor too many; if it is said to be plain, each takes n bytes, its 0A included
-pub record Sized (s : List ℕ) (y : TextStyle) (r : Row) (plain : Bool) (n : ℕ) : Type 0 where
-  pub each : plain ≡ true → (k : ℕ) → k < rowHeight s r → length (getD (rowLines s y r) k []) + 1 ≡ n
+-- a row's lines are neither too long nor too many
+pub record Bounded (s : List ℕ) (y : TextStyle) (r : Row) : Type 0 where
   pub short : (k : ℕ) → k < rowHeight s r → length (getD (rowLines s y r) k []) ≤ longestLine
   pub few : rowHeight s r ≤ mostLines
+
+-- and if it is said to be plain, each takes n bytes, its 0A included
+pub record Sized (s : List ℕ) (y : TextStyle) (r : Row) (plain : Bool) (n : ℕ) : Type 0 where
+  pub bounded : Bounded s y r
+  pub each : plain ≡ true → (k : ℕ) → k < rowHeight s r → length (getD (rowLines s y r) k []) + 1 ≡ n
 
 -- the line that is pending can be measured
 pub record Measurable (s : List ℕ) (view : View) (i : Indicator) (y : TextStyle) (ts : List Pending) (last plain : Bool) (n : ℕ) : Type 0 where

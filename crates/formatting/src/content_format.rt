@@ -144,7 +144,7 @@ fn draw_cell(
 }
 
 // The cell's next line.
-fn advance(sheet: &[u8], width: usize, t: Pending) -> Pending
+pub fn advance(sheet: &[u8], width: usize, t: Pending) -> Pending
     requires { ⌜ Inside (now sheet) (t .line .cursor) × ((0 < width) × Printable (t .delimiter)) ⌝ }
     ensures { λ r. ⌜ After (now (sheet .entry)) width t r ⌝ }
 {
@@ -273,7 +273,7 @@ fn write_line(
 }
 
 // A row has a line if the limit leaves it and a cell has it.
-fn has_line(limit: usize, line: usize, found: bool) -> bool
+pub fn has_line(limit: usize, line: usize, found: bool) -> bool
     ensures { λ r. ⌜ r ≡ (inLimit limit line && found) ⌝ }
 {
     if limit == 0 {
@@ -286,7 +286,7 @@ fn has_line(limit: usize, line: usize, found: bool) -> bool
 }
 
 // The last line that the limit leaves.
-fn is_last(limit: usize, line: usize) -> bool
+pub fn is_last(limit: usize, line: usize) -> bool
     requires { ⌜ line ≤ mostLines ⌝ }
     ensures { λ r. ⌜ r ≡ lastOf limit line ⌝ }
 {
@@ -300,7 +300,7 @@ pub struct Entered {
 }
 
 // The first of some rows, at its line n.
-fn enter_row(
+pub fn enter_row(
     sheet: &[u8],
     columns: &[[usize; 6]; MOST_COLUMNS],
     count: usize,

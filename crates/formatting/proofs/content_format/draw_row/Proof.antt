@@ -40,7 +40,7 @@ draw-row-spec =
     let a = s .args in
     let e = c .before .enter-row .ensures in
     let r = firstRow (now (a .sheet)) (a .here) in (
-      omega (arith, s .pre .1 .1, s .pre .1 .0 .few),
+      omega (arith, s .pre .1 .1, s .pre .1 .0 .bounded .few),
       λ more. stands-measurable (now (a .sheet)) (viewOf (now (a .columns)) (a .count)) r (s .pre .0 .0 .views) (a .first) _ _ (e .stands) more
           (a .indicator) (s .pre .0 .1) (a .style) _ (e .limit) (a .plain) (a .size) (s .pre .1 .0),
     ))
@@ -89,11 +89,16 @@ draw-row-spec =
     let n = c .before .before .before .before .before .look-ahead .ensures in
     let r = firstRow (now (a .sheet)) (a .here) in
     let G = l .inv r (e .limit) (e .stands) (n .0) (n .1) in
-    let g = goes (l .more) (c .before .before .before .goes-on .result) (l .next .size) _ (c .before .before .before .goes-on .ensures) (c .before .before .if1 .taken) in
-    (
+    let g = goes (l .more) (c .before .before .before .goes-on .result) (l .next .size) _ (c .before .before .before .goes-on .ensures) (c .before .before .if1 .taken) in (
       (stands-drawn (now (a .sheet)) (viewOf (now (a .columns)) (a .count)) r (s .pre .0 .0 .views) (l .line) (l .more) (pendingsOf (l .state)) (G .stands) (g .0), s .pre .0 .1 .indicator),
-      omega (arith, running-size (now (a .sheet)) (viewOf (now (a .columns)) (a .count)) (a .style) r (a .first) (s .pre .0 .0 .views) (now (a .page)) (a .indicator) (s .pre .0 .1) _
-    (e .limit) (l .page) (pendingsOf (l .state)) (l .more) (l .at) (l .line) (l .next .last) (l .next .size) G (g .0), g .1, ap length (lent (l .page) (l .at)), length-drop (l .at) (l .page)),
+      omega (
+        arith,
+        running-size (now (a .sheet)) (viewOf (now (a .columns)) (a .count)) (a .style) r (a .first) (s .pre .0 .0 .views) (now (a .page)) (a .indicator) (s .pre .0 .1) _
+            (e .limit) (l .page) (pendingsOf (l .state)) (l .more) (l .at) (l .line) (l .next .last) (l .next .size) G (g .0),
+        g .1,
+        ap length (lent (l .page) (l .at)),
+        length-drop (l .at) (l .page),
+      ),
     ))
     (λ c.
     let s = c .before .before .before .before .before .before .before .before .before .before .before .before .before .before .before in
@@ -108,12 +113,12 @@ draw-row-spec =
       arith,
       c .before .before .before .write-line .ensures .0,
       running-size (now (a .sheet)) (viewOf (now (a .columns)) (a .count)) (a .style) r (a .first) (s .pre .0 .0 .views) (now (a .page)) (a .indicator) (s .pre .0 .1) _
-    (e .limit) (l .page) (pendingsOf (l .state)) (l .more) (l .at) (l .line) (l .next .last) (l .next .size) G (g .0),
+          (e .limit) (l .page) (pendingsOf (l .state)) (l .more) (l .at) (l .line) (l .next .last) (l .next .size) G (g .0),
       g .1,
       running-room (now (a .sheet)) (viewOf (now (a .columns)) (a .count)) (a .style) r (a .first) (s .pre .0 .0 .views) (now (a .page)) (a .indicator) (s .pre .0 .1) _
-    (e .limit) (l .page) (pendingsOf (l .state)) (l .more) (l .at) (l .line) (l .next .last) (l .next .size) G,
+          (e .limit) (l .page) (pendingsOf (l .state)) (l .more) (l .at) (l .line) (l .next .last) (l .next .size) G,
       running-length (now (a .sheet)) (viewOf (now (a .columns)) (a .count)) (a .style) r (a .first) (s .pre .0 .0 .views) (now (a .page)) (a .indicator) (s .pre .0 .1) _
-    (e .limit) (l .page) (pendingsOf (l .state)) (l .more) (l .at) (l .line) (l .next .last) (l .next .size) G,
+          (e .limit) (l .page) (pendingsOf (l .state)) (l .more) (l .at) (l .line) (l .next .last) (l .next .size) G,
       s .good,
     ))
     (λ c.
@@ -125,7 +130,7 @@ draw-row-spec =
     let r = firstRow (now (a .sheet)) (a .here) in
     let G = l .inv r (e .limit) (e .stands) (n .0) (n .1) in
     let g = goes (l .more) (c .before .before .before .before .before .before .before .goes-on .result) (l .next .size) _ (c .before .before .before .before .before .before .before .goes-on .ensures) (c .before .before .before .before .before .before .if1 .taken) in
-    omega (arith, stands-less (now (a .sheet)) (viewOf (now (a .columns)) (a .count)) r (s .pre .0 .0 .views) (l .line) (l .more) (pendingsOf (l .state)) (G .stands) (g .0), s .pre .1 .0 .few))
+    omega (arith, stands-less (now (a .sheet)) (viewOf (now (a .columns)) (a .count)) r (s .pre .0 .0 .views) (l .line) (l .more) (pendingsOf (l .state)) (G .stands) (g .0), s .pre .1 .0 .bounded .few))
     (λ c κs. search needs)
     (λ c κs.
     let s = c .before .before .before .before .before .before .before .before .before .before .before .before .before .before .before .before .before in
@@ -138,7 +143,7 @@ draw-row-spec =
     let g = goes (l .more) (c .before .before .before .before .before .before .before .before .before .goes-on .result) (l .next .size) _ (c .before .before .before .before .before .before .before .before .before .goes-on .ensures) (c .before .before .before .before .before .before .before .before .if1 .taken) in
     let w = c .before .before .before .before .before .write-line in
     let h = c .before .has-line in (
-      omega (arith, stands-less (now (a .sheet)) (viewOf (now (a .columns)) (a .count)) r (s .pre .0 .0 .views) (l .line) (l .more) (pendingsOf (l .state)) (G .stands) (g .0), s .pre .1 .0 .few),
+      omega (arith, stands-less (now (a .sheet)) (viewOf (now (a .columns)) (a .count)) r (s .pre .0 .0 .views) (l .line) (l .more) (pendingsOf (l .state)) (G .stands) (g .0), s .pre .1 .0 .bounded .few),
       λ more. stands-measurable (now (a .sheet)) (viewOf (now (a .columns)) (a .count)) r (s .pre .0 .0 .views) _ _ _
           (stands-more (now (a .sheet)) (viewOf (now (a .columns)) (a .count)) r (s .pre .0 .0 .views) (l .line) (l .more) (pendingsOf (l .state)) (G .stands) (g .0) _ (e .limit) _ (w .result .more) (h .result)
           (w .ensures .1 .0 .0) (w .ensures .1 .0 .1) (h .ensures)) more
@@ -157,12 +162,12 @@ draw-row-spec =
       arith,
       c .before .before .before .before .before .before .write-line .ensures .0,
       running-size (now (a .sheet)) (viewOf (now (a .columns)) (a .count)) (a .style) r (a .first) (s .pre .0 .0 .views) (now (a .page)) (a .indicator) (s .pre .0 .1) _
-    (e .limit) (l .page) (pendingsOf (l .state)) (l .more) (l .at) (l .line) (l .next .last) (l .next .size) G (g .0),
+          (e .limit) (l .page) (pendingsOf (l .state)) (l .more) (l .at) (l .line) (l .next .last) (l .next .size) G (g .0),
       g .1,
       running-room (now (a .sheet)) (viewOf (now (a .columns)) (a .count)) (a .style) r (a .first) (s .pre .0 .0 .views) (now (a .page)) (a .indicator) (s .pre .0 .1) _
-    (e .limit) (l .page) (pendingsOf (l .state)) (l .more) (l .at) (l .line) (l .next .last) (l .next .size) G,
+          (e .limit) (l .page) (pendingsOf (l .state)) (l .more) (l .at) (l .line) (l .next .last) (l .next .size) G,
       running-length (now (a .sheet)) (viewOf (now (a .columns)) (a .count)) (a .style) r (a .first) (s .pre .0 .0 .views) (now (a .page)) (a .indicator) (s .pre .0 .1) _
-    (e .limit) (l .page) (pendingsOf (l .state)) (l .more) (l .at) (l .line) (l .next .last) (l .next .size) G,
+          (e .limit) (l .page) (pendingsOf (l .state)) (l .more) (l .at) (l .line) (l .next .last) (l .next .size) G,
       G .size-is (g .0),
     ))
     (λ c. λ r el S x y.

@@ -15,9 +15,10 @@ enter-row-spec =
     (λ c κs.
     let s = c .before .before .before .before in
     let D = s .pre .0 in
-    let r = c .before .before .row in
-    ((D .rising, (D .usable, s .pre .1)),
-    (cells-inside (now (s .args .sheet)) (s .args .here) (r .result) (D .some) (D .ends) (r .ensures), rw (r .ensures .cells) (D .known))))
+    let r = c .before .before .row in (
+      (D .rising, (D .usable, s .pre .1)),
+      (cells-inside (now (s .args .sheet)) (s .args .here) (r .result) (D .some) (D .ends) (r .ensures), rw (r .ensures .cells) (D .known)),
+    ))
     (λ c κs. search needs)
     (λ c.
     let s = c .before .before .before .before .before .before in

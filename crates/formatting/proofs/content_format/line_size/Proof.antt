@@ -53,25 +53,40 @@ line-size-spec =
     let s = c .before .before .before .before .before .before .before .before .before .before .before in
     let a = s .args in
     let l = c .before .before .before .before .before .before .before .loop in
-    let h = c .before .before .before .before .before .before .loop-test .taken in
-    (measured-ready (now (a .sheet)) (now (a .columns)) (a .count) (a .indicator) (a .style) (now (a .state)) (a .last) (s .pre .0 .0) (l .size) (l .i) (l .inv) h
-    _ _ _ (c .before .before .before .before .column-from .ensures) (c .before .before .pending-from .ensures) (c .before .joins-before .ensures) (s .pre .0 .1),
-    omega (arith, l .inv .sum, measured-room (now (a .sheet)) (now (a .columns)) (a .count) (a .indicator) (a .style) (now (a .state)) (a .last) (s .pre .0 .0) (l .size) (l .i) (l .inv) h
-    _ _ _ (c .before .before .before .before .column-from .ensures) (c .before .before .pending-from .ensures) (c .before .joins-before .ensures) (s .pre .1))))
+    let h = c .before .before .before .before .before .before .loop-test .taken in (
+      measured-ready (now (a .sheet)) (now (a .columns)) (a .count) (a .indicator) (a .style) (now (a .state)) (a .last) (s .pre .0 .0) (l .size) (l .i) (l .inv) h
+          _ _ _ (c .before .before .before .before .column-from .ensures) (c .before .before .pending-from .ensures) (c .before .joins-before .ensures) (s .pre .0 .1),
+      omega (
+        arith,
+        l .inv .sum,
+        measured-room (now (a .sheet)) (now (a .columns)) (a .count) (a .indicator) (a .style) (now (a .state)) (a .last) (s .pre .0 .0) (l .size) (l .i) (l .inv) h
+            _ _ _ (c .before .before .before .before .column-from .ensures) (c .before .before .pending-from .ensures) (c .before .joins-before .ensures) (s .pre .1),
+      ),
+    ))
     (λ c.
     let s = c .before .before .before .before .before .before .before .before .before .before .before .before in
     let a = s .args in
     let l = c .before .before .before .before .before .before .before .before .loop in
     let h = c .before .before .before .before .before .before .before .loop-test .taken in
-    omega (arith, measured-room (now (a .sheet)) (now (a .columns)) (a .count) (a .indicator) (a .style) (now (a .state)) (a .last) (s .pre .0 .0) (l .size) (l .i) (l .inv) h
-    _ _ _ (c .before .before .before .before .before .column-from .ensures) (c .before .before .before .pending-from .ensures) (c .before .before .joins-before .ensures) (s .pre .1), c .before .edge-size3 .ensures, c .area-size .ensures))
+    omega (
+      arith,
+      measured-room (now (a .sheet)) (now (a .columns)) (a .count) (a .indicator) (a .style) (now (a .state)) (a .last) (s .pre .0 .0) (l .size) (l .i) (l .inv) h
+          _ _ _ (c .before .before .before .before .before .column-from .ensures) (c .before .before .before .pending-from .ensures) (c .before .before .joins-before .ensures) (s .pre .1),
+      c .before .edge-size3 .ensures,
+      c .area-size .ensures,
+    ))
     (λ c.
     let s = c .before .before .before .before .before .before .before .before .before .before .before .before in
     let a = s .args in
     let l = c .before .before .before .before .before .before .before .before .loop in
     let h = c .before .before .before .before .before .before .before .loop-test .taken in
-    omega (arith, measured-room (now (a .sheet)) (now (a .columns)) (a .count) (a .indicator) (a .style) (now (a .state)) (a .last) (s .pre .0 .0) (l .size) (l .i) (l .inv) h
-    _ _ _ (c .before .before .before .before .before .column-from .ensures) (c .before .before .before .pending-from .ensures) (c .before .before .joins-before .ensures) (s .pre .1), c .before .edge-size3 .ensures, c .area-size .ensures))
+    omega (
+      arith,
+      measured-room (now (a .sheet)) (now (a .columns)) (a .count) (a .indicator) (a .style) (now (a .state)) (a .last) (s .pre .0 .0) (l .size) (l .i) (l .inv) h
+          _ _ _ (c .before .before .before .before .before .column-from .ensures) (c .before .before .before .pending-from .ensures) (c .before .before .joins-before .ensures) (s .pre .1),
+      c .before .edge-size3 .ensures,
+      c .area-size .ensures,
+    ))
     (λ c. omega (arith, c .before .before .before .before .before .before .before .before .before .before .before .before .pre .0 .0 .most, c .before .before .before .before .before .before .before .loop-test .taken))
     (λ c. omega arith)
     (λ c.

@@ -22,8 +22,7 @@ shorten-spec =
     shorten-plain (now (s .args .text)) (s .args .line) (s .args .width) (s .pre) (c .before .before .before .if1 .left) (c .if2 .taken))
     (λ c κs.
     let s = c .before .before .before .before .before .before in
-    let k = line-bytes (now (s .args .text)) (s .args .line) (s .args .width) (s .pre) in
-    (
+    let k = line-bytes (now (s .args .text)) (s .args .line) (s .args .width) (s .pre) in (
       omega (arith, s .pre .order, s .pre .within),
       (omega (arith, k, s .pre .order, s .pre .within, c .before .before .before .if1 .left), λ e. absurd (false≢true e)),
     ))
