@@ -133,11 +133,14 @@ module _ (x y : Format (List ℕ)) (lines : Like x y) where
     where
       go : (b : Bool)
           → Same {A = Table} s
-          (elim b as (λ z. Read Table) [ true ↦ refused 2 32768 | false ↦ onward (reads (tableBy x) s 0) (λ t p. onward (ended s p) (λ u q. got t q)) ])
-          (elim b as (λ z. Read Table) [ true ↦ refused 2 32768 | false ↦ onward (reads (tableBy y) s 0) (λ t p. onward (ended s p) (λ u q. got t q)) ])
+          (elim b as (λ z. Read Table)
+          [ true ↦ refused 2 32768 | false ↦ onward (reads (tableBy x) s 0) (λ t p. onward (ended s p) (λ u q. got t q)) ])
+          (elim b as (λ z. Read Table)
+          [ true ↦ refused 2 32768 | false ↦ onward (reads (tableBy y) s 0) (λ t p. onward (ended s p) (λ u q. got t q)) ])
       go true = λ k. refl
       go false =
-          same-onward s (reads (tableBy x) s 0) (reads (tableBy y) s 0) _ _ (like-table s 0) (λ t p. same-self s (onward (ended s p) (λ u q. got t q)))
+          same-onward s (reads (tableBy x) s 0) (reads (tableBy y) s 0) _ _ (like-table s 0)
+          (λ t p. same-self s (onward (ended s p) (λ u q. got t q)))
 
 -- ---- the laws
 
@@ -147,7 +150,7 @@ plainly-got s t p e = subst (λ (y : Read Table). Same s y (sheet s)) e (same-sh
 pub plainly-refused : (s : List ℕ) (n p : ℕ) → sheetBy plainLine s ≡ refused n p → ((n ≡ 6) × (byteAt s p ≡ 194) → ⊥) → sheet s ≡ refused n p
 plainly-refused s n p e = subst (λ (y : Read Table). Same s y (sheet s)) e (same-sheet plainLine line like-line s)
 
-pub plain-whole : Faithful plainLine Whole
+plain-whole : Faithful plainLine Whole
 unfolding Faithful
 plain-whole l = tt
 

@@ -448,7 +448,7 @@ after-off (give a) s n p = refl
 after-off (next of x g) s n p = rw (after-off x s n p) (after-off (g (hereOf x s (Refused n p))) s n p)
 
 -- n items: the step n times
-several-steps : {A : Type 0} (f : Reader A) (h : Step → Step) (s : List ℕ) → ((n q : ℕ) → h (Refused n q) ≡ Refused n q) →
+pub several-steps : {A : Type 0} (f : Reader A) (h : Step → Step) (s : List ℕ) → ((n q : ℕ) → h (Refused n q) ≡ Refused n q) →
     ((q : ℕ) → h (At q) ≡ stepOf (f s q))
     → (n p : ℕ) → times n h (At p) ≡ stepOf (several n f s p)
 unfolding times several onward

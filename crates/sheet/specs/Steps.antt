@@ -1,14 +1,15 @@
 -- Steps of the code that stand for several fields, or for a part of the format that has no name there. Assumes nothing.
-use Prim.Native.Nat.{ℕ, zero, suc, _+_}
-use mathlib.Core.Bool.{Bool, true, _&&_}
+use Prim.Native.Nat.{ℕ, zero, suc, _+_, _-_, _<_, _≤_}
+use mathlib.Core.Path.{_≡_}
+use mathlib.Core.Bool.{Bool, true, false, _&&_}
 use mathlib.Core.List.{List}
 use lib.ListN.{getD}
 use lib.Dec.{leb, eqb}
 use Rattle.rules.specs.Sheet.{mostColumns}
-use Rattle.rules.specs.Field.{Reader, only, between, printable, printableOrZero, byte}
-use Rattle.rules.specs.Description.{code, wordTo, optional, counted, text}
-use Rattle.rules.specs.Format.{width, column, cell, cellCount, row}
-use Rattle.rules.specs.Steps.{byteOf, times, readFrom, after}
+use Rattle.rules.specs.Field.{Reader, byteAt, only, between, printable, printableOrZero, byte, several}
+use Rattle.rules.specs.Description.{Format, code, wordTo, optional, counted, text, character, characters}
+use Rattle.rules.specs.Format.{width, column, line, cellBy, cellCount, rowBy, sheetBy}
+use Rattle.rules.specs.Steps.{stepOf, byteOf, times, readFrom, after}
 use Rattle.rules.specs.declared.Step.{Step}
 use Rattle.rules.specs.declared.Step.the-variants.{At, Refused}
 use Rattle.rules.specs.declared.Checked.{Checked}
@@ -31,9 +32,28 @@ answerOf (Refused n p) = record { number = n; place = p }
 unfoldable pub constraintAfter : List ℕ → Step → Step
 constraintAfter s x = after (width (eqb (byteOf s x) 6)) s (after (width (leb 3 (byteOf s x))) s (after (code 6) s x))
 
--- a row's cells: their count, and each
-unfoldable pub cellsAfter : ℕ → List ℕ → Step → Step
-cellsAfter columns s x = times (byteOf s x) (after cell s) (after (cellCount columns) s x)
+-- what a line is to a reading that looks for pairs, and to one that doesn't
+abbrev pub lineOf : Bool → Format (List ℕ)
+lineOf true = line
+lineOf false = text 0 200 printable
+
+-- its bytes after their count
+abbrev pub lineBytes : Bool → ℕ → Reader (List ℕ)
+lineBytes true n = characters n
+lineBytes false n = several n (character printable)
+
+-- what is left of them at p, where they end at `end`
+unfoldable pub bytesFrom : Bool → List ℕ → ℕ → ℕ → Step
+bytesFrom pairs s end p = readFrom (lineBytes pairs (end - p)) s (At p)
+
+-- what the character at p comes to: the refusal of these bytes, or the place where the others begin
+abbrev pub CharacterIs : Bool → List ℕ → ℕ → ℕ → Step → Type 0
+CharacterIs pairs s end p (At q) = (p < q) × ((q ≤ end) × (bytesFrom pairs s end p ≡ bytesFrom pairs s end q))
+CharacterIs pairs s end p (Refused n q) = Refused n q ≡ bytesFrom pairs s end p
+
+-- a row's cells: their count, and each. Here and below, x is what a line is
+unfoldable pub cellsAfter : Format (List ℕ) → ℕ → List ℕ → Step → Step
+cellsAfter x columns s y = times (byteOf s y) (after (cellBy x) s) (after (cellCount columns) s y)
 
 -- the sheet up to its style
 unfoldable pub headAfter : List ℕ → Step → Step
@@ -42,5 +62,15 @@ headAfter s x =
     (after (wordTo 400) s (after (code 2) s (readFrom (byteBetween 1 1 3) s x)))))
 
 -- columns, header and rows, whose cells are held to the column count
-unfoldable pub bodyAfter : List ℕ → Step → Step
-bodyAfter s x = after (counted 0 100 (row (byteOf s x))) s (after (counted 0 1 (row (byteOf s x))) s (after (counted 0 mostColumns column) s x))
+unfoldable pub bodyAfter : Format (List ℕ) → List ℕ → Step → Step
+bodyAfter x s y =
+    after (counted 0 100 (rowBy x (byteOf s y))) s (after (counted 0 1 (rowBy x (byteOf s y))) s (after (counted 0 mostColumns column) s y))
+
+-- one reading of the whole sheet
+unfoldable pub readingOf : Bool → List ℕ → Step
+readingOf pairs s = stepOf (sheetBy (lineOf pairs) s)
+
+-- it stopped at a C2, which may begin a pair
+unfoldable pub atFirst : List ℕ → Step → Bool
+atFirst s (At p) = false
+atFirst s (Refused n p) = eqb n 6 && eqb (byteAt s p) 194

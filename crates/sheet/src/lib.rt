@@ -1,4 +1,4 @@
-// Sheet, edition 1: checks a sheet.
+// Sheet, edition 1: checks a sheet. Most have no pair, and are read without looking for one; the others are read again.
 mod columns;
 mod field;
 mod rows;
@@ -9,7 +9,8 @@ ghost use Rattle.rules.specs.Field as fields;
 ghost use Rattle.rules.specs.Description as description;
 ghost use Rattle.rules.specs.Calls as calls;
 ghost use Rattle.rules.specs.Steps.{readFrom, after};
-ghost use Rattle.sheet.specs.Steps.{answerOf, headAfter, bodyAfter};
+ghost use Rattle.sheet.specs.Steps.{lineOf, answerOf, headAfter, bodyAfter, readingOf, atFirst};
+ghost use Rattle.sheet.specs.Examine.{ExaminedIs};
 use rules::Checked;
 use rules::Step;
 
@@ -41,14 +42,14 @@ fn head(sheet: &[u8], from: Step) -> Step
 }
 
 // Columns, header, rows.
-fn body(sheet: &[u8], from: Step) -> Step
-    ensures { λ r. ⌜ r ≡ bodyAfter (now (sheet .entry)) from ⌝ }
+fn body(sheet: &[u8], from: Step, pairs: bool) -> Step
+    ensures { λ r. ⌜ r ≡ bodyAfter (lineOf pairs) (now (sheet .entry)) from ⌝ }
 {
     let columns = columns::columns(sheet, from);
     let count = columns.value;
     let header = columns.next;
-    let rows = rows::rows(sheet, header, count, 1);
-    rows::rows(sheet, rows, count, 100)
+    let rows = rows::rows(sheet, header, count, 1, pairs);
+    rows::rows(sheet, rows, count, 100, pairs)
 }
 
 // Nothing stands after the last row.
@@ -82,17 +83,72 @@ fn answer(step: Step) -> Checked
     }
 }
 
-// Number and place of the first refusal from the input, both 0 where the sheet is accepted. Any bytes may be asked about.
-pub fn check(sheet: &[u8]) -> Checked
-    ensures { λ r. ⌜ r ≡ calls.check (now (sheet .entry)) ⌝ }
+// One reading of the sheet, from its first byte to its last.
+fn reading(sheet: &[u8], pairs: bool) -> Step
+    ensures { λ r. ⌜ r ≡ readingOf pairs (now (sheet .entry)) ⌝ }
 {
     if 32768 < sheet.len() {
-        return Checked {
+        return Step::Refused {
             number: 2,
             place: 32768,
         };
     }
     let style = head(sheet, Step::At(0));
-    let last = body(sheet, style);
-    answer(ended(sheet, last))
+    let last = body(sheet, style, pairs);
+    ended(sheet, last)
+}
+
+// Whether a reading stopped at a C2.
+fn at_first(sheet: &[u8], step: Step) -> bool
+    ensures { λ r. ⌜ r ≡ atFirst (now (sheet .entry)) step ⌝ }
+{
+    let Step::Refused { number, place } = step else {
+        return false;
+    };
+    if number != 6 {
+        return false;
+    }
+    if sheet.len() <= place {
+        return false;
+    }
+    sheet[place] == 194
+}
+
+// Number and place of the first refusal from the input, both 0 where the sheet is accepted. `plain`: the reading without pairs stood.
+pub struct Examined {
+    pub number: u64,
+    pub place: u64,
+    pub plain: bool,
+}
+
+// Any bytes may be asked about.
+pub fn examine(sheet: &[u8]) -> Examined
+    ensures { λ r. ⌜ ExaminedIs (now (sheet .entry)) r ⌝ }
+{
+    let first = reading(sheet, false);
+    if at_first(sheet, first) {
+        let again = answer(reading(sheet, true));
+        return Examined {
+            number: again.number,
+            place: again.place,
+            plain: false,
+        };
+    }
+    let checked = answer(first);
+    Examined {
+        number: checked.number,
+        place: checked.place,
+        plain: true,
+    }
+}
+
+// The same without `plain`.
+pub fn check(sheet: &[u8]) -> Checked
+    ensures { λ r. ⌜ r ≡ calls.check (now (sheet .entry)) ⌝ }
+{
+    let examined = examine(sheet);
+    Checked {
+        number: examined.number,
+        place: examined.place,
+    }
 }

@@ -1,12 +1,12 @@
 // Texts of a sheet: where nearly all of its bytes stand.
 ghost use mathlib.Core.Path.{_≡_};
-ghost use mathlib.Core.Bool.{_&&_, cond};
-ghost use Prim.Native.Nat.{_+_, _-_, _≤_, min};
-ghost use lib.ListN.{length};
+ghost use mathlib.Core.Bool.{true, _&&_, cond};
+ghost use Prim.Native.Nat.{_+_, _-_, _≤_, _<_, min};
+ghost use lib.ListN.{length, getD};
 ghost use Rattle.rules.specs.Field.{printable};
 ghost use Rattle.rules.specs.Description as description;
 ghost use Rattle.rules.specs.Steps.{readFrom, times, after};
-ghost use Rattle.sheet.specs.Steps.{printables};
+ghost use Rattle.sheet.specs.Steps.{printables, lineOf, lineBytes, CharacterIs};
 use super::field;
 use rules::Step;
 
@@ -104,4 +104,89 @@ pub fn text(sheet: &[u8], from: Step, most: u8) -> Step
         return first;
     };
     characters(sheet, start, count.value)
+}
+
+// The character at `at` of a line's bytes, which end at `end`. C2 begins a pair, unless it is the last byte: no B0 can follow it in the line.
+fn character_at(sheet: &[u8], at: usize, end: usize, pairs: bool) -> Step
+    requires { ⌜ at < end ⌝ }
+    ensures { λ r. ⌜ CharacterIs pairs (now (sheet .entry)) end at r ⌝ }
+{
+    if sheet.len() <= at {
+        return Step::Refused {
+            number: 1,
+            place: sheet.len(),
+        };
+    }
+    let value = sheet[at];
+    if value < 32 {
+        return Step::Refused {
+            number: 6,
+            place: at,
+        };
+    }
+    if value <= 126 {
+        return Step::At(at + 1);
+    }
+    if value != 194 {
+        return Step::Refused {
+            number: 6,
+            place: at,
+        };
+    }
+    if numbers::both(pairs, at + 1 < end) {
+        return pair_at(sheet, at, end);
+    }
+    Step::Refused {
+        number: 6,
+        place: at,
+    }
+}
+
+// The pair that C2 begins is one field: half of it is none.
+fn pair_at(sheet: &[u8], first: usize, end: usize) -> Step
+    requires { ⌜ (first + 1 < end) × ((first < length (now sheet)) × (getD (now sheet) first 0 ≡ 194)) ⌝ }
+    ensures { λ r. ⌜ CharacterIs true (now (sheet .entry)) end first r ⌝ }
+{
+    let second = first + 1;
+    let place = sheet.len();
+    if place <= second {
+        return Step::Refused { number: 1, place };
+    }
+    if sheet[second] != 176 {
+        return Step::Refused {
+            number: 6,
+            place: first,
+        };
+    }
+    Step::At(second + 1)
+}
+
+// n bytes of a line from `start` on. Where all are printable, or all up to the sheet's end, they are passed at once.
+fn line_bytes(sheet: &[u8], start: usize, n: u8, pairs: bool) -> Step
+    requires { ⌜ start ≤ length (now sheet) ⌝ }
+    ensures { λ r. ⌜ r ≡ readFrom (lineBytes pairs n) (now (sheet .entry)) (Step.At start) ⌝ }
+{
+    let end = start + n as usize;
+    let inside = reach(sheet.len(), start, n);
+    let mut i = past_printable(sheet, start, inside);
+    while i < end {
+        let step = character_at(sheet, i, end, pairs);
+        let Step::At(next) = step else {
+            return step;
+        };
+        i = next;
+    }
+    Step::At(i)
+}
+
+// A line of a cell: its length, and as many bytes of characters and, where they are looked for, pairs.
+pub fn line(sheet: &[u8], from: Step, pairs: bool) -> Step
+    ensures { λ r. ⌜ r ≡ after (lineOf pairs) (now (sheet .entry)) from ⌝ }
+{
+    let count = field::byte_between(sheet, from, 0, 200, 5);
+    let first = count.next;
+    let Step::At(start) = first else {
+        return first;
+    };
+    line_bytes(sheet, start, count.value, pairs)
 }

@@ -12,4 +12,4 @@ cell-spec =
     (λ c κs. search needs)
     (λ c κs. search needs)
     (λ c κs. search needs)
-    (λ c. rw (c .lines .ensures, c .before .within .ensures, c .before .before .printable-or-zero .ensures) (sym (cell-after _ _))))
+    (λ c. rw (c .lines .ensures, c .before .within .ensures, c .before .before .printable-or-zero .ensures) (sym (cell-after _ _ _))))

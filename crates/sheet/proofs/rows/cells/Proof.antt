@@ -2,18 +2,19 @@
 use Prim.Native.Nat.{_-_}
 use mathlib.Core.Path.{_∙_}
 use borrow.Author.Needs.{needs}
-use Rattle.rules.specs.Format.{cell}
+use Rattle.rules.specs.Format.{cellBy}
 use Rattle.rules.specs.Steps.{after, times}
-use Rattle.sheet.specs.Steps.{cellsAfter}
+use Rattle.sheet.specs.Steps.{lineOf, cellsAfter}
 use Rattle.sheet.proofs.Loops.{Items, items-begin, items-again, items-done}
 use Rattle.sheet.proofs.rows.cells.Statement.{statement}
 use Rattle.sheet.proofs.rows.cells.Tie as tie
 
 abbrev Inv-loop : tie.InvT-loop
-Inv-loop sheet columns n step₀ i₀ step i = Items (after cell sheet) n i step (times n (after cell sheet) step₀)
+Inv-loop sheet columns pairs n step₀ i₀ step i =
+    Items (after (cellBy (lineOf pairs)) sheet) n i step (times n (after (cellBy (lineOf pairs)) sheet) step₀)
 
 abbrev μ-loop : tie.MeasureT-loop
-μ-loop sheet columns n step₀ i₀ step i = n - i
+μ-loop sheet columns pairs n step₀ i₀ step i = n - i
 
 pub cells-spec : {M : Type 1} → statement M
 unfolding cellsAfter

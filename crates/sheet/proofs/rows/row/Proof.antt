@@ -11,4 +11,4 @@ row-spec =
     (tie.spec
     (λ c κs. search needs)
     (λ c κs. search needs)
-    (λ c. rw (c .cells .ensures, c .before .within .ensures) (sym (row-after _ _ _))))
+    (λ c. rw (c .cells .ensures, c .before .within .ensures) (sym (row-after _ _ _ _))))

@@ -2,18 +2,20 @@
 use Prim.Native.Nat.{_-_}
 use mathlib.Core.Path.{_∙_}
 use borrow.Author.Needs.{needs}
-use Rattle.rules.specs.Format.{row}
+use Rattle.rules.specs.Format.{rowBy}
 use Rattle.rules.specs.Steps.{after, times}
+use Rattle.sheet.specs.Steps.{lineOf}
 use Rattle.sheet.proofs.Loops.{Items, items-begin, items-again, items-done}
 use Rattle.sheet.proofs.Sections.{counted-whole}
 use Rattle.sheet.proofs.rows.rows.Statement.{statement}
 use Rattle.sheet.proofs.rows.rows.Tie as tie
 
 abbrev Inv-loop : tie.InvT-loop
-Inv-loop sheet columns most n step₀ i₀ step i = Items (after (row columns) sheet) n i step (times n (after (row columns) sheet) step₀)
+Inv-loop sheet columns most pairs n step₀ i₀ step i =
+    Items (after (rowBy (lineOf pairs) columns) sheet) n i step (times n (after (rowBy (lineOf pairs) columns) sheet) step₀)
 
 abbrev μ-loop : tie.MeasureT-loop
-μ-loop sheet columns most n step₀ i₀ step i = n - i
+μ-loop sheet columns most pairs n step₀ i₀ step i = n - i
 
 pub rows-spec : {M : Type 1} → statement M
 rows-spec =
