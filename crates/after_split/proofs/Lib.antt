@@ -1,2 +1,3 @@
+pub mod Knowns
 pub mod Trials
 pub mod Tries

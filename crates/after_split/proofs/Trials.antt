@@ -1,21 +1,23 @@
 -- The longest part, walked: laws of what is found of lines, cells and rows. Assumes nothing.
 use Prim.Native.Nat.{ℕ, _+_, _≤_, _<_, max}
-use mathlib.Core.Path.{_≡_, refl, ap, _∙_}
+use mathlib.Core.Path.{_≡_, refl, sym, ap, _∙_}
 use mathlib.Core.List.{List, [], _∷_, _++_, map}
 use mathlib.Core.Bool.{Bool, true, false}
 use mathlib.Core.Option.{none, some}
 use native.Mathlib.Omega.{arith}
 use lib.ListN.{length, getD}
-use lib.Dec.{ltb}
-use borrow.Author.Tests.{ltb-false, le-leb, lt-leb, lt-ltb, le-ltb}
+use lib.Seq.{slice, take-length}
+use lib.Dec.{eqb, ltb}
+use borrow.Author.Tests.{eqb-true, ltb-true, ltb-false, le-leb, lt-leb, lt-ltb, le-ltb}
 use Rattle.rules.specs.Text.{textWidth, greatest, flat, orElse, All}
 use Rattle.rules.specs.Sheet.{Cell, Row, Table, noCell, cellAt, allRows}
 use Rattle.rules.specs.Wrap.{split}
 use Rattle.rules.specs.Widths.{lifted, cellsOf, trialParts, cellParts, longestPart, shorterBy3}
 use Rattle.laws.proofs.Lists.{map-append, all-imp, all-map-imp}
-use Rattle.laws.proofs.Text.{width-length}
+use Rattle.laws.proofs.Text.{width-le}
 use Rattle.laws.proofs.Bounds.{Most, greatest-le}
 use Rattle.laws.proofs.Split.{Short, split-fits}
+use Rattle.text_width.specs.Measure.{IsPlain}
 use Rattle.after_split.specs.Trial.{ofLine, ofLines, ofCells, ofRows, otherwise}
 
 greatest-append : (xs ys : List ℕ) → greatest (xs ++ ys) ≡ max (greatest xs) (greatest ys)
@@ -35,17 +37,22 @@ pub lines-nil : (a d : ℕ) → ofLines a d [] ≡ 0
 unfolding ofLines flat greatest
 lines-nil a d = refl
 
--- a line longer than the average is split
-pub line-split : (a d m : ℕ) (l : List ℕ) → 0 < a → a < length l → m ≡ greatest (map textWidth (split a d l)) → m ≡ ofLine a d l
-unfolding ofLine trialParts
-line-split a d m l p h q =
-    let k : ltb a (textWidth l) ≡ true = rw width-length (lt-ltb a (length l) h) in
-    let e : lifted a ≡ a = omega arith in
-    rw (k, trialParts, e) q
+-- a whole line's columns, as they are counted
+pub line-columns : (n : ℕ) (l : List ℕ) → n ≡ textWidth (slice 0 (length l) l) → n ≡ textWidth l
+line-columns n l e = e ∙ ap textWidth (take-length l)
 
-pub line-whole : (a d : ℕ) (l : List ℕ) → length l ≤ a → length l ≡ ofLine a d l
+-- with as many columns as bytes it has no pair
+pub line-plain : (n : ℕ) (l : List ℕ) → n ≡ textWidth l → IsPlain (eqb n (length l)) l
+line-plain n l c e = sym c ∙ eqb-true n (length l) e
+
+-- a line with more columns than the average is split
+pub line-split : (a d m : ℕ) (l : List ℕ) → 0 < a → a < textWidth l → m ≡ greatest (map textWidth (split a d l)) → m ≡ ofLine a d l
+unfolding ofLine trialParts
+line-split a d m l p h q = let e : lifted a ≡ a = omega arith in rw (lt-ltb a (textWidth l) h, trialParts, e) q
+
+pub line-whole : (a d : ℕ) (l : List ℕ) → textWidth l ≤ a → textWidth l ≡ ofLine a d l
 unfolding ofLine trialParts greatest
-line-whole a d l h = let k : ltb a (textWidth l) ≡ false = rw width-length (le-ltb a (length l) h) in rw (k, trialParts) (omega (arith, width-length l))
+line-whole a d l h = rw (le-ltb a (textWidth l) h, trialParts) (omega arith)
 
 -- no part is longer than what it is split at
 trial-short : (a d : ℕ) (l : List ℕ) → All (Short (lifted a)) (trialParts a d l)
@@ -54,7 +61,7 @@ trial-short a d l = go (ltb a (textWidth l)) refl
   where
     go : (b : Bool) → ltb a (textWidth l) ≡ b → All (Short (lifted a)) (elim b as (λ x. List (List ℕ)) [ true ↦ split (lifted a) d l | false ↦ l ∷ [] ])
     go true e =
-        all-imp (λ m. (1 ≤ textWidth m) × (textWidth m ≤ lifted a)) (Short (lifted a)) (λ m k. k .1) (split (lifted a) d l)
+        all-imp (λ m. (1 ≤ length m) × (textWidth m ≤ lifted a)) (Short (lifted a)) (λ m k. k .1) (split (lifted a) d l)
         (split-fits (lifted a) d (omega arith) l)
     go false e = (omega (arith, ltb-false a (textWidth l) e), tt)
 
@@ -63,6 +70,14 @@ unfolding ofLine
 line-le a d l =
     greatest-le (lifted a) (map textWidth (trialParts a d l))
     (all-map-imp (Short (lifted a)) (Most (lifted a)) textWidth (λ p h. h) (trialParts a d l) (trial-short a d l))
+
+-- nor has any more columns than the line has bytes
+pub line-bytes : (a d : ℕ) (l : List ℕ) → ofLine a d l ≤ length l
+line-bytes a d l = go (ltb a (textWidth l)) refl
+  where
+    go : (b : Bool) → ltb a (textWidth l) ≡ b → ofLine a d l ≤ length l
+    go true e = omega (arith, line-le a d l, ltb-true a (textWidth l) e, width-le l)
+    go false e = omega (arith, line-whole a d l (ltb-false a (textWidth l) e), width-le l)
 
 pub lines-le : (a d : ℕ) (ls : List (List ℕ)) → ofLines a d ls ≤ lifted a
 lines-le a d [] = omega (arith, lines-nil a d)

@@ -14,17 +14,18 @@ use Rattle.rules.specs.Sheet.{Table, noCell, noRow, columnAt}
 use Rattle.rules.specs.Widths.{lifted, shorterBy3, longestPart}
 use Rattle.rules.specs.Places.{rowsPlace}
 use Rattle.rules.specs.declared.Column.{Column}
-use Rattle.table.specs.Held.{IsAccepted, settingsOf}
+use Rattle.table.specs.Held.{settingsOf}
 use Rattle.table.specs.declared.records.Settings.{Settings}
-use Rattle.table.specs.Walk.{rowsIn, cellsIn, linesIn, rowsEnd, cellsEnd, linesEnd, firstRow, firstCell, firstLine, RowIs, CellIs, LinesNext, CellsSkipped}
+use Rattle.table.specs.Walk.{rowsIn, cellsIn, linesIn, rowsEnd, firstRow, firstCell, firstLine, RowIs, CellIs, LinesNext, CellsSkipped}
 use Rattle.table.specs.declared.records.Rows.{Rows}
 use Rattle.table.specs.declared.records.Cells.{Cells}
 use Rattle.table.specs.declared.records.Lines.{Lines}
 use Rattle.table.specs.declared.records.Row.{Row}
 use Rattle.table.specs.declared.records.Cell.{Cell}
-use Rattle.table.proofs.Held.{room}
-use Rattle.table.proofs.Walks.{lines-number, cells-number, rows-number, cells-none, rows-none, rows-next, row-whole, cell-whole}
+use Rattle.table.proofs.Walks.{lines-number, cells-number, rows-number, cells-none, rows-none, rows-next}
 use Rattle.after_split.specs.declared.Tried.{Tried}
+use Rattle.after_split.specs.Known.{LinesKnown, RowsKnown}
+use Rattle.after_split.proofs.Knowns.{lines-known, rows-known}
 use Rattle.after_split.specs.Trial.{ofLine, ofLines, ofCells, ofRows, otherwise, RowTried, Enough, RowsTried}
 use Rattle.after_split.proofs.Trials.{lines-cons, lines-nil, cells-there, cells-short, rows-le, rows-append, longest-part, shorter-kept}
 
@@ -70,59 +71,55 @@ enough-spares a n m e = go (leb (m + 3) a) refl
 
 -- ---- lines
 
--- m is the longest part of the lines before c
-pub record LinesSoFar (s : List ℕ) (a d : ℕ) (all c : Lines) (m : ℕ) : Type 0 where
-  pub whole : max m (ofLines a d (linesIn s c)) ≡ ofLines a d (linesIn s all)
-  pub inside : linesEnd s c ≤ length s
+-- m is the longest part of the lines before c, and n of what was before them
+pub record LinesSoFar (s : List ℕ) (a d n : ℕ) (all c : Lines) (m : ℕ) : Type 0 where
+  pub whole : max m (ofLines a d (linesIn s c)) ≡ max n (ofLines a d (linesIn s all))
+  pub known : LinesKnown s d c
 
-module _ (s : List ℕ) (a d : ℕ) (all : Lines) where
-  pub lines-begin : linesEnd s all ≤ length s → LinesSoFar s a d all all 0
-  lines-begin h = record { whole = omega arith; inside = h }
+module _ (s : List ℕ) (a d n : ℕ) (all : Lines) where
+  pub lines-begin : LinesKnown s d all → LinesSoFar s a d n all all n
+  lines-begin h = record { whole = refl; known = h }
 
-  pub lines-again : (c r : Lines) (l : List ℕ) (m n k : ℕ) → 0 < c .left → l ≡ firstLine s c → n ≡ ofLine a d l → k ≡ max m n → LinesNext s c r
-      → LinesSoFar s a d all c m → LinesSoFar s a d all r k
-  lines-again c r l m n k some f e q next so =
+  pub lines-again : (c r : Lines) (l : List ℕ) (m k : ℕ) → 0 < c .left → l ≡ firstLine s c → k ≡ max m (ofLine a d l) → LinesNext s c r
+      → LinesSoFar s a d n all c m → LinesSoFar s a d n all r k
+  lines-again c r l m k some f q next so =
       let w = drop-cons (linesIn s c) 0 [] (omega (arith, lines-number s c)) in
-      let g : ofLines a d (linesIn s c) ≡ max n (ofLines a d (linesIn s r)) = ap (ofLines a d) w ∙ lines-cons a d (firstLine s c) (drop 1 (linesIn s c))
-      ∙ rw (e, f, next .lines) in
-      record { whole = omega (arith, so .whole, g); inside = omega (arith, so .inside, next .ends) }
+      let g : ofLines a d (linesIn s c) ≡ max (ofLine a d l) (ofLines a d (linesIn s r)) = ap (ofLines a d) w
+      ∙ lines-cons a d (firstLine s c) (drop 1 (linesIn s c)) ∙ rw (f, next .lines) in
+      record { whole = omega (arith, so .whole, g); known = lines-known s d c r next (so .known) }
 
-  pub lines-enough : (c : Lines) (m : ℕ) (b : Bool) → b ≡ ltb a (m + 3) → b ≡ true → LinesSoFar s a d all c m → Enough a (ofLines a d (linesIn s all)) m
+  pub lines-enough : (c : Lines) (m : ℕ) (b : Bool) → b ≡ ltb a (m + 3) → b ≡ true → LinesSoFar s a d n all c m → Enough a (max n (ofLines a d (linesIn s all))) m
   lines-enough c m b e t so = part-enough a m b e _ t (omega (arith, so .whole))
 
-  pub lines-done : (c : Lines) (m : ℕ) → c .left ≤ 0 → LinesSoFar s a d all c m → Enough a (ofLines a d (linesIn s all)) m
+  pub lines-done : (c : Lines) (m : ℕ) → c .left ≤ 0 → LinesSoFar s a d n all c m → Enough a (max n (ofLines a d (linesIn s all))) m
   lines-done c m h so =
       let z = ap (ofLines a d) (nothing (linesIn s c) (omega (arith, lines-number s c))) in
       whole-enough a _ m (omega (arith, so .whole, z, lines-nil a d))
 
 -- ---- a row
 
--- the cell's lines are inside the sheet
-pub row-inside : (s : List ℕ) (all c : Cells) (j : ℕ) (x : Cell) → CellsSkipped s all j c → (c .left ≡ 0 → ⊥) → CellIs s c x → cellsEnd s all ≤ length s
-    → linesEnd s (x .lines) ≤ length s
-row-inside s all c j x skipped n is h = omega (arith, is .ends, cell-whole s c (omega arith) (omega (arith, skipped .ends)))
-
-module _ (s : List ℕ) (all : Cells) (j a d : ℕ) (c : Cells) (skipped : CellsSkipped s all j c) where
-  pub row-short : c .left ≡ 0 → RowTried s all j a d (record { longest = 0; end = c .at })
+module _ (s : List ℕ) (all : Cells) (j a d before : ℕ) (c : Cells) (skipped : CellsSkipped s all j c) where
+  pub row-short : c .left ≡ 0 → RowTried s all j a d before (record { longest = before; end = c .at })
   row-short z =
+      let none = cells-short j a d (cellsIn s all) (omega (arith, cells-number s all, skipped .left)) in
       record {
-        longest = whole-enough a _ 0 (sym (cells-short j a d (cellsIn s all) (omega (arith, cells-number s all, skipped .left))));
+        longest = whole-enough a _ before (omega (arith, none));
         ends = λ k. sym (cells-none s c (omega arith)) ∙ skipped .ends;
       }
 
   module _ (x : Cell) (e m : ℕ) (n : c .left ≡ 0 → ⊥) (is : CellIs s c x) (q : e ≡ orElse (x .delimiter) d)
-      (f : Enough a (ofLines a e (linesIn s (x .lines))) m) (b : Bool) (u : b ≡ ltb a (m + 3)) where
-    row-cell : Enough a (ofCells j a d (cellsIn s all)) m
+      (f : Enough a (max before (ofLines a e (linesIn s (x .lines)))) m) (b : Bool) (u : b ≡ ltb a (m + 3)) where
+    row-cell : Enough a (max before (ofCells j a d (cellsIn s all))) m
     row-cell =
         let k = cells-number s all in
         let z : j + 0 ≡ j = omega arith in
         let here : firstCell s c ≡ getD (cellsIn s all) j noCell = rw (skipped .cells) (getD-drop j (cellsIn s all) 0 noCell ∙ rw z) in
         rw (cells-there j a d (cellsIn s all) (omega (arith, skipped .left)), ← here, ← is .delimiter, ← is .lines, ← q) f
 
-    pub row-enough : (l : ℕ) → b ≡ true → RowTried s all j a d (record { longest = m; end = l })
+    pub row-enough : (l : ℕ) → b ≡ true → RowTried s all j a d before (record { longest = m; end = l })
     row-enough l t = record { longest = row-cell; ends = saves-less a m b u t }
 
-    pub row-there : (last : Cells) → CellsSkipped s c (c .left) last → RowTried s all j a d (record { longest = m; end = last .at })
+    pub row-there : (last : Cells) → CellsSkipped s c (c .left) last → RowTried s all j a d before (record { longest = m; end = last .at })
     row-there last rest = record { longest = row-cell; ends = λ k. sym (cells-none s last (omega (arith, rest .left))) ∙ rest .ends ∙ skipped .ends }
 
 -- ---- rows
@@ -139,36 +136,36 @@ rows-nil j a d = refl
 pub record RowsSoFar (s : List ℕ) (j a d : ℕ) (all c : Rows) (m : ℕ) : Type 0 where
   pub whole : max m (ofRows j a d (rowsIn s c)) ≡ ofRows j a d (rowsIn s all)
   pub ends : rowsEnd s c ≡ rowsEnd s all
-  pub inside : rowsEnd s c ≤ length s
+  pub known : RowsKnown s d c
 
 module _ (s : List ℕ) (j a d : ℕ) (all : Rows) where
-  pub rows-begin : rowsEnd s all ≤ length s → RowsSoFar s j a d all all 0
-  rows-begin h = record { whole = omega arith; ends = refl; inside = h }
-
-  pub row-fits : (c : Rows) (row : Row) (m : ℕ) → 0 < c .left → RowIs s c row → RowsSoFar s j a d all c m → cellsEnd s (row .cells) ≤ length s
-  row-fits c row m some is so = omega (arith, is .ends, row-whole s c some (so .inside))
+  pub rows-begin : RowsKnown s d all → RowsSoFar s j a d all all 0
+  rows-begin h = record { whole = omega arith; ends = refl; known = h }
 
   -- the walk ends after a row, or goes on
-  module _ (c : Rows) (row : Row) (found : Tried) (m k : ℕ) (some : 0 < c .left) (is : RowIs s c row) (tried : RowTried s (row .cells) j a d found)
-      (q : k ≡ max m (found .longest)) (so : RowsSoFar s j a d all c m) (b : Bool) (u : b ≡ ltb a (k + 3)) where
+  module _ (c : Rows) (row : Row) (found : Tried) (m : ℕ) (some : 0 < c .left) (is : RowIs s c row) (tried : RowTried s (row .cells) j a d m found)
+      (so : RowsSoFar s j a d all c m) (b : Bool) (u : b ≡ ltb a (found .longest + 3)) where
     rows-first : ofRows j a d (rowsIn s c) ≡ max (ofCells j a d (cellsIn s (row .cells))) (ofRows j a d (drop 1 (rowsIn s c)))
     rows-first =
         let w = drop-cons (rowsIn s c) 0 noRow (omega (arith, rows-number s c)) in
         ap (ofRows j a d) w ∙ rows-cons j a d (firstRow s c) (drop 1 (rowsIn s c)) ∙ rw (is .cells)
 
-    pub rows-enough : (l : ℕ) → b ≡ true → RowsTried s all j a d (record { longest = k; end = l })
-    rows-enough l t = record { longest = part-enough a k b u _ t (omega (arith, so .whole, rows-first, tried .longest .part)); ends = saves-less a k b u t }
+    pub rows-enough : b ≡ true → RowsTried s all j a d found
+    rows-enough t = record {
+      longest = part-enough a (found .longest) b u _ t (omega (arith, so .whole, rows-first, tried .longest .part));
+      ends = saves-less a (found .longest) b u t;
+    }
 
-    pub rows-again : b ≡ false → RowsSoFar s j a d all (record { at = found .end; left = c .left - 1 }) k
+    pub rows-again : b ≡ false → RowsSoFar s j a d all (record { at = found .end; left = c .left - 1 }) (found .longest)
     rows-again f =
-        let l = saves-three a k b u f in
-        let next = rows-next s c some (found .end) (tried .ends (omega arith) ∙ is .ends) in
+        let l = saves-three a (found .longest) b u f in
+        let next = rows-next s c some (found .end) (tried .ends l ∙ is .ends) in
         let g : ofRows j a d (rowsIn s (record { at = found .end; left = c .left - 1 })) ≡ ofRows j a d (drop 1 (rowsIn s c)) = ap (ofRows j a d)
         (next .rows) in
         record {
-          whole = omega (arith, so .whole, rows-first, g, tried .longest .all (omega arith));
+          whole = omega (arith, so .whole, rows-first, g, tried .longest .all l);
           ends = next .ends ∙ so .ends;
-          inside = omega (arith, so .inside, next .ends);
+          known = rows-known s d c _ next (so .known);
         }
 
   pub rows-done : (c : Rows) (m : ℕ) → c .left ≤ 0 → RowsSoFar s j a d all c m → RowsTried s all j a d (record { longest = m; end = c .at })
@@ -178,10 +175,7 @@ module _ (s : List ℕ) (j a d : ℕ) (all : Rows) where
 
 -- ---- the whole
 
--- the header's walk ends inside the sheet, where the rows' count stands
-pub header-inside : (s : List ℕ) (c : Rows) → IsAccepted s → rowsEnd s c ≡ rowsPlace s → rowsEnd s c ≤ length s
-header-inside s c h e = omega (arith, room s h .inside)
-
+-- the header's walk ends where the rows' count stands
 pub header-behind : (s : List ℕ) (c : Rows) (j a d : ℕ) (r : Tried) (b : Bool) → b ≡ ltb a (r .longest + 3) → b ≡ false → RowsTried s c j a d r
     → rowsEnd s c ≡ rowsPlace s → rowsEnd s (record { at = r .end; left = 0 }) ≡ rowsPlace s
 header-behind s c j a d r b q f tried e = rows-none s (record { at = r .end; left = 0 }) (omega arith) ∙ tried .ends (saves-three a (r .longest) b q f) ∙ e

@@ -38,9 +38,10 @@ pub record Enough (a n m : ℕ) : Type 0 where
   pub part : m ≤ n
   pub all : m + 3 ≤ a → m ≡ n
 
--- a row's cells have been walked, and rows: to their end, if what was found is shorter than the average by 3 or more
-pub record RowTried (s : List ℕ) (c : Cells) (j a d : ℕ) (r : Tried) : Type 0 where
-  pub longest : Enough a (ofCells j a d (cellsIn s c)) (r .longest)
+-- a row's cells have been walked, n being the longest part before them, and rows: to their end, if what was found is shorter than the
+-- average by 3 or more
+pub record RowTried (s : List ℕ) (c : Cells) (j a d n : ℕ) (r : Tried) : Type 0 where
+  pub longest : Enough a (max n (ofCells j a d (cellsIn s c))) (r .longest)
   pub ends : r .longest + 3 ≤ a → r .end ≡ cellsEnd s c
 
 pub record RowsTried (s : List ℕ) (c : Rows) (j a d : ℕ) (r : Tried) : Type 0 where

@@ -1,13 +1,14 @@
 // What a column would need after a split: `longest_line_after_split` of comfy-table's `arrangement/dynamic.rs`, a function for each of
 // its loops. No text is copied: each line is the part of the sheet that holds it.
 ghost use mathlib.Core.Path.{_≡_};
-ghost use Prim.Native.Nat.{_+_, _≤_, _<_};
+ghost use Prim.Native.Nat.{_+_, _<_, max};
 ghost use lib.Dec.{ltb};
-ghost use lib.ListN.{length};
 ghost use Rattle.rules.specs.Sheet.{columnAt};
 ghost use Rattle.rules.specs.Widths.{shorterBy3, longestPart};
 ghost use Rattle.table.specs.Held.{IsAccepted, tableOf};
-ghost use Rattle.table.specs.Walk.{linesIn, rowsEnd, cellsEnd, linesEnd};
+ghost use Rattle.table.specs.Walk.{linesIn};
+ghost use Rattle.content_split.specs.Cut.{Sound};
+ghost use Rattle.after_split.specs.Known.{LinesKnown, CellsKnown, RowsKnown};
 ghost use Rattle.after_split.specs.Trial.{ofLine, ofLines, Enough, RowTried, RowsTried};
 use rules::Column;
 use table::records::Cells;
@@ -22,16 +23,28 @@ pub struct Tried {
     pub end: usize,
 }
 
-// A line that is no longer than the average isn't split. Below an average of 3 no split pays, and no line is looked at.
+// A line of no more columns than the average isn't split. Where it has as many columns as bytes, no pair is in it. Below an average of 3
+// no split pays, and no line is looked at.
 fn longest_part_of_line(line: &[u8], average: usize, delimiter: u8) -> usize
-    requires { ⌜ 0 < average ⌝ }
+    requires { ⌜ (0 < average) × Sound delimiter (now line) 0 ⌝ }
     ensures { λ r. ⌜ r ≡ ofLine average delimiter (now (line .entry)) ⌝ }
 {
-    let n = line.len();
+    let n = text_width::columns(line, 0, line.len(), false);
     if n <= average {
         return n;
     }
-    content_split::longest_part(line, average, delimiter)
+    content_split::longest_part(line, average, delimiter, n == line.len())
+}
+
+// The longest so far, or a part of another line. No text has more columns than bytes: a line of so few bytes isn't counted.
+fn longer(longest: usize, line: &[u8], average: usize, delimiter: u8) -> usize
+    requires { ⌜ (0 < average) × Sound delimiter (now line) 0 ⌝ }
+    ensures { λ r. ⌜ r ≡ max longest (ofLine average delimiter (now (line .entry))) ⌝ }
+{
+    if line.len() <= longest {
+        return longest;
+    }
+    numbers::greater(longest, longest_part_of_line(line, average, delimiter))
 }
 
 // Splitting pays only if it saves three columns: with such a part it doesn't, whatever the others are.
@@ -44,19 +57,25 @@ fn saves_too_little(average: usize, longest: usize) -> bool
     average - longest < 3
 }
 
-// The lines after such a part aren't split.
-fn longest_part_of_lines(sheet: &[u8], lines: Lines, average: usize, delimiter: u8) -> usize
-    requires { ⌜ linesEnd (now sheet) lines ≤ length (now sheet) ⌝ }
-    ensures { λ r. ⌜ Enough average (ofLines average delimiter (linesIn (now (sheet .entry)) lines)) r ⌝ }
+// The lines after such a part aren't split. What was found before is handed on, so that few lines are counted.
+fn longest_part_of_lines(
+    sheet: &[u8],
+    lines: Lines,
+    average: usize,
+    delimiter: u8,
+    before: usize,
+) -> usize
+    requires { ⌜ LinesKnown (now sheet) delimiter lines ⌝ }
+    ensures { λ r. ⌜ Enough average (max before (ofLines average delimiter (linesIn (now (sheet .entry)) lines))) r ⌝ }
 {
-    let mut longest: usize = 0;
+    let mut longest = before;
     let mut c = lines;
     while 0 < c.left {
         if saves_too_little(average, longest) {
             return longest;
         }
         let line = walk::line(sheet, c);
-        longest = numbers::greater(longest, longest_part_of_line(line, average, delimiter));
+        longest = longer(longest, line, average, delimiter);
         c = walk::next_line(sheet, c);
     }
     longest
@@ -69,14 +88,15 @@ fn longest_part_of_row(
     column: usize,
     average: usize,
     otherwise: u8,
+    before: usize,
 ) -> Tried
-    requires { ⌜ cellsEnd (now sheet) cells ≤ length (now sheet) ⌝ }
-    ensures { λ r. ⌜ RowTried (now (sheet .entry)) cells column average otherwise r ⌝ }
+    requires { ⌜ CellsKnown (now sheet) otherwise cells ⌝ }
+    ensures { λ r. ⌜ RowTried (now (sheet .entry)) cells column average otherwise before r ⌝ }
 {
     let c = walk::skip_cells(sheet, cells, column);
     if c.left == 0 {
         return Tried {
-            longest: 0,
+            longest: before,
             end: c.at,
         };
     }
@@ -87,6 +107,7 @@ fn longest_part_of_row(
         lines,
         average,
         numbers::or_else(cell.delimiter, otherwise),
+        before,
     );
     if saves_too_little(average, longest) {
         return Tried { longest, end: c.at };
@@ -106,7 +127,7 @@ fn longest_part_of_rows(
     average: usize,
     otherwise: u8,
 ) -> Tried
-    requires { ⌜ rowsEnd (now sheet) rows ≤ length (now sheet) ⌝ }
+    requires { ⌜ RowsKnown (now sheet) otherwise rows ⌝ }
     ensures { λ r. ⌜ RowsTried (now (sheet .entry)) rows column average otherwise r ⌝ }
 {
     let mut longest: usize = 0;
@@ -114,14 +135,11 @@ fn longest_part_of_rows(
     while 0 < c.left {
         let row = walk::row(sheet, c);
         let cells = row.cells;
-        let found = longest_part_of_row(sheet, cells, column, average, otherwise);
-        longest = numbers::greater(longest, found.longest);
-        if saves_too_little(average, longest) {
-            return Tried {
-                longest,
-                end: found.end,
-            };
+        let found = longest_part_of_row(sheet, cells, column, average, otherwise, longest);
+        if saves_too_little(average, found.longest) {
+            return found;
         }
+        longest = found.longest;
         c = Rows {
             at: found.end,
             left: c.left - 1,

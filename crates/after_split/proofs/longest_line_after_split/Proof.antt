@@ -2,7 +2,8 @@ use borrow.Author.Needs.{needs}
 use Prim.Native.Nat.{_≤_}
 use native.Mathlib.Omega.{arith}
 use Rattle.rules.specs.Widths.{lifted}
-use Rattle.after_split.proofs.Tries.{header-inside, header-behind, tried-le, tried-header, tried-both, otherwise-is}
+use Rattle.after_split.proofs.Knowns.{header-known, all-known}
+use Rattle.after_split.proofs.Tries.{header-behind, tried-le, tried-header, tried-both, otherwise-is}
 use Rattle.after_split.proofs.longest_line_after_split.Statement.{statement}
 use Rattle.after_split.proofs.longest_line_after_split.Tie as tie
 
@@ -14,7 +15,10 @@ longest-line-after-split-spec =
     (λ c κs. search needs)
     (λ c κs. search needs)
     (λ c κs. search needs)
-    (λ c κs. header-inside _ _ (c .before .before .before .before .before .pre .0) (c .header .ensures .1))
+    (λ c κs. let e = c .before in
+    let known = e .before .before .before .before .pre in
+    let delimiter = otherwise-is _ _ _ _ _ _ (known .1) (e .before .before .settings .ensures) (e .before .or-else .ensures) (e .or-else2 .ensures) in
+    header-known _ _ _ _ (known .0) delimiter (c .header .ensures .0) (c .header .ensures .1))
     (λ c κs. search needs)
     (λ c. let o = c .before .before .before in
     let b = o .before .before .before .before .before .before in
@@ -33,7 +37,10 @@ longest-line-after-split-spec =
     let accepted = h .before .before .before .before .before .pre .0 in
     let found = y .before .longest-part-of-rows .ensures in
     (accepted, header-behind _ _ _ _ _ _ _ (y .saves-too-little .ensures) (c .if1 .left) found (h .header .ensures .1)))
-    (λ c κs. search needs)
+    (λ c κs. let e = c .before .before .before .before .before in
+    let known = e .before .before .before .before .pre in
+    let delimiter = otherwise-is _ _ _ _ _ _ (known .1) (e .before .before .settings .ensures) (e .before .or-else .ensures) (e .or-else2 .ensures) in
+    all-known _ _ _ _ (known .0) delimiter (c .rows .ensures .0) (c .rows .ensures .1))
     (λ c κs. search needs)
     (λ c. let o = c .before .before .before .before .before in
     let b = o .before .before .before .before .before .before in
