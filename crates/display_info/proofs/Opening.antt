@@ -1,7 +1,7 @@
 -- What a page is opened with is the sheet's. Assumes nothing.
 use Prim.Native.Nat.{ℕ, zero, suc, _+_, _-_, _≤_, _<_}
 use mathlib.Core.Path.{_≡_, refl, sym, ap, _∙_}
-use mathlib.Core.Logic.{⊎-elim}
+use mathlib.Core.Logic.{inl, inr, ⊎-elim}
 use mathlib.Core.List.{List, [], _∷_, _++_}
 use mathlib.Core.Bool.{Bool, true, false}
 use native.Mathlib.Numerals.{add-one}
@@ -12,7 +12,7 @@ use lib.Seq.{take-at, getD-set-same, getD-set-other, getD-at}
 use Rattle.rules.specs.declared.Column.{Column}
 use Rattle.rules.specs.Text.{orElse}
 use Rattle.rules.specs.Sheet.{Table, mostColumns, noColumn, columnAt, isHidden}
-use Rattle.rules.specs.Limits.{TableLimits, ColumnLimits}
+use Rattle.rules.specs.Limits.{Printable, Plain, TableLimits, ColumnLimits}
 use Rattle.rules.specs.Style.{topBorder, headerLines, headerRule, contentLines, rowRule, bottomBorder, glyphAt, glyph, anyLeft, anyRight, anyJunction, isVisible}
 use Rattle.rules.specs.Calls.{asArray}
 use Rattle.rules.specs.Widths.{visible, contents}
@@ -22,6 +22,7 @@ use Rattle.laws.proofs.Bounds.{Most, contents-801}
 use Rattle.laws.proofs.Contents.{length-contents}
 use Rattle.laws.proofs.Counts.{visibleTo, visible-to-none, visible-to-shown, visible-to-hidden, visible-to-all, visible-rising, visible-number}
 use Rattle.laws.proofs.Lists.{all-getD}
+use Rattle.laws.proofs.Texts.{plain-all}
 use Rattle.rules.specs.Places.{rowsPlace}
 use Rattle.style.specs.Bytes.{bytesOf}
 use Rattle.style.specs.declared.table_style.TableStyle.{TableStyle}
@@ -40,6 +41,7 @@ use Rattle.row.specs.Open.{Rising, UsableAll}
 use Rattle.row.specs.Packed.{columnFrom, viewOf}
 use Rattle.formatting.specs.RowText.{Marks}
 use Rattle.row.proofs.Lent.{set-each}
+use Rattle.row.proofs.Open.{or-printable}
 use Rattle.borders.specs.Rule.{NarrowAll, ruleStyleOf}
 use Rattle.formatting.specs.Stand.{textStyleOf}
 use Rattle.row.specs.declared.VisibleColumn.{VisibleColumn}
@@ -213,8 +215,12 @@ marks-held : (t : Table) → indicatorOf t .count ≤ length (indicatorOf t .cha
 unfolding indicatorOf
 marks-held t = omega (arith, length-append (t .indicator) (replicate (8 - length (t .indicator)) 0))
 
-pub marks-of : (s : List ℕ) (i : Indicator) → i ≡ indicatorOf (tableOf s) → Marks s i
-marks-of s i e = rw e (record { are = marks-are (tableOf s); within = marks-held (tableOf s) })
+pub marks-of : (s : List ℕ) (i : Indicator) → IsAccepted s → i ≡ indicatorOf (tableOf s) → Marks s i
+marks-of s i passes e =
+    let t = tableOf s in
+    let plain : Plain (take (indicatorOf t .count) (indicatorOf t .characters)) =
+    rw (marks-are t) (plain-all (t .indicator) (limits-of s passes .indicator-characters)) in
+    rw e (record { are = marks-are t; indicator = record { within = marks-held t; plain = plain } })
 
 -- all columns have been looked at
 pub showing-done : (t : Table) (j : ℕ) (view : View) → TableLimits t → j ≡ length (t .columns) → Showing t j view → Views t (contents t) view
@@ -238,9 +244,17 @@ module _ (t : Table) (view : View) (T : TableLimits t) (W : Views t (contents t)
         rw (number-at i (omega arith), number-at k l) (visible-rising t i k h (omega arith));
   }
 
-  pub view-wide : UsableAll view
+  -- the delimiter of column n, else the table's, else a space
+  delimiter-prints : (n : ℕ) → n < length (t .columns) → Printable (orElse (columnAt t n .delimiter) (orElse (t .delimiter) 32))
+  delimiter-prints n h =
+      let c = all-getD ColumnLimits (t .columns) n noColumn h (T .each-column) in
+      or-printable (columnAt t n .delimiter) (orElse (t .delimiter) 32) (c .delimiter)
+      (or-printable (t .delimiter) 32 (T .delimiter) (omega arith, omega arith))
+
+  pub view-usable : UsableAll view
   unfolding shownOf
-  view-wide i h = rw (W .each i h) (content-some t (numberOf t i) (inside i h))
+  view-usable i h =
+      rw (W .each i h) (content-some t (numberOf t i) (inside i h), delimiter-prints (numberOf t i) (inside i h))
 
   pub view-narrow : NarrowAll view
   unfolding shownOf
@@ -256,7 +270,7 @@ module _ (t : Table) (view : View) (T : TableLimits t) (W : Views t (contents t)
 
 module _ (s : List ℕ) (passes : IsAccepted s) (c : Rows) where
   pub header-at : rowsIn s c ≡ tableOf s .header → rowsEnd s c ≡ rowsPlace s → RowsAt s c
-  header-at e f = let m = room s passes in record { ends = omega (arith, f); sound = rw e (limits-of s passes .header-row) }
+  header-at e f = let m = room s passes in record { ends = omega (arith, f); sound = rw e (limits-of s passes .header-row); skipped = 0; among = inl e }
 
   -- at most one header row
   pub header-one : rowsIn s c ≡ tableOf s .header → c .left ≤ 1
@@ -266,4 +280,4 @@ module _ (s : List ℕ) (passes : IsAccepted s) (c : Rows) where
   rows-few e = omega (arith, limits-of s passes .rows, ap length e, rows-number s c)
 
   pub rows-at : rowsIn s c ≡ tableOf s .rows → rowsEnd s c ≡ length s → RowsAt s c
-  rows-at e f = record { ends = omega (arith, f); sound = rw e (limits-of s passes .each-row) }
+  rows-at e f = record { ends = omega (arith, f); sound = rw e (limits-of s passes .each-row); skipped = 0; among = inr e }

@@ -1,11 +1,12 @@
 -- What a page is drawn from. Assumes nothing.
 use Prim.Native.Nat.{ℕ, _≤_}
 use mathlib.Core.Path.{_≡_}
+use mathlib.Core.Logic.{_⊎_}
 use mathlib.Core.List.{List}
 use mathlib.Core.Bool.{true}
-use lib.ListN.{length}
+use lib.ListN.{length, drop}
 use Rattle.rules.specs.Text.{All}
-use Rattle.rules.specs.Limits.{RowLimits}
+use Rattle.rules.specs.Limits.{RowLimits, PlainTable}
 use Rattle.rules.specs.Style.{topBorder, headerLines, headerRule, contentLines, rowRule, bottomBorder, anyJunction, isVisible}
 use Rattle.rules.specs.Widths.{contents}
 use Rattle.table.specs.Held.{IsAccepted, tableOf}
@@ -35,17 +36,20 @@ stylesOf S = record {
   «has_bottom» = isVisible S bottomBorder;
 }
 
--- rows of the sheet, within it and within the limits
+-- rows of the sheet, within it and within the limits: those of the header or of the body, all but the first few
 pub record RowsAt (s : List ℕ) (c : Rows) : Type 0 where
   pub ends : rowsEnd s c ≤ length s
   pub sound : All (RowLimits (length (tableOf s .columns))) (rowsIn s c)
+  pub skipped : ℕ
+  pub among : (rowsIn s c ≡ drop skipped (tableOf s .header)) ⊎ (rowsIn s c ≡ drop skipped (tableOf s .rows))
 
 -- a page over some rows is drawn from the sheet's columns, indicator, style and header
 pub record Opened (s : List ℕ) (columns : List (List ℕ)) (p : Page) : Type 0 where
   pub passes : IsAccepted s
   pub views : Views (tableOf s) (widthsIn s) (viewOf columns (p .count))
   pub rising : Rising (viewOf columns (p .count))
-  pub wide : UsableAll (viewOf columns (p .count))
+  pub usable : UsableAll (viewOf columns (p .count))
+  pub plain : p .plain ≡ true → PlainTable (tableOf s)
   pub narrow : NarrowAll (viewOf columns (p .count))
   pub marks : Marks s (p .indicator)
   pub styles : p .styles ≡ stylesOf (tableOf s .style)

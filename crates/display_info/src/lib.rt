@@ -1,8 +1,10 @@
 // What every line of a page is drawn from, read from an accepted sheet once. The visible columns are numbers in an array beside it, which is lent.
 ghost use mathlib.Core.Path.{_≡_};
+ghost use mathlib.Core.Bool.{true};
 ghost use Prim.Native.Nat.{_+_, _<_};
 ghost use lib.ListN.{length};
 ghost use Rattle.rules.specs.Sheet.{mostColumns};
+ghost use Rattle.rules.specs.Limits.{PlainTable};
 ghost use Rattle.rules.specs.Style as characters;
 ghost use Rattle.rules.specs.Style.{styleCharacters, anyLeft, anyRight, anyJunction};
 ghost use Rattle.rules.specs.Widths.{contents};
@@ -54,8 +56,10 @@ pub struct LineStyles {
     pub has_bottom: bool,
 }
 
-// A page over some rows of the sheet: how many columns are visible, the indicator, the lines' styles, the header and the rows.
+// A page over some rows of the sheet: how many columns are visible, the indicator, the lines' styles, the header and the rows. On a plain page no
+// cell has a pair, so that each text line has as many bytes as columns.
 pub struct Page {
+    pub plain: bool,
     pub count: usize,
     pub indicator: Indicator,
     pub styles: LineStyles,
@@ -219,9 +223,10 @@ pub fn content_widths(sheet: &[u8]) -> Widths
     arrangement::arrange_content(sheet, t)
 }
 
-// The page over all rows of the sheet.
-pub fn open(sheet: &[u8], columns: &mut [[usize; 6]; MOST_COLUMNS]) -> Page
+// The page over all rows of the sheet, which may be called plain if the check found it so.
+pub fn open(sheet: &[u8], plain: bool, columns: &mut [[usize; 6]; MOST_COLUMNS]) -> Page
     requires { ⌜ IsAccepted (now sheet) × (length (now columns) ≡ mostColumns) ⌝ }
+    requires { ⌜ (plain ≡ true → PlainTable (tableOf (now sheet))) ⌝ }
     ensures { λ r. ⌜ Opened (now (sheet .entry)) (now (columns .exit)) r × (rowsIn (now (sheet .entry)) (r .rows) ≡ tableOf (now (sheet .entry)) .rows) ⌝ }
 {
     let widths = content_widths(sheet);
@@ -231,6 +236,7 @@ pub fn open(sheet: &[u8], columns: &mut [[usize; 6]; MOST_COLUMNS]) -> Page
     let header = walk::header(sheet);
     let rows = walk::rows(sheet, header);
     Page {
+        plain,
         count,
         indicator,
         styles,

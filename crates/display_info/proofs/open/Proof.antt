@@ -22,18 +22,19 @@ open-spec =
     let h = c .before .header .ensures in
     let r = c .rows .ensures in (
       record {
-        passes = s .pre .0;
+        passes = s .pre .0 .0;
         views = v .0;
         rising = v .1 .0;
-        wide = v .1 .1 .0;
+        usable = v .1 .1 .0;
+        plain = s .pre .1;
         narrow = v .1 .1 .1;
-        marks = marks-of _ _ (c .before .before .before .before .indicator .ensures);
+        marks = marks-of _ _ (s .pre .0 .0) (c .before .before .before .before .indicator .ensures);
         styles = c .before .before .styles .ensures ∙ ap stylesOf (c .before .before .before .style .ensures);
         header = h .0;
-        header-at = header-at _ (s .pre .0) _ (h .0) (h .1);
-        header-one = header-one _ (s .pre .0) _ (h .0);
-        rows-at = rows-at _ (s .pre .0) _ (r .0) (r .1);
-        rows-few = rows-few _ (s .pre .0) _ (r .0);
+        header-at = header-at _ (s .pre .0 .0) _ (h .0) (h .1);
+        header-one = header-one _ (s .pre .0 .0) _ (h .0);
+        rows-at = rows-at _ (s .pre .0 .0) _ (r .0) (r .1);
+        rows-few = rows-few _ (s .pre .0 .0) _ (r .0);
       },
       r .0,
     )))

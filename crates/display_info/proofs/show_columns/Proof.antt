@@ -7,7 +7,7 @@ use Rattle.table.specs.Held.{tableOf}
 use Rattle.arrangement.proofs.Layouts.{count-fits, column-at}
 use Rattle.row.specs.Packed.{viewOf}
 use Rattle.display_info.proofs.Opening.{limits-of, Showing, showing-begin, showing-on, showing-done, columns-count, width-is, delimiter-is}
-use Rattle.display_info.proofs.Opening.{view-rising, view-wide, view-narrow}
+use Rattle.display_info.proofs.Opening.{view-rising, view-usable, view-narrow}
 use Rattle.display_info.proofs.show_columns.Statement.{statement}
 use Rattle.display_info.proofs.show_columns.Tie as tie
 
@@ -61,4 +61,4 @@ show-columns-spec =
     let T = limits-of _ (s .pre .0) in
     let W = showing-done _ _ _ T (omega (arith, columns-count _ _ (c .before .before .columns .ensures), l .inv .0, c .loop-test .left))
     (l .inv .1 .1) in
-    (W, (view-rising _ _ T W, (view-wide _ _ T W, view-narrow _ _ T W)))))
+    (W, (view-rising _ _ T W, (view-usable _ _ T W, view-narrow _ _ T W)))))
