@@ -375,13 +375,18 @@ bytes-longest [] h = omega arith
 bytes-longest (l ∷ ls) h = omega (arith, bytes-longest ls (h .1), h .0)
 
 module _ (t : Table) (T : TableLimits t) where
-  -- no line has more bytes, over some of the rows
+  drawn-short : (l : List ℕ) → Drawn t l → length l ≤ longestLine
+  drawn-short l (inl e, f) = omega (arith, line-length-most t T, visible-count t, T .columns)
+  drawn-short l (inr e, f) = omega (arith, border-length-most t T, visible-count t, T .columns)
+
+  -- no text line has more bytes
+  pub text-line-bound : (r : Row) → All CellLimits (r .cells) → (k i : ℕ)
+      → length (textLine (t .style) k (map (areaAt t (contents t) r i) (visible t))) ≤ longestLine
+  text-line-bound r R k i = drawn-short _ (text-drawn t T r R k i)
+
+  -- nor has any line, over some of the rows
   pub framed-line-bound : (rs : List Row) → All (RowLimits (length (t .columns))) rs → All (λ l. length l ≤ longestLine) (framed t (contents t) rs)
-  framed-line-bound rs h = all-imp (Drawn t) (λ l. length l ≤ longestLine) go (framed t (contents t) rs) (framed-line-lengths t T rs h)
-    where
-      go : (l : List ℕ) → Drawn t l → length l ≤ longestLine
-      go l (inl e, f) = omega (arith, line-length-most t T, visible-count t, T .columns)
-      go l (inr e, f) = omega (arith, border-length-most t T, visible-count t, T .columns)
+  framed-line-bound rs h = all-imp (Drawn t) (λ l. length l ≤ longestLine) drawn-short (framed t (contents t) rs) (framed-line-lengths t T rs h)
 
   -- the bytes of lines over some of the rows
   pub framed-byte-bound : (rs : List Row) → length rs ≤ 100 → All (RowLimits (length (t .columns))) rs → length (closed (framed t (contents t) rs)) ≤

@@ -42,6 +42,10 @@ all-append P [] ys h k = k
 all-append P (x ∷ xs) ys h k = (h .0, all-append P xs ys (h .1) k)
 
 -- and of the second of them
+pub all-left : {A : Type 0} (P : A → Type 0) (xs ys : List A) → All P (xs ++ ys) → All P xs
+all-left P [] ys h = tt
+all-left P (x ∷ xs) ys h = (h .0, all-left P xs ys (h .1))
+
 pub all-right : {A : Type 0} (P : A → Type 0) (xs ys : List A) → All P (xs ++ ys) → All P ys
 all-right P [] ys h = h
 all-right P (x ∷ xs) ys h = all-right P xs ys (h .1)

@@ -1,12 +1,13 @@
 -- Sizes of what is drawn and written. Assumes nothing.
-use Prim.Native.Nat.{ℕ, _+_, _-_, _/_, _≤_}
+use Prim.Native.Nat.{ℕ, _+_, _-_, _*_, _/_, _≤_}
 use mathlib.Core.Path.{_≡_, refl, sym, _∙_}
 use mathlib.Core.List.{List, [], _∷_, _++_, map, append-assoc}
 use mathlib.Core.Bool.{Bool, true, false, cond}
+use native.Mathlib.Nat.{suc-mul}
 use native.Mathlib.Omega.{arith}
 use lib.ListN.{length, length-append, length-replicate}
 use lib.Dec.{eqb}
-use Rattle.rules.specs.Text.{sum, textWidth}
+use Rattle.rules.specs.Text.{All, sum, textWidth}
 use Rattle.rules.specs.Sheet.{Table, padding}
 use Rattle.rules.specs.declared.Column.{Column}
 use Rattle.rules.specs.Page.{area, before, closed, page, pageLines, byteCount}
@@ -56,3 +57,15 @@ module _ (t : Table) where
   pub byte-count-closed : byteCount t ≡ length (closed (pageLines t))
   unfolding byteCount page
   byte-count-closed = refl
+
+-- lines that take n bytes each, their 0As included
+pub closed-sized : (n : ℕ) (ls : List (List ℕ)) → All (λ l. length l + 1 ≡ n) ls → length (closed ls) ≡ length ls * n
+unfolding closed
+closed-sized n [] h = omega arith
+closed-sized n (l ∷ ls) h = length-append l (10 ∷ closed ls) ∙ omega (arith, closed-sized n ls (h .1), h .0, suc-mul (length ls) n)
+
+-- or at most n
+pub closed-most : (n : ℕ) (ls : List (List ℕ)) → All (λ l. length l + 1 ≤ n) ls → length (closed ls) ≤ length ls * n
+unfolding closed
+closed-most n [] h = omega arith
+closed-most n (l ∷ ls) h = omega (arith, length-append l (10 ∷ closed ls), closed-most n ls (h .1), h .0, suc-mul (length ls) n)

@@ -5,18 +5,20 @@ use mathlib.Core.List.{List, [], _∷_, _++_}
 use mathlib.Core.Bool.{Bool, true, false, cond, not, _&&_}
 use native.Mathlib.Omega.{arith}
 use native.Mathlib.Nat.{suc-add}
-use lib.ListN.{length, take, drop, getD, length-append, drop-of-length-le}
-use lib.Seq.{drop-nil, take-nil}
+use lib.ListN.{length, take, drop, getD, length-append, drop-of-length-le, List·getD-append}
+use lib.Seq.{drop-nil, take-nil, getD-at}
 use lib.Dec.{ltb}
-use borrow.Author.Tests.{not-true, not-false}
+use borrow.Author.Tests.{not-true, not-false, ltb-true, ltb-false}
 use borrow.Rule.Slice.PartMut.{putMid}
 use Rattle.rules.specs.Text.{All}
 use Rattle.rules.specs.Sheet.{Row, noRow}
 use Rattle.rules.specs.Style.{topBorder, bottomBorder}
-use Rattle.rules.specs.Page.{closed}
+use Rattle.rules.specs.Page.{closed, borderLength}
 use Rattle.rules.specs.Limits.{longestLine, RowLimits, mostLines}
 use Rattle.laws.proofs.Counts.{height-bound, framed-count, framed-byte-bound}
 use Rattle.laws.proofs.Fitting.{fitting-few}
+use Rattle.laws.proofs.Lists.{all-append, all-getD, all-places}
+use Rattle.laws.proofs.Sizes.{closed-one, closed-append, closed-sized, closed-most}
 use Rattle.table.specs.Held.{tableOf}
 use Rattle.table.specs.Walk.{rowsIn, cellsIn, firstRow, RowIs}
 use Rattle.table.specs.declared.records.Rows.{Rows}
@@ -32,10 +34,13 @@ use Rattle.borders.specs.Rule.{ruleText, ruleBytes}
 use Rattle.formatting.specs.declared.content_format.Part.{Part}
 use Rattle.borders.specs.declared.RuleStyle.{RuleStyle}
 use Rattle.formatting.proofs.Heights.{limited-height}
+use Rattle.formatting.proofs.RowText.{lines-count}
 use Rattle.formatting.proofs.Parts.{part-none, part-line, part-full, part-join, part-short}
 use Rattle.borders.proofs.Rule.{rule-text}
 use Rattle.display_info.specs.Opened.{widthsIn, RowsAt, Opened}
 use Rattle.parts.specs.Ahead.{ruleLines, partLines, linesOf, At}
+use Rattle.parts.specs.Lengths.{LengthsAre}
+use Rattle.parts.specs.declared.lengths.Lengths.{Lengths}
 use Rattle.parts.specs.Band.{bandLines, bandCount, bodyStyle, SizedBand}
 use Rattle.display_info.specs.declared.Page.{Page}
 use Rattle.display_info.specs.declared.RowStyle.{RowStyle}
@@ -43,7 +48,7 @@ use Rattle.parts.specs.declared.cursor.Cursor.{Cursor}
 use Rattle.parts.specs.declared.cursor.Stage.{Stage}
 use Rattle.parts.specs.declared.cursor.Stage.the-variants.{Top, Header, Body, Bottom, End}
 use Rattle.display_info.proofs.Opening.{limits-of}
-use Rattle.parts.proofs.Parts.{border-few, top-drawn, bottom-drawn, header-drawn, body-drawn}
+use Rattle.parts.proofs.Parts.{border-few, border-lengths, top-drawn, bottom-drawn, header-drawn, body-drawn}
 use Rattle.parts.proofs.Parts.{top-count, header-count, body-count, bottom-count, end-count}
 
 pub drop-append : {A : Type 0} (n : ℕ) (xs ys : List A) → n ≤ length xs → drop n (xs ++ ys) ≡ drop n xs ++ ys
@@ -71,10 +76,10 @@ unfolding limited
 limited-some zero n h = absurd (h refl)
 limited-some (suc l) n h = refl
 
-pub row-lines-are : (s : List ℕ) (view : View) (here : Rows) (r : records.Row) (n m : ℕ) → Drawable s view here → RowIs s here r → n ≡ heightUpTo
+pub row-lines-are : (s : List ℕ) (view : View) (here : Rows) (r : records.Row) (n m : ℕ) (plain : Bool) → Drawable s view plain here → RowIs s here r → n ≡ heightUpTo
     (cellsIn s (r .cells)) view (view .count)
     → m ≡ limited (r .limit) n → m ≡ rowHeight s (firstRow s here)
-row-lines-are s view here r n m D R e f = f ∙ rw (e, R .limit, R .cells) (limited-height (tableOf s) (widthsIn s) (firstRow s here) view (D .views))
+row-lines-are s view here r n m plain D R e f = f ∙ rw (e, R .limit, R .cells) (limited-height (tableOf s) (widthsIn s) (firstRow s here) view (D .views))
 
 pub band-none : (s : List ℕ) (b : Bool) (here : Rows) → here .left ≡ 0 → 0 ≡ bandCount s b (rowsIn s here)
 unfolding bandCount
@@ -133,9 +138,144 @@ band-empty s view y here first b e = go (rowsIn s here) (rows-number s here)
     go [] f = rw (none first) (part-none b)
     go (r ∷ rs) f = absurd (omega arith)
 
-pub band-sized : (s : List ℕ) (view : View) (y : RowStyle) (here : Rows) (n : ℕ) → SizedBand s view y (rowsIn s here) n → 0 < here .left → Sized s
-    (y .lines) (firstRow s here) n
-band-sized s view y here n B h = B .text (omega (arith, rows-number s here))
+pub band-sized : (s : List ℕ) (view : View) (y : RowStyle) (here : Rows) (plain : Bool) (n : ℕ) → SizedBand s view y (rowsIn s here) plain n
+    → 0 < here .left → Sized s (y .lines) (firstRow s here) plain n
+band-sized s view y here plain n B h = B .text (omega (arith, rows-number s here))
+
+-- ---- its bytes
+
+no-bytes : length (closed []) ≡ 0
+unfolding closed
+no-bytes = refl
+
+module _ (s : List ℕ) (view : View) (y : RowStyle) (here : Rows) (plain : Bool) (size : ℕ) (B : SizedBand s view y (rowsIn s here) plain size) where
+  pub bytes-none : here .left ≡ 0 → 0 ≡ length (closed (bandLines s view y (rowsIn s here)))
+  unfolding bandLines
+  bytes-none e = go (rowsIn s here) (rows-number s here)
+    where
+      go : (rs : List Row) → length rs ≡ here .left → 0 ≡ length (closed (bandLines s view y rs))
+      go [] f = sym no-bytes
+      go (r ∷ rs) f = absurd (omega arith)
+
+  rule-each : All (λ l. length l + 1 ≡ size) (cond (y .ruled) (ruleText view (y .rule) ∷ []) [])
+  rule-each = go (y .ruled)
+    where
+      go : (b : Bool) → All (λ l. length l + 1 ≡ size) (cond b (ruleText view (y .rule) ∷ []) [])
+      go true = (sym (B .rule), tt)
+      go false = tt
+
+  rule-bytes : length (closed (cond (y .ruled) (ruleText view (y .rule) ∷ []) [])) ≡ cond (y .ruled) size 0
+  rule-bytes = go (y .ruled)
+    where
+      go : (b : Bool) → length (closed (cond b (ruleText view (y .rule) ∷ []) [])) ≡ cond b size 0
+      go true = ap length (closed-one (ruleText view (y .rule))) ∙ length-append (ruleText view (y .rule)) (10 ∷ []) ∙ sym (B .rule)
+      go false = no-bytes
+
+  -- on a plain page every line takes as many bytes as the rule
+  pub bytes-plain : plain ≡ true → (n : ℕ) → n ≡ length (bandLines s view y (rowsIn s here)) → n * size ≡ length (closed (bandLines s view y (rowsIn s here)))
+  unfolding bandLines
+  bytes-plain e n h = rw h (sym (closed-sized size (bandLines s view y (rowsIn s here)) (go (rowsIn s here) (B .text))))
+    where
+      go : (rs : List Row) → (0 < length rs → Sized s (y .lines) (getD rs 0 noRow) plain size) → All (λ l. length l + 1 ≡ size) (bandLines s view y rs)
+      go [] Z = tt
+      go (r ∷ rs) Z =
+          let z = Z (omega arith) in
+          all-append (λ l. length l + 1 ≡ size) (rowLines s (y .lines) r) (cond (y .ruled) (ruleText view (y .rule) ∷ []) [])
+          (all-places (λ l. length l + 1 ≡ size) (rowLines s (y .lines) r) [] (λ i k. z .each e i (omega (arith, lines-count s (y .lines) r)))) rule-each
+
+  module _ (some : 0 < here .left) where
+    rows-band : bandLines s view y (rowsIn s here) ≡ rowLines s (y .lines) (firstRow s here) ++ cond (y .ruled) (ruleText view (y .rule) ∷ []) []
+    unfolding bandLines
+    rows-band = go (rowsIn s here) (rows-number s here)
+      where
+        go : (rs : List Row) → length rs ≡ here .left → bandLines s view y rs ≡ rowLines s (y .lines) (getD rs 0 noRow) ++ cond (y .ruled)
+            (ruleText view (y .rule) ∷ []) []
+        go [] e = absurd (omega arith)
+        go (r ∷ rs) e = refl
+
+    -- else its text lines' bytes and the rule's
+    pub bytes-summed : (a b : ℕ) → a ≡ length (closed (rowLines s (y .lines) (firstRow s here))) → b ≡ cond (y .ruled) size 0
+        → a + b ≡ length (closed (bandLines s view y (rowsIn s here)))
+    bytes-summed a b e f =
+        let ls = rowLines s (y .lines) (firstRow s here) in
+        let r = cond (y .ruled) (ruleText view (y .rule) ∷ []) [] in
+        let c = ap (λ l. length (closed l)) rows-band
+        ∙ ap length (closed-append (rowLines s (y .lines) (firstRow s here)) (cond (y .ruled) (ruleText view (y .rule) ∷ []) []))
+        ∙ length-append (closed (rowLines s (y .lines) (firstRow s here))) (closed (cond (y .ruled) (ruleText view (y .rule) ∷ []) [])) in
+        omega (arith, c, e, f, rule-bytes)
+
+    -- they aren't too many
+    pub text-most : length (closed (rowLines s (y .lines) (firstRow s here))) ≤ mostLines * (longestLine + 1)
+    text-most =
+        let D = B .text (omega (arith, rows-number s here)) .bounded in
+        let ls = rowLines s (y .lines) (firstRow s here) in
+        omega (
+          arith,
+          closed-most (longestLine + 1) (rowLines s (y .lines) (firstRow s here))
+              (all-places (λ l. length l + 1 ≤ longestLine + 1) (rowLines s (y .lines) (firstRow s here)) []
+              (λ i k. omega (arith, D .short i (omega (arith, lines-count s (y .lines) (firstRow s here)))))),
+          lines-count s (y .lines) (firstRow s here),
+          D .few,
+        )
+
+    -- ---- its line n
+    pub line-text : (n : ℕ) → n < rowHeight s (firstRow s here)
+        → getD (bandLines s view y (rowsIn s here)) n [] ≡ getD (rowLines s (y .lines) (firstRow s here)) n []
+    line-text n h =
+        ap (λ l. getD l n []) rows-band
+        ∙ List·getD-append (rowLines s (y .lines) (firstRow s here)) (cond (y .ruled) (ruleText view (y .rule) ∷ []) []) [] n
+        (omega (arith, lines-count s (y .lines) (firstRow s here)))
+
+    pub line-rule : (n : ℕ) → rowHeight s (firstRow s here) ≤ n → n < length (bandLines s view y (rowsIn s here))
+        → size ≡ length (getD (bandLines s view y (rowsIn s here)) n []) + 1
+    line-rule n h k =
+        let ls = rowLines s (y .lines) (firstRow s here) in
+        let c = length-append (rowLines s (y .lines) (firstRow s here)) (cond (y .ruled) (ruleText view (y .rule) ∷ []) []) in
+        let d = lines-count s (y .lines) (firstRow s here) in
+        go (y .ruled) refl (rw rows-band at k)
+      where
+        go : (b : Bool) → y .ruled ≡ b
+            → n < length (rowLines s (y .lines) (firstRow s here) ++ cond (y .ruled) (ruleText view (y .rule) ∷ []) [])
+            → size ≡ length (getD (bandLines s view y (rowsIn s here)) n []) + 1
+        go true e q =
+            let ls = rowLines s (y .lines) (firstRow s here) in
+            let r : cond (y .ruled) (ruleText view (y .rule) ∷ []) [] ≡ ruleText view (y .rule) ∷ [] = ap (λ b. cond b (ruleText view (y .rule) ∷ []) []) e in
+            let z : length (rowLines s (y .lines) (firstRow s here)) ≡ n =
+            omega (
+              arith,
+              lines-count s (y .lines) (firstRow s here),
+              length-append (rowLines s (y .lines) (firstRow s here)) (cond (y .ruled) (ruleText view (y .rule) ∷ []) []),
+              ap length r,
+            ) in
+            B .rule ∙ sym (ap (λ l. length (getD l n []) + 1) (rows-band ∙ ap (λ l. rowLines s (y .lines) (firstRow s here) ++ l) r)
+            ∙ ap (λ l. length l + 1) (getD-at (rowLines s (y .lines) (firstRow s here)) (ruleText view (y .rule)) [] [] n z))
+        go false e q =
+            let r : cond (y .ruled) (ruleText view (y .rule) ∷ []) [] ≡ [] = ap (λ b. cond b (ruleText view (y .rule) ∷ []) []) e in
+            absurd (omega (
+              arith,
+              lines-count s (y .lines) (firstRow s here),
+              length-append (rowLines s (y .lines) (firstRow s here)) (cond (y .ruled) (ruleText view (y .rule) ∷ []) []),
+              ap length r,
+            ))
+
+    pub line-plain : plain ≡ true → (n : ℕ) → n < length (bandLines s view y (rowsIn s here))
+        → size ≡ length (getD (bandLines s view y (rowsIn s here)) n []) + 1
+    line-plain e n k = by (ltb n (rowHeight s (firstRow s here))) refl
+      where
+        by : (b : Bool) → ltb n (rowHeight s (firstRow s here)) ≡ b → size ≡ length (getD (bandLines s view y (rowsIn s here)) n []) + 1
+        by true f =
+            let h = ltb-true n (rowHeight s (firstRow s here)) f in
+            rw (line-text n h) (sym (B .text (omega (arith, rows-number s here)) .each e n h))
+        by false f = line-rule n (ltb-false n (rowHeight s (firstRow s here)) f) k
+
+-- a band that has a line has a row
+pub band-there : (s : List ℕ) (view : View) (y : RowStyle) (here : Rows) (n : ℕ) → n < length (bandLines s view y (rowsIn s here)) → 0 < here .left
+unfolding bandLines
+band-there s view y here n h = go (rowsIn s here) (rows-number s here) h
+  where
+    go : (rs : List Row) → length rs ≡ here .left → n < length (bandLines s view y rs) → 0 < here .left
+    go [] e k = absurd (omega arith)
+    go (r ∷ rs) e k = omega arith
 
 module _ (s : List ℕ) (view : View) (y : RowStyle) (here : Rows) (first : ℕ) (some : 0 < here .left)
     (within : first ≤ length (bandLines s view y (rowsIn s here)) - 1) where
@@ -151,6 +291,17 @@ module _ (s : List ℕ) (view : View) (y : RowStyle) (here : Rows) (first : ℕ)
   few : (b : Bool) → length (cond b (ruleText view (y .rule) ∷ []) []) ≤ 1
   few true = omega arith
   few false = omega arith
+
+  -- the line that is asked for is one of the row's, or the rule after them
+  pub band-first : first ≤ rowHeight s (firstRow s here)
+  band-first = omega (
+    arith,
+    within,
+    ap length band-is,
+    length-append (rowLines s (y .lines) (firstRow s here)) (cond (y .ruled) (ruleText view (y .rule) ∷ []) []),
+    few (y .ruled),
+    lines-count s (y .lines) (firstRow s here),
+  )
 
   pub band-split : drop first (bandLines s view y (rowsIn s here)) ≡ drop first (rowLines s (y .lines) (firstRow s here)) ++ cond (y .ruled)
       (ruleText view (y .rule) ∷ []) []
@@ -223,6 +374,90 @@ module _ (s : List ℕ) (cols : List (List ℕ)) (p : Page) (O : Opened s cols p
   pub draw-end : (b : List ℕ) → c .stage ≡ End → PartIs (drop (c .line) (partLines s p c)) b b (record { lines = 0; bytes = 0; whole = true })
   unfolding partLines
   draw-end b e = rw (e, drop-nil (c .line)) (part-none b)
+
+-- ---- a part's bytes, and those of one of its lines
+
+module _ (s : List ℕ) (cols : List (List ℕ)) (p : Page) (O : Opened s cols p) (c : Cursor) where
+  border-bytes : (k n m : ℕ) → partLines s p c ≡ ruleLines s true k → n ≡ length (partLines s p c) → m ≡ borderLength (tableOf s) (widthsIn s) + 1
+      → n * m ≡ length (closed (partLines s p c))
+  border-bytes k n m e f g =
+      rw (f, g, e) (sym (closed-sized (borderLength (tableOf s) (widthsIn s) + 1) (ruleLines s true k) (border-lengths s k)))
+
+  border-line : (k m : ℕ) → partLines s p c ≡ ruleLines s true k → m ≡ borderLength (tableOf s) (widthsIn s) + 1 → c .line < length (partLines s p c)
+      → m ≡ length (getD (partLines s p c) (c .line) []) + 1
+  border-line k m e g h =
+      g ∙ sym (all-getD (λ l. length l + 1 ≡ borderLength (tableOf s) (widthsIn s) + 1) (partLines s p c) (c .line) [] h (rw e (border-lengths s k)))
+
+  part-top : c .stage ≡ Top → partLines s p c ≡ ruleLines s true topBorder
+  unfolding partLines
+  part-top e = rw e
+
+  part-bottom : c .stage ≡ Bottom → partLines s p c ≡ ruleLines s true bottomBorder
+  unfolding partLines
+  part-bottom e = rw e
+
+  part-header : c .stage ≡ Header → partLines s p c ≡ bandLines s (viewOf cols (p .count)) (p .styles .header) (rowsIn s (p .header))
+  unfolding partLines
+  part-header e = rw e (sym (header-drawn s cols p O))
+
+  part-body : (y : RowStyle) → c .stage ≡ Body → y ≡ bodyStyle (p .styles .body) (c .here .left)
+      → partLines s p c ≡ bandLines s (viewOf cols (p .count)) y (rowsIn s (c .here))
+  unfolding partLines
+  part-body y e f = rw e (sym (body-drawn s cols p O (c .here) y f))
+
+  module _ (l : Lengths) (L : LengthsAre s l) (n : ℕ) (h : n ≡ length (partLines s p c)) where
+    pub top-bytes : c .stage ≡ Top → n * (l .border + 1) ≡ length (closed (partLines s p c))
+    top-bytes e = border-bytes topBorder n (l .border + 1) (part-top e) h (rw (L .border))
+
+    pub bottom-bytes : c .stage ≡ Bottom → n * (l .border + 1) ≡ length (closed (partLines s p c))
+    bottom-bytes e = border-bytes bottomBorder n (l .border + 1) (part-bottom e) h (rw (L .border))
+
+  pub end-bytes : c .stage ≡ End → 0 ≡ length (closed (partLines s p c))
+  unfolding partLines
+  end-bytes e = rw e (sym no-bytes)
+
+  pub header-here : c .stage ≡ Header → (n : ℕ) → n ≡ length (partLines s p c)
+      → n ≡ length (bandLines s (viewOf cols (p .count)) (p .styles .header) (rowsIn s (p .header)))
+  header-here e n h = h ∙ ap length (part-header e)
+
+  pub body-here : (y : RowStyle) → c .stage ≡ Body → y ≡ bodyStyle (p .styles .body) (c .here .left) → (n : ℕ) → n ≡ length (partLines s p c)
+      → n ≡ length (bandLines s (viewOf cols (p .count)) y (rowsIn s (c .here)))
+  body-here y e f n h = h ∙ ap length (part-body y e f)
+
+  pub header-bytes : c .stage ≡ Header → (r : ℕ) → r ≡ length (closed (bandLines s (viewOf cols (p .count)) (p .styles .header) (rowsIn s (p .header))))
+      → r ≡ length (closed (partLines s p c))
+  header-bytes e r h = h ∙ ap (λ ls. length (closed ls)) (sym (part-header e))
+
+  pub body-bytes : (y : RowStyle) → c .stage ≡ Body → y ≡ bodyStyle (p .styles .body) (c .here .left) → (r : ℕ)
+      → r ≡ length (closed (bandLines s (viewOf cols (p .count)) y (rowsIn s (c .here)))) → r ≡ length (closed (partLines s p c))
+  body-bytes y e f r h = h ∙ ap (λ ls. length (closed ls)) (sym (part-body y e f))
+
+  module _ (h : c .line < length (partLines s p c)) where
+    pub top-line : (l : Lengths) → LengthsAre s l → c .stage ≡ Top → l .border + 1 ≡ length (getD (partLines s p c) (c .line) []) + 1
+    top-line l L e = border-line topBorder (l .border + 1) (part-top e) (rw (L .border)) h
+
+    pub bottom-line : (l : Lengths) → LengthsAre s l → c .stage ≡ Bottom → l .border + 1 ≡ length (getD (partLines s p c) (c .line) []) + 1
+    bottom-line l L e = border-line bottomBorder (l .border + 1) (part-bottom e) (rw (L .border)) h
+
+    pub header-there : c .stage ≡ Header → c .line < length (bandLines s (viewOf cols (p .count)) (p .styles .header) (rowsIn s (p .header)))
+    header-there e = rw (part-header e) at h
+
+    pub body-there : (y : RowStyle) → c .stage ≡ Body → y ≡ bodyStyle (p .styles .body) (c .here .left)
+        → c .line < length (bandLines s (viewOf cols (p .count)) y (rowsIn s (c .here)))
+    body-there y e f = rw (part-body y e f) at h
+
+    pub end-line : c .stage ≡ End → 1 ≡ length (getD (partLines s p c) (c .line) []) + 1
+    unfolding partLines
+    end-line e = absurd (omega (arith, rw e at h))
+
+  pub header-line : c .stage ≡ Header → (r : ℕ) → r ≡ length (getD (bandLines s (viewOf cols (p .count)) (p .styles .header) (rowsIn s (p .header))) (c .line) []) + 1
+      → r ≡ length (getD (partLines s p c) (c .line) []) + 1
+  header-line e r h = h ∙ ap (λ ls. length (getD ls (c .line) []) + 1) (sym (part-header e))
+
+  pub body-line : (y : RowStyle) → c .stage ≡ Body → y ≡ bodyStyle (p .styles .body) (c .here .left) → (r : ℕ)
+      → r ≡ length (getD (bandLines s (viewOf cols (p .count)) y (rowsIn s (c .here))) (c .line) []) + 1
+      → r ≡ length (getD (partLines s p c) (c .line) []) + 1
+  body-line y e f r h = h ∙ ap (λ ls. length (getD ls (c .line) []) + 1) (sym (part-body y e f))
 
 -- ---- how many lines
 

@@ -2,37 +2,41 @@
 use Prim.Native.Nat.{ℕ, zero, suc, _+_, _-_, _≤_, _<_}
 use mathlib.Core.Path.{_≡_, refl, sym, ap, _∙_}
 use mathlib.Core.List.{List, [], _∷_, _++_, map, append-assoc, append-nil}
+use mathlib.Core.Logic.{inl, inr, ⊎-elim}
 use mathlib.Core.Bool.{Bool, true, false, cond, _&&_}
 use native.Mathlib.Omega.{arith}
 use lib.ListN.{length, drop, getD, length-append}
+use lib.Seq.{drop-drop}
 use lib.Dec.{ltb}
 use borrow.Author.Tests.{lt-ltb, le-ltb}
-use Rattle.rules.specs.Text.{All, upFrom}
-use Rattle.rules.specs.Sheet.{Row, noRow}
-use Rattle.rules.specs.Limits.{RowLimits}
+use Rattle.rules.specs.Text.{All}
+use Rattle.rules.specs.Sheet.{Cell, Row, noRow, allRows}
+use Rattle.rules.specs.Limits.{LineLimits, CellLimits, RowLimits, Plain, PlainCell, PlainRow}
 use Rattle.rules.specs.Style.{topBorder, headerLines, headerRule, contentLines, rowRule, bottomBorder, anyJunction, isVisible}
 use Rattle.rules.specs.Widths.{visible}
-use Rattle.rules.specs.Page.{height, areas, areaAt, textLine, rowText, visibleWidths, lineLength, ruled, shown, headed, ruledRows, ruledMore, framed}
+use Rattle.rules.specs.Page.{areas, areaAt, textLine, rowText, visibleWidths, borderLength, ruled, shown, headed, ruledRows, ruledMore, framed}
 use Rattle.laws.proofs.Areas.{length-areas, line-at}
-use Rattle.laws.proofs.Counts.{height-bound}
-use Rattle.laws.proofs.Lines.{text-length, rule-length, border-length}
-use Rattle.laws.proofs.Lists.{all-drop, all-append, all-map, all-map-imp, getD-map}
-use Rattle.laws.proofs.Rows.{all-headed}
+use Rattle.laws.proofs.Counts.{height-bound, text-line-bound}
+use Rattle.laws.proofs.Lines.{plain-row, rule-length, border-length}
+use Rattle.laws.proofs.Lists.{all-drop, all-getD, all-left, all-right, getD-map}
 use Rattle.table.specs.Held.{tableOf}
 use Rattle.table.specs.Walk.{rowsIn, firstRow, RowsNext}
 use Rattle.table.specs.declared.records.Rows.{Rows}
 use Rattle.table.proofs.Walks.{rows-number}
 use Rattle.row.specs.Packed.{viewOf}
-use Rattle.formatting.specs.RowText.{styled, rowLines, rowHeight, Sized}
+use Rattle.cells.specs.Cell.{TextIs}
+use Rattle.row.specs.Open.{CellKnown}
+use Rattle.formatting.specs.RowText.{styled, rowLines, rowHeight, Sized, Drawable}
 use Rattle.borders.specs.Rule.{ruleText, ruleStyleOf}
 use Rattle.formatting.specs.Stand.{textStyleOf}
 use Rattle.formatting.proofs.RowText.{lines-count}
 use Rattle.formatting.proofs.Whole.{styled-text}
 use Rattle.borders.proofs.Rule.{rule-drawn}
+use Rattle.display_info.proofs.Opening.{limits-of}
 use Rattle.display_info.specs.Opened.{widthsIn, stylesOf, RowsAt, Opened}
 use Rattle.parts.specs.Ahead.{ruleLines, textLines, firstRuled, headerLinesOf, rowLinesOf, bodyLines, partBy, partLines, restBy, restLines}
 use Rattle.parts.specs.Ahead.{ahead, linesOf, isEnd, firstCursor, At, Next, AfterRow}
-use Rattle.parts.specs.Lengths.{LengthsAre, SizeIs}
+use Rattle.parts.specs.Lengths.{LengthsAre}
 use Rattle.parts.specs.Band.{bandLines, bandCount, bodyStyle, SizedBand}
 use Rattle.display_info.specs.declared.RowStyle.{RowStyle}
 use Rattle.display_info.specs.declared.Page.{Page}
@@ -45,15 +49,57 @@ use Rattle.parts.specs.declared.lengths.Lengths.{Lengths}
 
 -- the rows after the first are within the sheet and the limits too
 pub rows-next : (s : List ℕ) (c n : Rows) → RowsAt s c → RowsNext s c n → RowsAt s n
-rows-next s c n A N = record { ends = omega (arith, N .ends, A .ends); sound = rw (N .rows) (all-drop _ 1 (rowsIn s c) (A .sound)) }
+rows-next s c n A N = record {
+  ends = omega (arith, N .ends, A .ends);
+  sound = rw (N .rows) (all-drop _ 1 (rowsIn s c) (A .sound));
+  skipped = A .skipped + 1;
+  among = ⊎-elim
+      (λ (e : rowsIn s c ≡ drop (A .skipped) (tableOf s .header)). inl (N .rows ∙ ap (drop 1) e ∙ drop-drop 1 (A .skipped) (tableOf s .header)))
+      (λ (e : rowsIn s c ≡ drop (A .skipped) (tableOf s .rows)). inr (N .rows ∙ ap (drop 1) e ∙ drop-drop 1 (A .skipped) (tableOf s .rows)))
+      (A .among);
+}
+
+-- what holds of all rows of the table holds of the first of these
+pub first-has : (P : Row → Type 0) (s : List ℕ) (c : Rows) → RowsAt s c → 0 < c .left → All P (allRows (tableOf s)) → P (firstRow s c)
+first-has P s c A h a =
+    let header = all-left P (tableOf s .header) (tableOf s .rows) a in
+    let rows = all-right P (tableOf s .header) (tableOf s .rows) a in
+    all-getD P (rowsIn s c) 0 noRow (omega (arith, rows-number s c))
+    (⊎-elim
+    (λ (e : rowsIn s c ≡ drop (A .skipped) (tableOf s .header)). rw e (all-drop P (A .skipped) (tableOf s .header) header))
+    (λ (e : rowsIn s c ≡ drop (A .skipped) (tableOf s .rows)). rw e (all-drop P (A .skipped) (tableOf s .rows) rows))
+    (A .among))
 
 -- a first row keeps the limits
+pub first-limits : (s : List ℕ) (c : Rows) → RowsAt s c → 0 < c .left → RowLimits (length (tableOf s .columns)) (firstRow s c)
+first-limits s c A h = all-getD _ (rowsIn s c) 0 noRow (omega (arith, rows-number s c)) (A .sound)
+
+-- what is known of texts within the limits, and of cells
+texts-known : (plain : Bool) (ls : List (List ℕ)) → All LineLimits ls → (plain ≡ true → All Plain ls) → All (TextIs plain) ls
+texts-known plain [] a h = tt
+texts-known plain (l ∷ ls) a h = (record { text = a .0 .characters; plain = λ e. h e .0 }, texts-known plain ls (a .1) (λ e. h e .1))
+
+cells-known : (plain : Bool) (xs : List Cell) → All CellLimits xs → (plain ≡ true → All PlainCell xs) → All (CellKnown plain) xs
+cells-known plain [] a h = tt
+cells-known plain (x ∷ xs) a h = (
+  record { delimiter = a .0 .delimiter; texts = texts-known plain (x .lines) (a .0 .texts) (λ e. h e .0) },
+  cells-known plain xs (a .1) (λ e. h e .1),
+)
+
+-- the first of some rows can be drawn
+pub drawable : (s : List ℕ) (cols : List (List ℕ)) (p : Page) → Opened s cols p → (c : Rows) → RowsAt s c → 0 < c .left
+    → Drawable s (viewOf cols (p .count)) (p .plain) c
+drawable s cols p O c A h = record {
+  some = h;
+  ends = A .ends;
+  views = O .views;
+  rising = O .rising;
+  usable = O .usable;
+  known = cells-known (p .plain) (firstRow s c .cells) (first-limits s c A h .each) (λ e. first-has PlainRow s c A h (O .plain e));
+}
+
 pub row-height-few : (s : List ℕ) (c : Rows) → RowsAt s c → 0 < c .left → rowHeight s (firstRow s c) ≤ 6448
-row-height-few s c A h = go (rowsIn s c) (rows-number s c) (A .sound)
-  where
-    go : (rs : List Row) → length rs ≡ c .left → All (RowLimits (length (tableOf s .columns))) rs → rowHeight s (getD rs 0 noRow) ≤ 6448
-    go [] e a = absurd (omega arith)
-    go (r ∷ rs) e a = height-bound (tableOf s) (widthsIn s) r (a .0 .each)
+row-height-few s c A h = height-bound (tableOf s) (widthsIn s) (firstRow s c) (first-limits s c A h .each)
 
 -- the first row, and those after it
 pub first-then : (text : Row → List (List ℕ)) (rule : List (List ℕ)) (rs : List Row) → ruledRows text rule rs ≡ firstRuled text rule rs ++ ruledRows
@@ -294,16 +340,27 @@ module _ (s : List ℕ) (cols : List (List ℕ)) (p : Page) (O : Opened s cols p
   -- ---- sizes
 
   module _ (l : Lengths) (L : LengthsAre s l) where
-    text-sized : (k : ℕ) (here : Rows) → RowsAt s here → 0 < here .left → Sized s (textStyleOf (tableOf s .style) k) (firstRow s here) (l .line + 1)
+    text-at : (k : ℕ) (r : Row) (j : ℕ) → j < rowHeight s r
+        → getD (rowLines s (textStyleOf (tableOf s .style) k) r) j [] ≡ textLine (tableOf s .style) k (map (areaAt (tableOf s) (widthsIn s) r j) (visible (tableOf s)))
     unfolding rowText
-    text-sized k here A h = record {
-      each = λ j i.
-          let e = getD-map (textLine (tableOf s .style) k) (areas (tableOf s) (widthsIn s) (firstRow s here)) j [] []
-          (omega (arith, length-areas (tableOf s) (widthsIn s) (firstRow s here)))
-          ∙ ap (textLine (tableOf s .style) k) (line-at (tableOf s) (widthsIn s) (firstRow s here) j i) in
-          rw (text-styled s k (firstRow s here), e, text-length (tableOf s) (widthsIn s) (firstRow s here) k j, L .line);
-      few = omega (arith, row-height-few s here A h);
-    }
+    text-at k r j i =
+        ap (λ ls. getD ls j []) (text-styled s k r)
+        ∙ getD-map (textLine (tableOf s .style) k) (areas (tableOf s) (widthsIn s) r) j [] [] (omega (arith, length-areas (tableOf s) (widthsIn s) r))
+        ∙ ap (textLine (tableOf s .style) k) (line-at (tableOf s) (widthsIn s) r j i)
+
+    text-sized : (k : ℕ) (here : Rows) → RowsAt s here → 0 < here .left
+        → Sized s (textStyleOf (tableOf s .style) k) (firstRow s here) (p .plain) (l .line + 1)
+    text-sized k here A h =
+        let T = limits-of s (O .passes) in
+        let r = firstRow s here in
+        let R = first-limits s here A h .each in
+        record {
+          bounded = record {
+            short = λ j i. rw (text-at k r j i) (text-line-bound (tableOf s) T r R k j);
+            few = omega (arith, row-height-few s here A h);
+          };
+          each = λ e j i. rw (text-at k r j i, plain-row (tableOf s) T r R (first-has PlainRow s here A h (O .plain e)) k j, L .line);
+        }
 
     rule-sized : (k : ℕ) → l .line + 1 ≡ length (ruleText (viewOf cols (p .count))
         (ruleStyleOf (tableOf s .style) (anyJunction (tableOf s .style)) k)) + 1
@@ -330,7 +387,7 @@ module _ (s : List ℕ) (cols : List (List ℕ)) (p : Page) (O : Opened s cols p
     unfolding stylesOf
     bottom-sized = rw (O .styles) (border-sized bottomBorder)
 
-    pub header-sized : SizedBand s (viewOf cols (p .count)) (p .styles .header) (rowsIn s (p .header)) (l .line + 1)
+    pub header-sized : SizedBand s (viewOf cols (p .count)) (p .styles .header) (rowsIn s (p .header)) (p .plain) (l .line + 1)
     unfolding stylesOf
     header-sized = rw (O .styles) (record {
       text = λ h. text-sized headerLines (p .header) (O .header-at) (omega (arith, rows-number s (p .header)));
@@ -338,7 +395,7 @@ module _ (s : List ℕ) (cols : List (List ℕ)) (p : Page) (O : Opened s cols p
     })
 
     pub body-sized : (here : Rows) (y : RowStyle) → RowsAt s here → y ≡ bodyStyle (p .styles .body) (here .left) → SizedBand s
-        (viewOf cols (p .count)) y (rowsIn s here) (l .line + 1)
+        (viewOf cols (p .count)) y (rowsIn s here) (p .plain) (l .line + 1)
     unfolding stylesOf
     body-sized here y A e = rw (e, O .styles) (record {
       text = λ h. text-sized contentLines here A (omega (arith, rows-number s here));
@@ -346,72 +403,12 @@ module _ (s : List ℕ) (cols : List (List ℕ)) (p : Page) (O : Opened s cols p
           rule-sized rowRule;
     })
 
--- each line of a part has the part's length
-module _ (s : List ℕ) where
-  rule-lengths : (always : Bool) (k n : ℕ) → length (ruled (tableOf s .style) always k (visibleWidths (tableOf s) (widthsIn s))) ≡ n → All
-      (λ l. length l + 1 ≡ n + 1) (ruleLines s always k)
-  unfolding ruleLines shown
-  rule-lengths always k n e = go (isVisible (tableOf s .style) k)
-    where
-      go : (b : Bool) → All {A = List ℕ} (λ l. length l + 1 ≡ n + 1)
-          (elim b as (λ x. List (List ℕ)) [ true ↦ ruled (tableOf s .style) always k (visibleWidths (tableOf s) (widthsIn s)) ∷ [] | false ↦ [] ])
-      go true = (rw e, tt)
-      go false = tt
-
-  text-lengths : (k : ℕ) (r : Row) → All (λ l. length l + 1 ≡ lineLength (tableOf s) (widthsIn s) + 1) (textLines s k r)
-  unfolding rowText areas
-  text-lengths k r =
-      let t = tableOf s in
-      let n = lineLength t (widthsIn s) in
-      all-map-imp (λ x. length (textLine (t .style) k x) + 1 ≡ n + 1) (λ l. length l + 1 ≡ n + 1) (textLine (t .style) k) (λ x h. h)
-      (areas t (widthsIn s) r)
-      (all-map (λ x. length (textLine (t .style) k x) + 1 ≡ n + 1) (λ i. map (areaAt t (widthsIn s) r i) (visible t))
-      (λ i. rw (text-length t (widthsIn s) r k i)) (upFrom 0 (height t (widthsIn s) r)))
-
-  each-text : (k : ℕ) (rs : List Row) → All (λ r. All (λ l. length l + 1 ≡ lineLength (tableOf s) (widthsIn s) + 1) (textLines s k r)) rs
-  each-text k [] = tt
-  each-text k (r ∷ rs) = (text-lengths k r, each-text k rs)
-
-  first-lengths : (rs : List Row) → All (λ l. length l + 1 ≡ lineLength (tableOf s) (widthsIn s) + 1) (bodyLines s rs)
-  unfolding bodyLines firstRuled
-  first-lengths [] = tt
-  first-lengths (r ∷ []) = text-lengths contentLines r
-  first-lengths (r ∷ q ∷ rs) =
-      all-append (λ l. length l + 1 ≡ lineLength (tableOf s) (widthsIn s) + 1) (textLines s contentLines r) (ruleLines s false rowRule)
-      (text-lengths contentLines r)
-      (rule-lengths false rowRule (lineLength (tableOf s) (widthsIn s)) (rule-length (tableOf s) (widthsIn s) rowRule))
-
-  header-lengths : (rs : List Row) → All (λ l. length l + 1 ≡ lineLength (tableOf s) (widthsIn s) + 1) (headerLinesOf s rs)
-  unfolding headerLinesOf
-  header-lengths rs =
-      all-headed (λ l. length l + 1 ≡ lineLength (tableOf s) (widthsIn s) + 1) (textLines s headerLines) (ruleLines s false headerRule)
-      (rule-lengths false headerRule (lineLength (tableOf s) (widthsIn s)) (rule-length (tableOf s) (widthsIn s) headerRule)) rs
-      (each-text headerLines rs)
-
-  module _ (p : Page) (l : Lengths) (L : LengthsAre s l) (c : Cursor) where
-    pub top-size : c .stage ≡ Top → SizeIs s p c (l .border + 1)
-    unfolding partLines
-    top-size e = record {
-      each = rw (e, L .border) (rule-lengths true topBorder _ (border-length (tableOf s) (widthsIn s) topBorder));
-      small = omega
-          (arith, L .border-small);
-    }
-
-    pub bottom-size : c .stage ≡ Bottom → SizeIs s p c (l .border + 1)
-    unfolding partLines
-    bottom-size e = record {
-      each = rw (e, L .border) (rule-lengths true bottomBorder _ (border-length (tableOf s) (widthsIn s) bottomBorder));
-      small = omega (arith, L .border-small);
-    }
-
-    pub header-size : c .stage ≡ Header → SizeIs s p c (l .line + 1)
-    unfolding partLines
-    header-size e = record { each = rw (e, L .line) (header-lengths (rowsIn s (p .header))); small = omega (arith, L .line-small) }
-
-    pub body-size : c .stage ≡ Body → SizeIs s p c (l .line + 1)
-    unfolding partLines
-    body-size e = record { each = rw (e, L .line) (first-lengths (rowsIn s (c .here))); small = omega (arith, L .line-small) }
-
-    pub end-size : c .stage ≡ End → SizeIs s p c 1
-    unfolding partLines
-    end-size e = record { each = rw e tt; small = omega arith }
+-- each line of a border has its length
+pub border-lengths : (s : List ℕ) (k : ℕ) → All (λ l. length l + 1 ≡ borderLength (tableOf s) (widthsIn s) + 1) (ruleLines s true k)
+unfolding ruleLines shown
+border-lengths s k = go (isVisible (tableOf s .style) k)
+  where
+    go : (b : Bool) → All {A = List ℕ} (λ l. length l + 1 ≡ borderLength (tableOf s) (widthsIn s) + 1)
+        (elim b as (λ x. List (List ℕ)) [ true ↦ ruled (tableOf s .style) true k (visibleWidths (tableOf s) (widthsIn s)) ∷ [] | false ↦ [] ])
+    go true = (rw (border-length (tableOf s) (widthsIn s) k), tt)
+    go false = tt

@@ -25,7 +25,7 @@ bandCount s ruled (r ∷ rs) = rowHeight s r + cond ruled 1 0
 abbrev pub bodyStyle : RowStyle → ℕ → RowStyle
 bodyStyle y left = record { lines = y .lines; rule = y .rule; ruled = y .ruled && ltb 1 left }
 
--- each of its lines takes n bytes, its 0A included
-pub record SizedBand (s : List ℕ) (view : View) (y : RowStyle) (rs : List Row) (n : ℕ) : Type 0 where
-  pub text : 0 < length rs → Sized s (y .lines) (getD rs 0 noRow) n
+-- the rule takes n bytes, its 0A included, and so does each text line of a plain page
+pub record SizedBand (s : List ℕ) (view : View) (y : RowStyle) (rs : List Row) (plain : Bool) (n : ℕ) : Type 0 where
+  pub text : 0 < length rs → Sized s (y .lines) (getD rs 0 noRow) plain n
   pub rule : n ≡ length (ruleText view (y .rule)) + 1

@@ -2,16 +2,11 @@
 use Prim.Native.Nat.{ℕ, zero, suc, _+_, _≤_}
 use mathlib.Core.Path.{_≡_}
 use mathlib.Core.List.{List}
-use lib.ListN.{length}
-use Rattle.rules.specs.Text.{All}
 use Rattle.rules.specs.Limits.{longestLine}
 use Rattle.rules.specs.Page.{lineLength, borderLength}
 use Rattle.table.specs.Held.{tableOf}
 use Rattle.row.specs.View.{View, visibleAt}
 use Rattle.display_info.specs.Opened.{widthsIn}
-use Rattle.parts.specs.Ahead.{partLines}
-use Rattle.display_info.specs.declared.Page.{Page}
-use Rattle.parts.specs.declared.cursor.Cursor.{Cursor}
 use Rattle.parts.specs.declared.lengths.Lengths.{Lengths}
 
 -- the visible widths of the first n columns
@@ -25,8 +20,3 @@ pub record LengthsAre (s : List ℕ) (l : Lengths) : Type 0 where
   pub border : l .border ≡ borderLength (tableOf s) (widthsIn s)
   pub line-small : l .line ≤ longestLine
   pub border-small : l .border ≤ longestLine
-
--- each line of the part that comes next takes n bytes, its 0A included
-pub record SizeIs (s : List ℕ) (p : Page) (c : Cursor) (n : ℕ) : Type 0 where
-  pub each : All (λ l. length l + 1 ≡ n) (partLines s p c)
-  pub small : n ≤ longestLine + 1

@@ -5,14 +5,12 @@ ghost use Prim.Native.Nat.{_-_, _*_, _≤_};
 ghost use Rattle.row.specs.Packed.{viewOf};
 ghost use Rattle.borders.specs.Rule.{NarrowAll};
 ghost use Rattle.display_info.specs.Opened.{Opened};
-ghost use Rattle.parts.specs.Lengths.{widthUpTo, LengthsAre, SizeIs};
-use crate::cursor::Cursor;
-use crate::cursor::Stage;
+ghost use Rattle.parts.specs.Lengths.{widthUpTo, LengthsAre};
 use display_info::Page;
 use row::packed;
 use rules::MOST_COLUMNS;
 
-// How long lines are, without their 0A: text lines and rules, and borders.
+// How long lines are, without their 0A: text lines in columns and rules, and borders.
 pub struct Lengths {
     pub line: usize,
     pub border: usize,
@@ -65,25 +63,4 @@ pub fn measure(sheet: &[u8], columns: &[[usize; 6]; MOST_COLUMNS], p: Page) -> L
     let line = edges + where_drawn(style.joined, inside) + sum;
     let border = edges + inside + sum;
     Lengths { line, border }
-}
-
-// How long each line of a part is, its 0A included.
-pub fn line_size(
-    sheet: &[u8],
-    columns: &[[usize; 6]; MOST_COLUMNS],
-    p: Page,
-    l: Lengths,
-    c: Cursor,
-) -> usize
-    requires { ⌜ Opened (now sheet) (now columns) p × LengthsAre (now sheet) l ⌝ }
-    ensures { λ r. ⌜ SizeIs (now (sheet .entry)) p c r ⌝ }
-{
-    let stage = c.stage;
-    match stage {
-        Stage::Top => l.border + 1,
-        Stage::Header => l.line + 1,
-        Stage::Body => l.line + 1,
-        Stage::Bottom => l.border + 1,
-        Stage::End => 1,
-    }
 }

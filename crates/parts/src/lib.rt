@@ -2,3 +2,4 @@
 pub mod cursor;
 pub mod lengths;
 pub mod part;
+pub mod sizes;

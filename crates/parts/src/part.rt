@@ -38,13 +38,19 @@ fn within_limit(limit: usize, lines: usize) -> usize
 }
 
 // The text lines of the first of some rows.
-fn row_lines(sheet: &[u8], columns: &[[usize; 6]; MOST_COLUMNS], count: usize, here: Rows) -> usize
-    requires { ⌜ Drawable (now sheet) (viewOf (now columns) count) here ⌝ }
+pub fn row_lines(
+    sheet: &[u8],
+    columns: &[[usize; 6]; MOST_COLUMNS],
+    count: usize,
+    here: Rows,
+    plain: bool,
+) -> usize
+    requires { ⌜ Drawable (now sheet) (viewOf (now columns) count) plain here ⌝ }
     ensures { λ r. ⌜ r ≡ rowHeight (now (sheet .entry)) (firstRow (now (sheet .entry)) here) ⌝ }
 {
     let r = walk::row(sheet, here);
     let cells = r.cells;
-    let most = row::row_height(sheet, columns, count, cells);
+    let most = row::row_height(sheet, columns, count, cells, plain);
     within_limit(r.limit, most)
 }
 
@@ -62,7 +68,7 @@ fn band_lines(
     if here.left == 0 {
         return 0;
     }
-    row_lines(sheet, columns, p.count, here) + lengths::where_drawn(ruled, 1)
+    row_lines(sheet, columns, p.count, here, p.plain) + lengths::where_drawn(ruled, 1)
 }
 
 // The lines of the part that the cursor stands before.
@@ -138,7 +144,7 @@ fn draw_band(
     first: usize,
     size: usize,
 ) -> Part
-    requires { ⌜ Opened (now sheet) (now columns) p × (RowsAt (now sheet) here × SizedBand (now sheet) (viewOf (now columns) (p .count)) style (rowsIn (now sheet) here) size) ⌝ }
+    requires { ⌜ Opened (now sheet) (now columns) p × (RowsAt (now sheet) here × SizedBand (now sheet) (viewOf (now columns) (p .count)) style (rowsIn (now sheet) here) (p .plain) size) ⌝ }
     requires { ⌜ first ≤ length (bandLines (now sheet) (viewOf (now columns) (p .count)) style (rowsIn (now sheet) here)) - 1 ⌝ }
     ensures { λ r.
         ⌜ PartIs (drop first (bandLines (now (sheet .entry)) (viewOf (now (columns .entry)) (p .count)) style (rowsIn (now (sheet .entry)) here)))
@@ -158,6 +164,7 @@ fn draw_band(
         lines,
         here,
         first,
+        p.plain,
         size,
     );
     if !text.whole {
@@ -174,7 +181,7 @@ fn draw_band(
 }
 
 // The rows' style, where a rule stands only between two rows.
-fn body_style(style: RowStyle, left: usize) -> RowStyle
+pub fn body_style(style: RowStyle, left: usize) -> RowStyle
     ensures { λ r. ⌜ r ≡ bodyStyle style left ⌝ }
 {
     let lines = style.lines;

@@ -1,6 +1,6 @@
 use borrow.Author.Needs.{needs}
 use native.Mathlib.Omega.{arith}
-use Rattle.parts.proofs.Parts.{row-height-few}
+use Rattle.parts.proofs.Parts.{row-height-few, drawable}
 use Rattle.parts.proofs.Bands.{band-none, band-some}
 use Rattle.parts.proofs.part.band_lines.Statement.{statement}
 use Rattle.parts.proofs.part.band_lines.Tie as tie
@@ -12,8 +12,7 @@ band-lines-spec =
     (λ c. band-none _ _ _ (c .if1 .taken))
     (λ c κs.
     let s = c .before .before .before in
-    let O = s .pre .0 in
-    record { some = omega (arith, c .if1 .left); ends = s .pre .1 .ends; views = O .views; rising = O .rising; wide = O .wide })
+    drawable _ _ _ (s .pre .0) _ (s .pre .1) (omega (arith, c .if1 .left)))
     (λ c κs. search needs)
     (λ c.
     let s = c .before .before .before .before .before in

@@ -10,7 +10,8 @@ use Rattle.row.specs.Packed.{viewOf}
 use Rattle.formatting.specs.RowText.{rowLines}
 use Rattle.formatting.proofs.Parts.{part-room, part-length}
 use Rattle.formatting.proofs.RowText.{lines-count}
-use Rattle.parts.proofs.Bands.{band-empty, band-sized, band-cut, band-whole, part-few, rule-few}
+use Rattle.parts.proofs.Parts.{drawable}
+use Rattle.parts.proofs.Bands.{band-empty, band-sized, band-first, band-cut, band-whole, part-few, rule-few}
 use Rattle.parts.proofs.part.draw_band.Statement.{statement}
 use Rattle.parts.proofs.part.draw_band.Tie as tie
 
@@ -27,9 +28,12 @@ draw-band-spec =
     let O = s .pre .0 .0 in
     let B = s .pre .0 .1 in
     let some : 0 < s .args .here .left = omega (arith, c .before .before .before .if1 .left) in (
-      (record { some = some; ends = B .0 .ends; views = O .views; rising = O .rising; wide = O .wide }, O .marks),
-      band-sized (now (s .args .sheet))
-          (viewOf (now (s .args .columns)) (s .args .p .count)) (s .args .style) (s .args .here) _ (B .1) some,
+      (drawable (now (s .args .sheet)) (now (s .args .columns)) (s .args .p) O (s .args .here) (B .0) some, O .marks),
+      (
+        band-sized (now (s .args .sheet)) (viewOf (now (s .args .columns)) (s .args .p .count)) (s .args .style) (s .args .here) _ _ (B .1) some,
+        band-first (now (s .args .sheet)) (viewOf (now (s .args .columns)) (s .args .p .count)) (s .args .style) (s .args .here) (s .args .first) some
+            (s .pre .1),
+      ),
     ))
     (λ c. search needs)
     (λ c.
@@ -49,14 +53,14 @@ draw-band-spec =
       arith,
       c .before .before .before .before .before .before .before .before .before .before .before .before .before .before .before .if1 .left,
     ) in
-    let Z = band-sized (now (s .args .sheet)) (viewOf (now (s .args .columns)) (s .args .p .count)) (s .args .style) (s .args .here) _
+    let Z = band-sized (now (s .args .sheet)) (viewOf (now (s .args .columns)) (s .args .p .count)) (s .args .style) (s .args .here) _ _
     (s .pre .0 .1 .1) some in
     omega (
       arith,
       part-few _ _ _ _ (c .before .before .before .before .before .before .before .before .before .before .before .draw-row .ensures),
       length-drop (s .args .first) (rowLines (now (s .args .sheet)) (s .args .style .lines) (firstRow (now (s .args .sheet)) (s .args .here))),
       lines-count (now (s .args .sheet)) (s .args .style .lines) (firstRow (now (s .args .sheet)) (s .args .here)),
-      Z .few,
+      Z .bounded .few,
       part-few _ _ _ _ (c .before .before .before .before .draw-rule .ensures),
       rule-few (viewOf (now (s .args .columns)) (s .args .p .count)) (s .args .style .rule) (s .args .style .ruled),
     ))

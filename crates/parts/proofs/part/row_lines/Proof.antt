@@ -13,8 +13,10 @@ row-lines-spec =
     (λ c κs.
     let s = c .before .before .before in
     let D = s .pre in
-    let r = c .before .row in
-    (D .rising, (D .wide, cells-inside (now (s .args .sheet)) (s .args .here) (r .result) (D .some) (D .ends) (r .ensures))))
+    let r = c .before .row in (
+      (D .rising, D .usable),
+      (cells-inside (now (s .args .sheet)) (s .args .here) (r .result) (D .some) (D .ends) (r .ensures), rw (r .ensures .cells) (D .known)),
+    ))
     (λ c κs. search needs)
-    (λ c. row-lines-are _ _ _ _ _ _ (c .before .before .before .before .before .pre) (c .before .before .before .row .ensures)
+    (λ c. row-lines-are _ _ _ _ _ _ _ (c .before .before .before .before .before .pre) (c .before .before .before .row .ensures)
     (c .before .row-height .ensures) (c .within-limit .ensures)))
