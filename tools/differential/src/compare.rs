@@ -2,10 +2,10 @@
 
 use std::panic::{AssertUnwindSafe, catch_unwind};
 
-use crate::marks::{Rule, Rules, Slip};
+use crate::marks::{RefusalSlip, Rule, Rules, Slip};
 use crate::oracle::{self, Answer};
 use crate::reading::Reading;
-use crate::sheet::{self, Table};
+use crate::sheet::{self, SIGN, Table};
 use crate::{damage, generate, second};
 
 /// Widths come first: a mistaken width can make a page of any size.
@@ -19,9 +19,9 @@ pub fn agrees(table: &Table, answer: &Answer, slip: Option<Slip>) -> (bool, Rule
     if !equal || !widths.iter().zip(answer.widths.iter().enumerate()).all(same) {
         return (false, reading.fired());
     }
-    let lines = reading.page(&widths);
-    let page = lines.iter().flat_map(|line| line.iter().chain(b"\n"));
-    (lines.len() == answer.lines && page.eq(&answer.page), reading.fired())
+    let printed = reading.page(&widths);
+    let counted = (printed.lines, printed.bytes) == (answer.lines, answer.page.len());
+    (counted && printed.page == answer.page, reading.fired())
 }
 
 pub fn hexadecimal(bytes: &[u8]) -> String {
@@ -46,23 +46,50 @@ fn difference(table: &Table, bytes: &[u8], seen: &mut [u64]) -> Option<&'static 
     if same { None } else { Some("page or widths differ") }
 }
 
+/// Sheets and differences, first of those without C2 or B0 in them, then of the others.
+#[derive(Default)]
+pub struct Tally {
+    sheets: [u64; 2],
+    differences: [u64; 2],
+    /// Accepted, and refused with 1 to 9.
+    numbers: [u64; 10],
+}
+
+impl Tally {
+    pub fn add(&mut self, index: u64, sheet: &[u8], number: u8, difference: Option<&str>) {
+        let kind = usize::from(sheet.iter().any(|byte| SIGN.contains(byte)));
+        self.sheets[kind] += 1;
+        self.numbers[usize::from(number)] += 1;
+        if let Some(why) = difference {
+            if self.differences == [0; 2] {
+                println!("first difference, sheet {index}: {why}\n{}", hexadecimal(sheet));
+            }
+            self.differences[kind] += 1;
+        }
+    }
+
+    /// True if there was no difference.
+    pub fn report(&self, words: &str) -> bool {
+        let ([plain, signed], [at_plain, at_signed]) = (self.sheets, self.differences);
+        println!("{} {words}: {} differences", plain + signed, at_plain + at_signed);
+        println!("without C2 or B0 {plain}: {at_plain} differences; with either {signed}: {at_signed} differences");
+        println!("accepted {}, refused with 1 to 9: {:?}", self.numbers[0], &self.numbers[1..]);
+        self.differences == [0; 2]
+    }
+}
+
 /// True if there was no difference.
 pub fn accepted(seed: u64, count: u64) -> bool {
     let mut seen = vec![0; Rule::ALL.len()];
-    let mut differences = 0;
+    let mut tally = Tally::default();
     for index in 0..count {
         let table = generate::table(seed, index);
         let bytes = sheet::encode(&table).bytes;
-        if let Some(why) = difference(&table, &bytes, &mut seen) {
-            differences += 1;
-            if differences == 1 {
-                println!("first difference, sheet {index}: {why}\n{}", hexadecimal(&bytes));
-            }
-        }
+        tally.add(index, &bytes, 0, difference(&table, &bytes, &mut seen));
     }
-    println!("{count} accepted sheets from seed {seed}: {differences} differences");
+    let same = tally.report(&format!("accepted sheets from seed {seed}"));
     print_rules(&seen);
-    differences == 0
+    same
 }
 
 fn print_rules(seen: &[u64]) {
@@ -77,55 +104,62 @@ fn print_rules(seen: &[u64]) {
 
 /// Damaged sheets: both readings of the refusals, and the page of those that are still accepted.
 pub fn damaged(seed: u64, count: u64) -> bool {
-    let mut numbers = [0u64; 10];
-    let mut differences = 0;
+    let mut tally = Tally::default();
     for index in 0..count {
         let bytes = damage::sheet(seed, index);
-        let read = catch_unwind(|| sheet::decode(&bytes));
-        let same = match &read {
-            Err(_) => false,
-            Ok(Err(refusal)) => second::refusal(&bytes) == Some(*refusal),
-            Ok(Ok(table)) => difference(table, &bytes, &mut vec![0; Rule::ALL.len()]).is_none(),
-        };
-        if let Ok(read) = read {
-            numbers[read.err().map_or(0, |refusal| refusal.number) as usize] += 1;
-        }
-        if !same {
-            differences += 1;
-            if differences == 1 {
-                println!("first difference, sheet {index}:\n{}", hexadecimal(&bytes));
+        let (number, difference) = match catch_unwind(|| sheet::decode(&bytes)) {
+            Err(_) => (0, Some("the reader panicked")),
+            Ok(Err(refusal)) => {
+                let same = second::refusal(&bytes) == Some(refusal);
+                (refusal.number, (!same).then_some("the readings of the refusals differ"))
             }
-        }
+            Ok(Ok(table)) => (0, difference(&table, &bytes, &mut vec![0; Rule::ALL.len()])),
+        };
+        tally.add(index, &bytes, number, difference);
     }
-    println!("{count} damaged sheets from seed {seed}: {differences} differences");
-    println!("accepted {}, refused with 1 to 9: {:?}", numbers[0], &numbers[1..]);
-    differences == 0
+    tally.report(&format!("damaged sheets from seed {seed}"))
 }
 
-/// For each planted mistake the number of sheets until the first difference. True if all were found.
+/// For each planted mistake the number of sheets until the first difference, accepted sheets for those
+/// of the page and damaged ones for those of the refusals. True if all were found.
 pub fn slips(seed: u64, most: u64) -> bool {
-    let mut left: Vec<Slip> = Slip::ALL.to_vec();
-    let mut found: Vec<(u64, Slip)> = Vec::new();
+    let pages = sheets_until(Slip::ALL, most, |index, left| {
+        let table = generate::table(seed, index);
+        let answer = oracle::answer(&table);
+        left.retain(|slip| agrees(&table, &answer, Some(*slip)).0);
+    });
+    let refusals = sheets_until(RefusalSlip::ALL, most, |index, left| {
+        let sheet = damage::sheet(seed, index);
+        let refusal = sheet::decode(&sheet).err();
+        left.retain(|slip| second::refusal_with(&sheet, Some(*slip)) == refusal);
+    });
+    let words = Slip::ALL.iter().map(|slip| slip.words()).chain(RefusalSlip::ALL.iter().map(|slip| slip.words()));
+    let found: Vec<Option<u64>> = pages.into_iter().chain(refusals).collect();
+    for (words, sheets) in words.zip(&found) {
+        println!("{:>8} {words}", sheets.map_or("-".to_string(), |sheets| sheets.to_string()));
+    }
+    let count = found.iter().flatten().count();
+    println!("{count} of {} planted mistakes found within {most} sheets from seed {seed}", found.len());
+    count == found.len()
+}
+
+/// Of each mistake the number of the sheet that `keep_missed` first took off those that are left.
+fn sheets_until<S: Copy + PartialEq>(
+    all: &[S],
+    most: u64,
+    mut keep_missed: impl FnMut(u64, &mut Vec<S>),
+) -> Vec<Option<u64>> {
+    let (mut left, mut found) = (all.to_vec(), vec![None; all.len()]);
     for index in 0..most {
         if left.is_empty() {
             break;
         }
-        let table = generate::table(seed, index);
-        let answer = oracle::answer(&table);
-        left.retain(|slip| {
-            let missed = agrees(&table, &answer, Some(*slip)).0;
-            if !missed {
-                found.push((index + 1, *slip));
+        keep_missed(index, &mut left);
+        for (slip, sheets) in all.iter().zip(&mut found) {
+            if sheets.is_none() && !left.contains(slip) {
+                *sheets = Some(index + 1);
             }
-            missed
-        });
-    }
-    for slip in Slip::ALL {
-        match found.iter().find(|(_, each)| each == slip) {
-            Some((sheets, _)) => println!("{sheets:8} {}", slip.words()),
-            None => println!("       - {}", slip.words()),
         }
     }
-    println!("{} of {} planted mistakes found within {most} sheets from seed {seed}", found.len(), Slip::ALL.len());
-    left.is_empty()
+    found
 }

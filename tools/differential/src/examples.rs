@@ -1,8 +1,9 @@
-//! Document 01's trial desk sheet, its page, and its other examples.
+//! Document 01's trial desk sheet, its page, its other examples, and those of document 02's order 1.
 
 use crate::compare::agrees;
 use crate::oracle;
-use crate::sheet::{Cell, Column, Refusal, Row, STYLE_BYTES, Table, Width, decode, encode};
+use crate::second;
+use crate::sheet::{Cell, Column, Refusal, Row, SIGN, STYLE_BYTES, Table, Width, decode, encode};
 
 const PAGE: &[u8] = b"\
 +----+-------------+
@@ -69,7 +70,8 @@ fn has_widths(table: &Table, widths: &[u16]) -> bool {
 }
 
 fn refused(sheet: &[u8], number: u8, place: usize) -> bool {
-    decode(sheet) == Err(Refusal { number, place })
+    let refusal = Refusal { number, place };
+    decode(sheet) == Err(refusal) && second::refusal(sheet) == Some(refusal)
 }
 
 fn wrapping() -> Vec<(&'static str, bool)> {
@@ -134,13 +136,89 @@ fn limits() -> Vec<(&'static str, bool)> {
     ]
 }
 
+/// `21.5` with a sign and `C`, of width 6.
+const SETPOINT: &str = "21.5\u{B0}C";
+
+fn signs() -> Vec<(&'static str, bool)> {
+    let aligned = |alignment: u8, width: u16| {
+        let mut table = narrow(width, 0, &[SETPOINT]);
+        table.rows[0].cells[0].alignment = alignment;
+        table
+    };
+    let cut =
+        |width: u16, indicator: &[u8]| Table { indicator: indicator.to_vec(), ..narrow(width, 1, &[SETPOINT, "x"]) };
+    let alone = |text: &str| aimed(0, 0, vec![column(0, 0, 0, 0)], &[text]);
+    vec![
+        ("width of a setpoint", has_widths(&alone(SETPOINT), &[6])),
+        ("width of 100 signs", has_widths(&alone(&"\u{B0}".repeat(100)), &[100])),
+        ("setpoint at 6", prints(&narrow(6, 0, &[SETPOINT]), &[SETPOINT])),
+        ("setpoint at 5", prints(&narrow(5, 0, &[SETPOINT]), &["21.5\u{B0}", "C    "])),
+        ("setpoint at 4", prints(&narrow(4, 0, &[SETPOINT]), &["21.5", "\u{B0}C  "])),
+        ("setpoint at 3", prints(&narrow(3, 0, &[SETPOINT]), &["21.", "5\u{B0}C"])),
+        ("setpoint at 2", prints(&narrow(2, 0, &[SETPOINT]), &["21", ".5", "\u{B0}C"])),
+        ("setpoint at 1", prints(&narrow(1, 0, &[SETPOINT]), &["2", "1", ".", "5", "\u{B0}", "C"])),
+        ("setpoint cut at 6", prints(&cut(6, b"."), &["21.5\u{B0}."])),
+        ("setpoint cut at 5", prints(&cut(5, b"."), &["21.5."])),
+        ("setpoint cut at 4", prints(&cut(4, b"."), &["21.."])),
+        ("setpoint cut at 1", prints(&cut(1, b"."), &["."])),
+        ("setpoint cut, no indicator", prints(&cut(5, b"......"), &["21.5\u{B0}"])),
+        ("setpoint on the right", prints(&aligned(2, 8), &["  21.5\u{B0}C"])),
+        ("setpoint centred", prints(&aligned(3, 9), &["  21.5\u{B0}C "])),
+    ]
+}
+
+/// A sheet that ends with a cell's one line, its length byte and bytes as given; and the place of the
+/// first of these bytes.
+fn line(length: u8, bytes: &[u8]) -> (Vec<u8>, usize) {
+    let mut sheet = encode(&bare(vec![Column::default()], vec![row(0, &[""])])).bytes;
+    *sheet.last_mut().expect("the line's length") = length;
+    let place = sheet.len();
+    sheet.extend(bytes);
+    (sheet, place)
+}
+
+fn pairs() -> Vec<(&'static str, bool)> {
+    let gets = |length: u8, bytes: &[u8], number: u8, after: usize| {
+        let (sheet, place) = line(length, bytes);
+        refused(&sheet, number, place + after)
+    };
+    let passes = |length: u8, bytes: &[u8]| {
+        let sheet = line(length, bytes).0;
+        decode(&sheet).is_ok() && second::refusal(&sheet).is_none()
+    };
+    let desk_with = |at: usize, byte: u8| {
+        let mut desk = trial_desk();
+        desk[at] = byte;
+        desk
+    };
+    let indicator = encode(&Table { indicator: SIGN.to_vec(), ..desk() }).bytes;
+    vec![
+        ("a pair", passes(2, &[0xC2, 0xB0])),
+        ("100 pairs", passes(200, &SIGN.repeat(100))),
+        ("length 3, 61 C2, end", gets(3, &[0x61, 0xC2], 1, 2)),
+        ("length 2, 61 C2", gets(2, &[0x61, 0xC2], 6, 1)),
+        ("length 2, C2, end", gets(2, &[0xC2], 1, 1)),
+        ("length 1, C2, end", gets(1, &[0xC2], 6, 0)),
+        ("length 1, C2, then B0", gets(1, &[0xC2, 0xB0], 6, 0)),
+        ("C2 20", gets(2, &[0xC2, 0x20], 6, 0)),
+        ("C2 C2 B0", gets(3, &[0xC2, 0xC2, 0xB0], 6, 0)),
+        ("C2 B0 B0", gets(3, &[0xC2, 0xB0, 0xB0], 6, 2)),
+        ("B0 alone", gets(2, &[0x61, 0xB0], 6, 1)),
+        ("a pair in the indicator", refused(&indicator, 6, 6)),
+        ("C2 in the style", refused(&desk_with(9, 0xC2), 6, 9)),
+        ("B0 in the style", refused(&desk_with(9, 0xB0), 6, 9)),
+        ("C2 as delimiter", refused(&desk_with(4, 0xC2), 6, 4)),
+        ("B0 as delimiter", refused(&desk_with(4, 0xB0), 6, 4)),
+    ]
+}
+
 /// True if every example comes out.
 pub fn all_pass() -> bool {
-    let examples = [wrapping(), widths(), limits()].concat();
+    let examples = [wrapping(), widths(), limits(), signs(), pairs()].concat();
     for (words, _) in examples.iter().filter(|(_, passed)| !passed) {
         println!("example fails: {words}");
     }
     let passed = examples.iter().filter(|(_, passed)| *passed).count();
-    println!("{passed} of {} examples of document 01 pass", examples.len());
+    println!("{passed} of {} examples of the documents pass", examples.len());
     passed == examples.len()
 }

@@ -1,11 +1,12 @@
-//! Small spaces of sheets, tried whole: every short text at every small width, and every pair of
-//! columns out of a list at every small target.
+//! Small spaces of sheets, tried whole: every short text at every small width, with degree signs too,
+//! and every pair of columns out of a list at every small target.
 
 use crate::compare::{agrees, hexadecimal};
 use crate::oracle;
-use crate::sheet::{Cell, Column, Row, STYLE_BYTES, Table, Width, encode};
+use crate::sheet::{Cell, Column, Row, SIGN, STYLE_BYTES, Table, Width, encode};
 
 const LONGEST_TEXT: u32 = 12;
+const LONGEST_SIGNED: u8 = 8;
 const WIDEST: u16 = 9;
 const WIDEST_TARGET: u16 = 20;
 
@@ -46,20 +47,39 @@ fn text(number: u32) -> Vec<u8> {
     (0..number.ilog2()).map(|bit| if number >> bit & 1 == 1 { b' ' } else { b'a' + bit as u8 }).collect()
 }
 
-/// One column of one text, uncut and cut to 1 and 2 lines.
-fn texts() -> bool {
-    let mut tally = Tally::default();
+/// One column of one text at every width, uncut and cut to 1 and 2 lines.
+fn each_width(tally: &mut Tally, text: &[u8]) {
     for width in 1..=WIDEST {
         let widths = [Width { unit: 0, value: width }, Width::default()];
         let column = Column { constraint: 3, widths, ..Column::default() };
-        for number in 1..2 << LONGEST_TEXT {
-            for height in 0..3 {
-                let row = Row { height, cells: vec![cell(&text(number))] };
-                tally.try_sheet(&bare(vec![column.clone()], vec![row]));
-            }
+        for height in 0..3 {
+            let row = Row { height, cells: vec![cell(text)] };
+            tally.try_sheet(&bare(vec![column.clone()], vec![row]));
         }
     }
+}
+
+fn texts() -> bool {
+    let mut tally = Tally::default();
+    for number in 1..2 << LONGEST_TEXT {
+        each_width(&mut tally, &text(number));
+    }
     tally.report("texts of letters and spaces at widths and heights")
+}
+
+/// Each text of letters, spaces and signs that has a sign.
+fn signed_texts() -> bool {
+    let mut tally = Tally::default();
+    let mut texts: Vec<Vec<u8>> = vec![vec![]];
+    for length in 0..LONGEST_SIGNED {
+        let letter = [b'a' + length];
+        let longer = |text: &Vec<u8>| [&letter[..], b" ", &SIGN].map(|next| [text, next].concat());
+        texts = texts.iter().flat_map(longer).collect();
+        for text in texts.iter().filter(|text| text.contains(&SIGN[0])) {
+            each_width(&mut tally, text);
+        }
+    }
+    tally.report("texts with degree signs at widths and heights")
 }
 
 fn constraints() -> Vec<(u8, [u16; 2])> {
@@ -110,6 +130,7 @@ fn pairs() -> bool {
 /// True if there was no difference.
 pub fn all_agree() -> bool {
     let texts = texts();
+    let signed = signed_texts();
     let pairs = pairs();
-    texts && pairs
+    texts && signed && pairs
 }

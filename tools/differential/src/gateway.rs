@@ -3,7 +3,7 @@
 use std::ops::Range;
 
 use crate::archive::{Calls, Checked, Counted, Measured, Printed, PrintedLines};
-use crate::compare::hexadecimal;
+use crate::compare::Tally;
 use crate::oracle::Answer;
 use crate::random::Random;
 use crate::record::{Record, answered};
@@ -13,7 +13,7 @@ use crate::{damage, generate, second};
 /// Bytes on either side of what is lent.
 const FENCE: usize = 64;
 
-/// A buffer whose bytes all differ from what a page can hold.
+/// A buffer whose bytes all differ from what a page can hold: C2 and B0 aren't among them.
 struct Buffer {
     bytes: Vec<u8>,
     /// What the bytes are between calls.
@@ -27,7 +27,7 @@ impl Buffer {
 
     fn grow(&mut self, length: usize) {
         while self.marks.len() < length {
-            self.marks.push(0x80 | (self.marks.len() % 127) as u8);
+            self.marks.push(0x80 + (self.marks.len() % 47) as u8);
         }
         let known = self.bytes.len();
         self.bytes.extend(&self.marks[known..]);
@@ -148,7 +148,7 @@ fn line_difference(calls: &Calls, answer: &Answer, random: &mut Random, buffer: 
         if !buffer.holds(length, text, |page| calls.line(k, page), written(text.len())) {
             return Some("line");
         }
-        let short = random.below(text.len());
+        let short = if random.one_in(2) { text.len() - 1 } else { random.below(text.len()) };
         if random.one_in(3) && !buffer.holds(short, b"", |page| calls.line(k, page), state(20, text.len())) {
             return Some("line, too short");
         }
@@ -168,7 +168,10 @@ fn lines_difference(calls: &Calls, answer: &Answer, random: &mut Random, buffer:
     let mut k = random.pick(&[0, ranges.len() / 2]);
     for _ in 0..ASKED {
         let Some(first) = ranges.get(k) else { return None };
-        let length = random.pick(&[0, first.len() - 1, first.len(), 2 * first.len() + 1, 10 * first.len(), 5000]);
+        // Lines can have different lengths: the next few exactly, and a byte less.
+        let few = ranges[(k + random.below(4)).min(ranges.len() - 1)].end - first.start;
+        let one = first.len();
+        let length = random.pick(&[0, one - 1, one, 2 * one + 1, 10 * one, 5000, few, few, few - 1, few - 1]);
         let next = ranges[k..].iter().take_while(|range| range.end - first.start <= length).count() + k;
         let (expected, text) = match next {
             none if none == k => (some(state(20, first.len())), &b""[..]),
@@ -197,21 +200,14 @@ fn difference(record: &Record, random: &mut Random, buffer: &mut Buffer) -> Opti
 
 /// True if there was no difference.
 pub fn agrees(seed: u64, count: u64, damaged: bool) -> bool {
-    let (mut numbers, mut differences) = ([0u64; 10], 0);
-    let mut buffer = Buffer::new();
+    let (mut tally, mut buffer) = (Tally::default(), Buffer::new());
     for index in 0..count {
         let sheet = if damaged { damage::sheet(seed, index) } else { encode(&generate::table(seed, index)).bytes };
         let record = answered(sheet);
-        numbers[record.answer.as_ref().err().map_or(0, |refusal| refusal.number) as usize] += 1;
-        if let Some(call) = difference(&record, &mut Random::new(seed ^ 0x5EED, index), &mut buffer) {
-            differences += 1;
-            if differences == 1 {
-                println!("first difference, sheet {index}: {call}\n{}", hexadecimal(&record.sheet));
-            }
-        }
+        let number = record.answer.as_ref().err().map_or(0, |refusal| refusal.number);
+        let call = difference(&record, &mut Random::new(seed ^ 0x5EED, index), &mut buffer);
+        tally.add(index, &record.sheet, number, call);
     }
     let kind = if damaged { "damaged" } else { "accepted" };
-    println!("{count} {kind} sheets from seed {seed} through every call: {differences} differences");
-    println!("accepted {}, refused with 1 to 9: {:?}", numbers[0], &numbers[1..]);
-    differences == 0
+    tally.report(&format!("{kind} sheets from seed {seed} through every call"))
 }

@@ -2,6 +2,7 @@
 
 use crate::random::Random;
 use crate::sheet::{Cell, Column, LONGEST_SHEET, PERCENT, Row, STYLE_BYTES, Table, Width, encode, used_widths};
+use crate::signs;
 
 const GRID: [u8; STYLE_BYTES] = *b"+-++|||+=++|||+-+++-++";
 
@@ -40,6 +41,7 @@ fn candidate(random: &mut Random) -> Table {
         rows: (0..rows).map(|_| row(random, &texts, count, full)).collect(),
     };
     aim(random, &mut table);
+    signs::put(random, &mut table);
     table
 }
 

@@ -18,6 +18,7 @@ mod record;
 mod sample;
 mod second;
 mod sheet;
+mod signs;
 
 use std::io::{self, Read, Write};
 use std::process::ExitCode;
@@ -79,7 +80,7 @@ fn print(by_reading: bool) -> Done {
     let out = match read {
         Ok(table) if by_reading => {
             let reading = reading::Reading::new(&table, None);
-            reading.page(&reading.widths()).iter().flat_map(|line| line.iter().chain(b"\n")).copied().collect()
+            reading.page(&reading.widths()).page
         }
         Ok(table) => oracle::answer(&table).page,
         Err(refusal) => format!("refused {} at {}\n", refusal.number, refusal.place).into_bytes(),

@@ -72,6 +72,26 @@ listed! {
         NoBottomJunction "bottom junction dropped when none is set"
         OwnLeftOnly "a line's left printed only if its own is set"
         EmptyRowLine "row without lines printed as a blank line"
+        PairTwoColumns "a pair counted as two columns"
+        LongestInBytes "a column's longest counted in bytes"
+        WrapTestInBytes "a line tested in bytes before it is wrapped"
+        FillInBytes "a long piece cut by bytes, also inside a pair"
+        CutInBytes "the last line cut by bytes, also inside a pair"
+        AlignInBytes "free space of alignment counted in bytes"
+        BytesFromColumns "byte count taken from columns"
+    }
+}
+
+listed! {
+    /// A plausible mistake that the second reading of the refusals makes on request.
+    RefusalSlip {
+        LoneSecond "a lone B0 accepted"
+        PlaceAfterFirst "6 at the byte after C2"
+        OpenPairIsWrong "6 at C2 where the sheet ends inside a pair"
+        LastFirstEndsEarly "1 for C2 as a line's last byte where the sheet ends there"
+        PairAcrossLines "C2 as a line's last byte accepted before B0"
+        SignInIndicator "a pair accepted in the indicator"
+        LengthInCharacters "a line's length counted in characters"
     }
 }
 
@@ -122,6 +142,12 @@ listed! {
         NoHeader "no header" HeaderRule "header rule" HeaderRuleAlone "header rule, no rows"
         NoHeaderRule "no header rule" RowRule "row rule" NoRowRule "no row rule" NoLeft "no left" NoRight "no right"
         EmptyLine "empty line of the page" NoPage "page without lines"
+        SignLast "a wrapped line ends with a sign" SignNext "a wrapped line begins with a sign"
+        SignFills "a long piece cut between two signs" SignAtDelimiter "a sign beside a delimiter in a joined line"
+        SignsOnly "line of signs only" SignsExact "line with signs of exactly the width"
+        SignsFitInColumns "line with signs that fits, but not by its bytes" SignBeforeCut "a sign right before the indicator"
+        SignCutOff "a sign is the first that is cut off" SignsRight "signs aligned right" SignsCentred "signs centred"
+        SignMeasured "a column's longest has a sign"
     }
 }
 

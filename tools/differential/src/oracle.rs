@@ -57,8 +57,9 @@ fn character(byte: u8) -> Option<char> {
     (byte != 0).then_some(byte as char)
 }
 
+/// The pair C2 B0 is the character U+00B0 as UTF-8 writes it, so an accepted text is UTF-8 as it stands.
 fn text(bytes: &[u8]) -> String {
-    bytes.iter().map(|byte| *byte as char).collect()
+    String::from_utf8(bytes.to_vec()).expect("an accepted text is UTF-8")
 }
 
 fn line_style(bytes: &[u8]) -> LineStyle {

@@ -1,6 +1,7 @@
-//! Document 01's rules as a program, written from the document. Quoted words are the document's.
-//! Widths, wrapping, then cutting, aligning and drawing stand in files of their own. On request it
-//! makes one of the planted mistakes, to show that the comparison would notice.
+//! Document 01's rules as a program, written from the document, with document 02's order 1: "widths,
+//! cuts and alignment count characters". Quoted words are the documents'. Widths, wrapping, then
+//! cutting, aligning and drawing stand in files of their own. On request it makes one of the planted
+//! mistakes, to show that the comparison would notice.
 
 use std::cell::Cell as Shared;
 
@@ -9,7 +10,29 @@ mod widths;
 mod wrapping;
 
 use crate::marks::{Rule, Rules, Slip};
-use crate::sheet::{Cell, Column, Table};
+use crate::sheet::{Cell, Column, SIGN, Table};
+
+/// A character is the number that its bytes make: a printable byte is itself, the pair C2 B0 is C2B0.
+type Text = Vec<u16>;
+
+const DEGREE: u16 = u16::from_be_bytes(SIGN);
+const SPACE: u16 = b' ' as u16;
+
+fn byte_length(text: &[u16]) -> usize {
+    text.iter().map(|character| 1 + usize::from(*character > 0xFF)).sum()
+}
+
+fn put(text: &[u16]) -> Vec<u8> {
+    let bytes = |character: &u16| character.to_be_bytes().into_iter().skip(usize::from(*character <= 0xFF));
+    text.iter().flat_map(bytes).collect()
+}
+
+/// A text cut in two after so many bytes, wherever that is; for mistakes.
+fn split_at_byte(text: &[u16], at: usize) -> (Text, Text) {
+    let bytes: Text = put(text).into_iter().map(u16::from).collect();
+    let (head, rest) = bytes.split_at(at.min(bytes.len()));
+    (head.to_vec(), rest.to_vec())
+}
 
 const LEFTS: [usize; 6] = [0, 4, 7, 11, 14, 18];
 const JUNCTIONS: [usize; 6] = [2, 5, 9, 12, 16, 20];
@@ -56,6 +79,18 @@ impl<'a> Reading<'a> {
 
     fn slips(&self, slip: Slip) -> bool {
         self.slip == Some(slip)
+    }
+
+    /// "the pair C2 B0 (hexadecimal), U+00B0, which is one character, one column and two bytes"
+    fn characters(&self, line: &[u8]) -> Text {
+        let mut characters = Text::new();
+        for byte in line {
+            match characters.last_mut() {
+                Some(last) if *byte == SIGN[1] && !self.slips(Slip::PairTwoColumns) => *last = DEGREE,
+                _ => characters.push(u16::from(*byte)),
+            }
+        }
+        characters
     }
 
     // The table.

@@ -3,16 +3,16 @@
 use std::collections::{BinaryHeap, HashMap};
 
 use crate::compare::agrees;
-use crate::marks::{Rule, Slip};
+use crate::marks::{RefusalSlip, Rule, Slip};
 use crate::record::{Record, answered};
 use crate::second;
-use crate::sheet::{Table, decode, encode};
+use crate::sheet::{SIGN, Table, decode, encode};
 use crate::{damage, examples, generate};
 
 const CANDIDATES: u64 = 20_000;
 const DAMAGED_CANDIDATES: u64 = 60_000;
 const MOST_ACCEPTED: usize = 330;
-const MOST_DAMAGED: usize = 230;
+const MOST_DAMAGED: usize = 300;
 /// Few large records; a sheet beyond the format's limit is left to `compare --damaged`.
 const LARGEST: usize = 6_000;
 const LARGEST_DAMAGED: usize = 450;
@@ -85,6 +85,7 @@ fn limits(table: &Table) -> Vec<bool> {
         rows().any(|row| row.cells.len() == 12),
         cells().any(|cell| cell.lines.len() == 8),
         cells().any(|cell| cell.lines.iter().any(|line| line.len() == 200)),
+        cells().any(|cell| cell.lines.contains(&SIGN.repeat(100))),
         table.columns.len() >= 8 && table.target > 0 && table.arrangement > 0,
         table.header.is_some() && table.rows.is_empty(),
     ]
@@ -142,14 +143,21 @@ fn choose_accepted(seed: u64) -> Vec<Record> {
     chosen
 }
 
+fn caught(sheet: &[u8]) -> impl Iterator<Item = RefusalSlip> {
+    let refusal = second::refusal(sheet);
+    RefusalSlip::ALL.iter().copied().filter(move |slip| second::refusal_with(sheet, Some(*slip)) != refusal)
+}
+
 /// Some sheets for each number at each kind of field: three at least, then those with another byte
-/// there. 6 to 9 know few kinds of field, so their places count as kinds too.
+/// there. 6 to 9 know few kinds of field, so their places count as kinds too. And some that catch each
+/// planted mistake.
 fn choose_damaged(seed: u64) -> Vec<Record> {
     let mut seen: HashMap<String, usize> = HashMap::new();
+    let mut caught_by = vec![0; RefusalSlip::ALL.len()];
     let mut chosen = Vec::new();
     for index in 0..DAMAGED_CANDIDATES {
         let sheet = damage::sheet(seed, index);
-        let Some((refusal, part)) = second::refusal_at(&sheet) else { continue };
+        let Some((refusal, part)) = second::refusal_at(&sheet, None) else { continue };
         if sheet.len() > LARGEST_DAMAGED || chosen.len() == MOST_DAMAGED {
             continue;
         }
@@ -159,7 +167,9 @@ fn choose_damaged(seed: u64) -> Vec<Record> {
         let taken = *seen.get(&kind).unwrap_or(&0);
         let few = taken < 3;
         let fresh = taken < most && !seen.contains_key(&exact);
-        if few || fresh {
+        let catches = caught(&sheet).any(|slip| caught_by[slip as usize] < 6);
+        if few || fresh || catches {
+            caught(&sheet).for_each(|slip| caught_by[slip as usize] += 1);
             *seen.entry(kind).or_default() += 1;
             *seen.entry(exact).or_default() += 1;
             chosen.push(answered(sheet));
@@ -172,28 +182,37 @@ fn choose_damaged(seed: u64) -> Vec<Record> {
 pub fn summary(records: &[Record]) -> String {
     let mut numbers = [0; 10];
     let mut rules = vec![0; Rule::ALL.len()];
-    let mut caught = vec![0; Slip::ALL.len()];
+    let mut caught_by = vec![0; Slip::ALL.len()];
+    let mut refusals_caught_by = vec![0; RefusalSlip::ALL.len()];
+    let (mut signed, mut halves) = (0, 0);
     for record in records {
         numbers[record.answer.as_ref().err().map_or(0, |refusal| usize::from(refusal.number))] += 1;
-        let (Ok(table), Ok(answer)) = (decode(&record.sheet), &record.answer) else { continue };
+        let (Ok(table), Ok(answer)) = (decode(&record.sheet), &record.answer) else {
+            halves += usize::from(record.sheet.iter().any(|byte| SIGN.contains(byte)));
+            caught(&record.sheet).for_each(|slip| refusals_caught_by[slip as usize] += 1);
+            continue;
+        };
+        signed += usize::from(table.has_signs());
         for rule in agrees(&table, answer, None).1.iter() {
             rules[rule as usize] += 1;
         }
         for slip in Slip::ALL.iter().filter(|slip| !agrees(&table, answer, Some(**slip)).0) {
-            caught[*slip as usize] += 1;
+            caught_by[*slip as usize] += 1;
         }
     }
     let least = |counts: &[usize]| counts.iter().min().copied().unwrap_or(0);
     let unseen: Vec<_> = Rule::ALL.iter().filter(|rule| rules[**rule as usize] == 0).map(|rule| rule.words()).collect();
     format!(
         "{} records: {} accepted, refused with 1 to 9: {:?}\nrules seen {} of {}, each at least {} times; not seen: {unseen:?}\n\
-         each planted mistake caught by at least {} records",
+         each planted mistake caught by at least {} records, those of the refusals by at least {}\n\
+         {signed} accepted sheets with degree signs, {halves} refused ones with C2 or B0 in them",
         records.len(),
         numbers[0],
         &numbers[1..],
         rules.len() - unseen.len(),
         rules.len(),
         rules.iter().filter(|count| **count > 0).min().unwrap_or(&0),
-        least(&caught),
+        least(&caught_by),
+        least(&refusals_caught_by),
     )
 }

@@ -6,6 +6,9 @@ pub const STYLE_BYTES: usize = 22;
 
 pub const PERCENT: u8 = 1;
 
+/// The degree sign: one character of cell text, two bytes.
+pub const SIGN: [u8; 2] = [0xC2, 0xB0];
+
 #[derive(Clone, Debug, PartialEq)]
 pub struct Table {
     pub arrangement: u8,
@@ -44,7 +47,15 @@ pub struct Row {
 pub struct Cell {
     pub delimiter: u8,
     pub alignment: u8,
+    /// Printable bytes and whole signs.
     pub lines: Vec<Vec<u8>>,
+}
+
+impl Table {
+    pub fn has_signs(&self) -> bool {
+        let mut cells = self.header.iter().chain(&self.rows).flat_map(|row| &row.cells);
+        cells.any(|cell| cell.lines.iter().any(|line| line.contains(&SIGN[0])))
+    }
 }
 
 #[derive(Clone, Copy, Debug, PartialEq)]
@@ -213,9 +224,27 @@ impl Reader<'_> {
         Ok(Cell { delimiter, alignment, lines })
     }
 
+    /// "cell text may hold the pair C2 B0", and its length counts bytes.
     fn line(&mut self) -> Read<Vec<u8>> {
         let length = self.count(0, 200)?;
-        self.characters(length)
+        let end = self.at + usize::from(length);
+        let mut line = Vec::new();
+        while self.at < end {
+            // "C2 as a line's last byte gets 6 also where the sheet ends there": it begins no pair.
+            let begins_pair = self.at + 1 < end && self.bytes.get(self.at) == Some(&SIGN[0]);
+            if begins_pair {
+                line.extend(self.pair()?);
+            } else {
+                line.push(self.character()?);
+            }
+        }
+        Ok(line)
+    }
+
+    /// "a pair is one field"
+    fn pair(&mut self) -> Read<[u8; 2]> {
+        let at = self.field(2)?;
+        if self.bytes[at..at + 2] == SIGN { Ok(SIGN) } else { refuse(6, at) }
     }
 }
 
@@ -226,7 +255,11 @@ pub enum Field {
     Code,
     Target,
     OptionalCharacter,
+    /// Of the indicator.
     Character,
+    /// Of a cell's line.
+    Letter,
+    Pair,
     IndicatorCount,
     StyleCount,
     ColumnCount,
@@ -258,7 +291,9 @@ pub fn encode(table: &Table) -> Encoded {
     out.number(Field::Target, table.target);
     out.byte(Field::OptionalCharacter, table.delimiter);
     out.byte(Field::IndicatorCount, table.indicator.len() as u8);
-    out.characters(&table.indicator);
+    for byte in &table.indicator {
+        out.byte(Field::Character, *byte);
+    }
     out.byte(Field::StyleCount, STYLE_BYTES as u8);
     for byte in table.style {
         out.byte(Field::OptionalCharacter, byte);
@@ -289,9 +324,14 @@ impl Encoded {
         self.bytes.extend(number.to_le_bytes());
     }
 
-    fn characters(&mut self, characters: &[u8]) {
-        for byte in characters {
-            self.byte(Field::Character, *byte);
+    fn line(&mut self, line: &[u8]) {
+        self.byte(Field::LineLength, line.len() as u8);
+        for byte in line {
+            match *byte {
+                second if second == SIGN[1] => self.bytes.push(second),
+                first if first == SIGN[0] => self.byte(Field::Pair, first),
+                letter => self.byte(Field::Letter, letter),
+            }
         }
     }
 
@@ -321,8 +361,7 @@ impl Encoded {
             self.byte(Field::Code, cell.alignment);
             self.byte(Field::LineCount, cell.lines.len() as u8);
             for line in &cell.lines {
-                self.byte(Field::LineLength, line.len() as u8);
-                self.characters(line);
+                self.line(line);
             }
         }
     }

@@ -1,6 +1,6 @@
 //! Cutting, aligning, drawing.
 
-use super::{JUNCTIONS, LEFTS, RIGHTS, Reading};
+use super::{DEGREE, JUNCTIONS, LEFTS, RIGHTS, Reading, SPACE, Text, byte_length, put, split_at_byte};
 use crate::marks::{Rule, Slip};
 use crate::sheet::{Cell, Row};
 
@@ -11,10 +11,17 @@ const CONTENT_LINES: usize = 11;
 const ROW_RULE: usize = 14;
 const BOTTOM: usize = 18;
 
+/// A page and its counts.
+pub struct Printed {
+    pub lines: usize,
+    pub bytes: usize,
+    pub page: Vec<u8>,
+}
+
 impl Reading<'_> {
     /// "A cell with more lines than the height limit keeps that many; the last is shortened until it
     /// and the indicator fit."
-    fn cut(&self, mut lines: Vec<Vec<u8>>, height: usize, width: usize) -> Vec<Vec<u8>> {
+    fn cut(&self, mut lines: Vec<Text>, height: usize, width: usize) -> Vec<Text> {
         self.fire_if(height > lines.len(), Rule::CutNot);
         self.fire_if(height > 0 && height == lines.len(), Rule::CutEqual);
         let reached = lines.len() == height && self.slips(Slip::CutAtLimit);
@@ -28,8 +35,9 @@ impl Reading<'_> {
     }
 
     /// "An indicator wider than the content is dropped."
-    fn shorten(&self, mut last: Vec<u8>, width: usize) -> Vec<u8> {
-        let mut indicator: &[u8] = &self.table.indicator;
+    fn shorten(&self, mut last: Text, width: usize) -> Text {
+        let whole = self.characters(&self.table.indicator);
+        let mut indicator: &[u16] = &whole;
         self.fire_if(indicator.is_empty(), Rule::IndicatorNone);
         self.fire_if(indicator.len() == width, Rule::IndicatorWhole);
         if indicator.len() > width && !self.slips(Slip::WideIndicatorKept) {
@@ -43,7 +51,12 @@ impl Reading<'_> {
         if last.len() <= room && self.slips(Slip::IndicatorIfShortened) {
             return last;
         }
-        last.truncate(room);
+        self.fire_if(last.get(room) == Some(&DEGREE), Rule::SignCutOff);
+        match self.slips(Slip::CutInBytes) {
+            true => last = split_at_byte(&last, room).0,
+            false => last.truncate(room),
+        }
+        self.fire_if(!indicator.is_empty() && last.last() == Some(&DEGREE), Rule::SignBeforeCut);
         last.extend(indicator);
         last
     }
@@ -61,8 +74,9 @@ impl Reading<'_> {
     }
 
     /// "Centre puts the odd space left." Paddings stand on both sides.
-    fn align(&self, line: &[u8], alignment: u8, at: usize, width: usize) -> Vec<u8> {
-        let free = width.saturating_sub(line.len());
+    fn align(&self, line: &[u16], alignment: u8, at: usize, width: usize) -> Text {
+        let length = if self.slips(Slip::AlignInBytes) { byte_length(line) } else { line.len() };
+        let free = width.saturating_sub(length);
         let odd = usize::from(!self.slips(Slip::CentreOddRight));
         let (before, rule) = match alignment {
             2 => (free, Rule::AlignRight),
@@ -71,22 +85,25 @@ impl Reading<'_> {
             _ => (0, Rule::AlignLeft),
         };
         self.fire_if(free > 0, rule);
+        let signs = free > 0 && line.contains(&DEGREE);
+        self.fire_if(signs && alignment == 2, Rule::SignsRight);
+        self.fire_if(signs && alignment == 3, Rule::SignsCentred);
         let mut sides = [self.column(at).left, self.column(at).right].map(usize::from);
         if self.slips(Slip::PaddingsSwapped) {
             sides.reverse();
         }
-        let mut area = vec![b' '; sides[0] + before];
+        let mut area = vec![SPACE; sides[0] + before];
         area.extend(line);
-        area.resize(area.len() + free - before + sides[1], b' ');
+        area.resize(area.len() + free - before + sides[1], SPACE);
         area
     }
 
     /// The areas of one cell. "A missing cell is one blank line"
-    fn areas(&self, row: &Row, is_header: bool, at: usize, width: usize) -> Vec<Vec<u8>> {
+    fn areas(&self, row: &Row, is_header: bool, at: usize, width: usize) -> Vec<Text> {
         let Some(cell) = row.cells.get(at) else {
             self.fire(Rule::MissingCell);
             let lines = usize::from(!self.slips(Slip::MissingNoLine));
-            return vec![vec![b' '; width + self.padding(at)]; lines];
+            return vec![vec![SPACE; width + self.padding(at)]; lines];
         };
         let height = if is_header && self.slips(Slip::HeaderUncut) { 0 } else { row.height };
         let wrapped = self.wrap(cell, at, width);
@@ -97,35 +114,35 @@ impl Reading<'_> {
     }
 
     /// "a cell with fewer lines than its row gets blank ones below."
-    fn row_lines(&self, row: &Row, is_header: bool, widths: &[usize]) -> Vec<Vec<Vec<u8>>> {
+    fn row_lines(&self, row: &Row, is_header: bool, widths: &[usize]) -> Vec<Vec<Text>> {
         let areas = |at: usize| (at, self.areas(row, is_header, at, widths[at]));
-        let cells: Vec<(usize, Vec<Vec<u8>>)> = self.visible().map(areas).collect();
+        let cells: Vec<(usize, Vec<Text>)> = self.visible().map(areas).collect();
         let mut height = cells.iter().map(|(_, areas)| areas.len()).max().unwrap_or(0);
         self.fire_if(row.cells.is_empty(), Rule::BareRow);
         self.fire_if(height == 0 && !cells.is_empty(), Rule::RowNoLine);
         if height == 0 && !cells.is_empty() && self.slips(Slip::EmptyRowLine) {
             height = 1;
         }
-        let area = |(at, areas): &(usize, Vec<Vec<u8>>), k: usize| {
+        let area = |(at, areas): &(usize, Vec<Text>), k: usize| {
             self.fire_if(k >= areas.len(), Rule::BlankBelow);
             let above = if self.slips(Slip::BlankAbove) { height - areas.len() } else { 0 };
             k.checked_sub(above)
                 .and_then(|k| areas.get(k))
                 .cloned()
-                .unwrap_or_else(|| vec![b' '; widths[*at] + self.padding(*at)])
+                .unwrap_or_else(|| vec![SPACE; widths[*at] + self.padding(*at)])
         };
         (0..height).map(|k| cells.iter().map(|cell| area(cell, k)).collect()).collect()
     }
 
     /// "Unset characters print as a space."
-    fn shown(&self, place: usize) -> u8 {
+    fn shown(&self, place: usize) -> u16 {
         let byte = self.table.style[place];
         self.fire_if(byte == 0, Rule::UnsetSpace);
-        if byte == 0 { b' ' } else { byte }
+        if byte == 0 { SPACE } else { byte.into() }
     }
 
     /// One line of the page out of its areas.
-    fn line(&self, areas: &[Vec<u8>], left: usize, junction: Option<usize>, right: usize) -> Vec<u8> {
+    fn line(&self, areas: &[Text], left: usize, junction: Option<usize>, right: usize) -> Text {
         let mut line = Vec::new();
         let own = self.slips(Slip::OwnLeftOnly) && self.table.style[left] == 0;
         if self.set(&LEFTS) && !own {
@@ -153,19 +170,19 @@ impl Reading<'_> {
     }
 
     /// A border or rule, its four characters standing from `style` on.
-    fn rule(&self, style: usize, widths: &[usize]) -> Vec<u8> {
+    fn rule(&self, style: usize, widths: &[usize]) -> Text {
         let joined = match style {
             TOP => self.joined(true, Slip::NoTopJunction, Rule::TopUnjoined),
             BOTTOM => self.joined(true, Slip::NoBottomJunction, Rule::BottomUnjoined),
             _ => self.joined(false, Slip::RuleJunctionAlways, Rule::RuleUnjoined),
         };
         let fill = |at: usize| vec![self.shown(style + 1); widths[at] + self.padding(at)];
-        let areas: Vec<Vec<u8>> = self.visible().map(fill).collect();
+        let areas: Vec<Text> = self.visible().map(fill).collect();
         self.line(&areas, style, joined.then_some(style + 2), style + 3)
     }
 
     /// "A border or rule is visible if one of its characters is set."
-    fn push_rule(&self, page: &mut Vec<Vec<u8>>, style: usize, widths: &[usize], shown: Rule, not: Rule) {
+    fn push_rule(&self, page: &mut Vec<Text>, style: usize, widths: &[usize], shown: Rule, not: Rule) {
         let visible = self.set(&[style, style + 1, style + 2, style + 3]);
         self.fire(if visible { shown } else { not });
         if visible {
@@ -173,7 +190,7 @@ impl Reading<'_> {
         }
     }
 
-    fn push_row(&self, page: &mut Vec<Vec<u8>>, row: &Row, is_header: bool, widths: &[usize]) {
+    fn push_row(&self, page: &mut Vec<Text>, row: &Row, is_header: bool, widths: &[usize]) {
         let style = if is_header { HEADER_LINES } else { CONTENT_LINES };
         for areas in self.row_lines(row, is_header, widths) {
             let joined = self.joined(false, Slip::TextJunctionAlways, Rule::TextUnjoined);
@@ -182,7 +199,7 @@ impl Reading<'_> {
     }
 
     /// "The header rule follows the header, a row rule stands between two rows."
-    pub fn page(&self, widths: &[usize]) -> Vec<Vec<u8>> {
+    pub fn page(&self, widths: &[usize]) -> Printed {
         let mut page = Vec::new();
         self.push_rule(&mut page, TOP, widths, Rule::TopBorder, Rule::NoTop);
         if let Some(header) = &self.table.header {
@@ -202,10 +219,22 @@ impl Reading<'_> {
         }
         self.push_rule(&mut page, BOTTOM, widths, Rule::BottomBorder, Rule::NoBottom);
         self.fire_page(&page);
-        page
+        self.printed(&page)
     }
 
-    fn fire_page(&self, page: &[Vec<u8>]) {
+    /// Counts of the page count bytes, a pair's two.
+    fn printed(&self, page: &[Text]) -> Printed {
+        let columns = self.slips(Slip::BytesFromColumns);
+        let length = |line: &Text| 1 + if columns { line.len() } else { byte_length(line) };
+        let closed = |line: &Text| put(line).into_iter().chain(*b"\n");
+        Printed {
+            lines: page.len(),
+            bytes: page.iter().map(length).sum(),
+            page: page.iter().flat_map(closed).collect(),
+        }
+    }
+
+    fn fire_page(&self, page: &[Text]) {
         self.fire_if(page.is_empty(), Rule::NoPage);
         self.fire_if(self.table.header.is_none(), Rule::NoHeader);
         self.fire_if(self.visible().count() == 0, Rule::NoColumn);

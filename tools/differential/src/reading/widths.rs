@@ -2,7 +2,7 @@
 
 use super::{HIDDEN, JUNCTIONS, LEFTS, RIGHTS, Reading};
 use crate::marks::{Rule, Slip};
-use crate::sheet::{PERCENT, Width};
+use crate::sheet::{PERCENT, SIGN, Width};
 
 const ABSOLUTE: u8 = 3;
 
@@ -19,7 +19,14 @@ impl Reading<'_> {
     pub(super) fn longest(&self, at: usize) -> usize {
         let left_out = usize::from(self.slips(Slip::HeaderNotMeasured) && self.table.header.is_some());
         let lines = self.cells(at, left_out).flat_map(|cell| &cell.lines);
-        lines.map(|line| line.len().max(1)).max().unwrap_or(0)
+        let length = |line: &[u8]| match self.slips(Slip::LongestInBytes) {
+            true => line.len(),
+            false => self.characters(line).len(),
+        };
+        let measured = |line: &Vec<u8>| (length(line).max(1), line.contains(&SIGN[0]));
+        let (longest, has_sign) = lines.map(measured).max().unwrap_or_default();
+        self.fire_if(has_sign, Rule::SignMeasured);
+        longest
     }
 
     /// "Borders drawn: left if any `left` is set, right likewise, and visible columns less one, not

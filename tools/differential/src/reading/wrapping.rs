@@ -2,7 +2,7 @@
 
 use std::collections::VecDeque;
 
-use super::Reading;
+use super::{DEGREE, Reading, Text, byte_length, split_at_byte};
 use crate::marks::{Rule, Slip};
 use crate::sheet::Cell;
 
@@ -25,25 +25,35 @@ impl Reading<'_> {
     }
 
     /// "Only lines longer than the content width are split"
-    pub(super) fn wrap(&self, cell: &Cell, at: usize, width: usize) -> Vec<Vec<u8>> {
+    pub(super) fn wrap(&self, cell: &Cell, at: usize, width: usize) -> Vec<Text> {
         let mut lines = Vec::new();
         for line in &cell.lines {
-            let splits = line.len() > width || (line.len() == width && self.slips(Slip::WrapsExact));
+            let line = self.characters(line);
+            let length = if self.slips(Slip::WrapTestInBytes) { byte_length(&line) } else { line.len() };
+            let splits = length > width || (length == width && self.slips(Slip::WrapsExact));
+            self.fire_signs(&line, width);
             if splits {
-                lines.extend(self.split(line, self.delimiter(cell, at), width));
+                lines.extend(self.split(&line, self.delimiter(cell, at).into(), width));
             } else {
-                self.fire_wrap(true, if line.len() == width { Rule::LineExact } else { Rule::LineShorter });
-                lines.push(line.clone());
+                self.fire_wrap(true, if length == width { Rule::LineExact } else { Rule::LineShorter });
+                lines.push(line);
             }
         }
         lines
     }
 
+    fn fire_signs(&self, line: &[u16], width: usize) {
+        let signs = line.iter().filter(|character| **character == DEGREE).count();
+        self.fire_wrap(signs > 1 && signs == line.len(), Rule::SignsOnly);
+        self.fire_wrap(signs > 0 && line.len() == width, Rule::SignsExact);
+        self.fire_wrap(line.len() <= width && line.len() + signs > width, Rule::SignsFitInColumns);
+    }
+
     /// "into the pieces between delimiters, empty ones kept."
-    fn split(&self, text: &[u8], delimiter: u8, width: usize) -> Vec<Vec<u8>> {
+    fn split(&self, text: &[u16], delimiter: u16, width: usize) -> Vec<Text> {
         let dropped = self.slips(Slip::EmptyPiecesDropped);
-        let pieces = text.split(|byte| *byte == delimiter).filter(|piece| !(dropped && piece.is_empty()));
-        let mut pieces: VecDeque<&[u8]> = pieces.collect();
+        let pieces = text.split(|each| *each == delimiter).filter(|piece| !(dropped && piece.is_empty()));
+        let mut pieces: VecDeque<Text> = pieces.map(<[u16]>::to_vec).collect();
         let mut wrapping = Wrapping { reading: self, delimiter, width, line: vec![], done: vec![] };
         while let Some(piece) = pieces.pop_front() {
             if let Some(again) = wrapping.take(piece) {
@@ -57,10 +67,10 @@ impl Reading<'_> {
 /// The wrapping of one line.
 struct Wrapping<'a> {
     reading: &'a Reading<'a>,
-    delimiter: u8,
+    delimiter: u16,
     width: usize,
-    line: Vec<u8>,
-    done: Vec<Vec<u8>>,
+    line: Text,
+    done: Vec<Text>,
 }
 
 impl Wrapping<'_> {
@@ -69,11 +79,16 @@ impl Wrapping<'_> {
     }
 
     fn flush(&mut self) {
-        self.done.push(std::mem::take(&mut self.line));
+        let line = std::mem::take(&mut self.line);
+        self.fire(line.last() == Some(&DEGREE), Rule::SignLast);
+        self.fire(!self.done.is_empty() && line.first() == Some(&DEGREE), Rule::SignNext);
+        self.done.push(line);
     }
 
-    fn join(&mut self, piece: &[u8]) {
+    fn join(&mut self, piece: &[u16]) {
         if !self.line.is_empty() {
+            let beside = self.line.last() == Some(&DEGREE) || piece.first() == Some(&DEGREE);
+            self.fire(beside, Rule::SignAtDelimiter);
             self.line.push(self.delimiter);
         }
         self.line.extend(piece);
@@ -93,7 +108,7 @@ impl Wrapping<'_> {
     }
 
     /// Takes a piece; answers what is to be tried next.
-    fn take<'p>(&mut self, piece: &'p [u8]) -> Option<&'p [u8]> {
+    fn take(&mut self, piece: Text) -> Option<Text> {
         let fresh = self.line.is_empty();
         let used = self.line.len() + usize::from(!fresh);
         let free = self.width.saturating_sub(used);
@@ -101,8 +116,8 @@ impl Wrapping<'_> {
         // "A piece joins the line, after a delimiter if the line isn't empty, where the sum is at most
         // the width."
         if used + piece.len() <= self.width {
-            self.fire_join(piece, fresh, used);
-            self.join(piece);
+            self.fire_join(&piece, fresh, used);
+            self.join(&piece);
             self.flush_if_full();
             return None;
         }
@@ -119,12 +134,12 @@ impl Wrapping<'_> {
         // "Else the line is flushed and the piece begins another."
         self.fire(true, Rule::BeginLine);
         self.flush();
-        self.line = piece.to_vec();
+        self.line = piece;
         self.flush_if_full();
         None
     }
 
-    fn fire_join(&self, piece: &[u8], fresh: bool, used: usize) {
+    fn fire_join(&self, piece: &[u16], fresh: bool, used: usize) {
         self.fire(
             true,
             match (fresh, piece.is_empty()) {
@@ -139,7 +154,7 @@ impl Wrapping<'_> {
 
     /// "Else a piece longer than the width fills the line, after a delimiter if the line isn't empty;
     /// the line is flushed, and the piece's rest is tried next."
-    fn fill<'p>(&mut self, piece: &'p [u8], free: usize) -> Option<&'p [u8]> {
+    fn fill(&mut self, piece: Text, free: usize) -> Option<Text> {
         let fresh = self.line.is_empty();
         if !fresh && self.reading.slips(Slip::FillsFresh) {
             self.flush();
@@ -147,14 +162,18 @@ impl Wrapping<'_> {
         }
         self.fire(true, if fresh { Rule::FillFresh } else { Rule::FillMore });
         self.fire(!fresh && free == 3, Rule::FillThree);
-        let (head, rest) = piece.split_at(free);
-        self.join(head);
+        self.fire(piece[..=free].iter().rev().take(2).eq(&[DEGREE; 2]), Rule::SignFills);
+        let (head, rest) = match self.reading.slips(Slip::FillInBytes) {
+            true => split_at_byte(&piece, free),
+            false => (piece[..free].to_vec(), piece[free..].to_vec()),
+        };
+        self.join(&head);
         self.flush();
         Some(rest)
     }
 
     /// "A nonempty last line is kept."
-    fn finish(mut self) -> Vec<Vec<u8>> {
+    fn finish(mut self) -> Vec<Text> {
         let left = !self.line.is_empty();
         self.fire(true, if left { Rule::LastKept } else { Rule::LastEmpty });
         if left || self.reading.slips(Slip::EmptyLastKept) {
