@@ -41,7 +41,7 @@ class DeskTest(unittest.TestCase):
 
     def file(self, data, name="form.txt"):
         path = self.folder / name
-        path.write_bytes(data if isinstance(data, bytes) else data.encode("ascii"))
+        path.write_bytes(data if isinstance(data, bytes) else data.encode())
         return path
 
     def made(self, form):
@@ -53,7 +53,7 @@ class DeskTest(unittest.TestCase):
     def page(self, form):
         done = self.sheets("print", self.file(form))
         self.assertEqual((done.said, done.returncode), ("", 0))
-        return done.stdout.decode("ascii")
+        return done.stdout.decode()
 
     def tree(self):
         """A copy of what the stored sheets and their tests need, without an archive."""

@@ -9,6 +9,8 @@ from desk import ROOT, DeskTest
 CONSTRAINTS = "0 none, 1 Hidden, 2 ContentWidth, 3 Absolute, 4 LowerBoundary, 5 UpperBoundary, 6 Boundaries"
 ALIGNMENTS = "0 none, 1 left, 2 right, 3 centre"
 PRINTABLE = "a printable character, 20 to 7E hexadecimal"
+CELL_TEXT = PRINTABLE + ", or a degree sign, C2 B0"
+ELSEWHERE = "of a degree sign, which only the text of a cell may hold"
 WORDS = {
     1: "the sheet ends before this field is whole",
     2: "the sheet is over 32,768 bytes",
@@ -55,7 +57,20 @@ REFUSED = [
     ('delimiter "\\x07"', (6, 4), "table delimiter", "07 hexadecimal", f"0 for none, else {PRINTABLE}", (1, 12, "")),
     ('bottom "+-+\\x7F"', (6, 31), "style, bottom border, right", "7F hexadecimal",
      f"0 for none, else {PRINTABLE}", (1, 12, "")),
-    ('row "a\\\\b\\0"', (6, 55), "row 1, cell 1, line 1, character 4", "00 hexadecimal", PRINTABLE, (1, 10, "")),
+    ('row "a\\\\b\\0"', (6, 55), "row 1, cell 1, line 1, character 4", "00 hexadecimal", CELL_TEXT, (1, 10, "")),
+    # Halves of a degree sign; a whole one is one character.
+    ('row "\xb0a\xb0"\ncut 56', (1, 56), "row 1, cell 1, line 1, character 3",
+     "missing: the sheet's 56 bytes end within it", CELL_TEXT, (2, 5, END)),
+    (r'row "\xC2"', (6, 52), "row 1, cell 1, line 1, character 1",
+     "C2 hexadecimal, the first byte of a degree sign, alone", CELL_TEXT, (1, 6, "")),
+    ('row "\xb0\\xC2 "', (6, 54), "row 1, cell 1, line 1, character 2", "C2 20 hexadecimal, C2 without B0 after it",
+     CELL_TEXT, (1, 7, "")),
+    ('row "\xb0\\xB0"', (6, 54), "row 1, cell 1, line 1, character 2",
+     "B0 hexadecimal, the second byte of a degree sign, alone", CELL_TEXT, (1, 7, "")),
+    (r'indicator ".\xC2\xB0"', (6, 7), "indicator, character 2", f"C2 hexadecimal, the first byte {ELSEWHERE}",
+     PRINTABLE, (1, 13, "")),
+    (r'delimiter "\xB0"', (6, 4), "table delimiter", f"B0 hexadecimal, the second byte {ELSEWHERE}",
+     f"0 for none, else {PRINTABLE}", (1, 12, "")),
     ('column\nheader\nrow\nrow "a" "b"', (7, 51), "row 2, count of cells", "2",
      "0 to 12, and no more than the columns, which are 1", (4, 9, LAST)),
     ("column constraint Hidden unit 0 0 unit 0 256", (8, 43), "column 1, second width, value", "256",

@@ -77,6 +77,11 @@ class Make(DeskTest):
     def test_escapes(self):
         self.assertTrue(self.made(r'row "\"\\\0\x7f#"').endswith(b'\x01\x05"\\\x00\x7f#'))
 
+    def test_signs(self):
+        self.assertTrue(self.made('row "21.5\xb0C" # \xb0').endswith(b"\1\x0721.5\xc2\xb0C"))
+        self.assertEqual(self.made('row "\xb0"'), self.made(r'row "\xC2\xB0"'))
+        self.assertTrue(self.made(f'row "{127 * chr(0xB0)}a"').endswith(b"\xff" + 127 * b"\xc2\xb0" + b"a"))
+
     def test_damage(self):
         whole = self.made('row "a"')
         self.assertEqual(self.made('row "a"\nbytes 01 ff0A\npad 3 7\ncut 20'), whole[:20])
@@ -99,7 +104,7 @@ class Readme(DeskTest):
 
     def setUp(self):
         super().setUp()
-        blocks = (ROOT / "sheets/README.md").read_text("ascii").split("\n\n")
+        blocks = (ROOT / "sheets/README.md").read_text("utf-8").split("\n\n")
         blocks = [block for block in blocks if block.startswith("    ")]
         self.blocks = ["".join(line[4:] + "\n" for line in block.splitlines()) for block in blocks]
 
@@ -117,7 +122,7 @@ class Readme(DeskTest):
         self.assertEqual(said.replace(f"{self.folder}/", ""), self.blocks[4])
 
     def test_styles(self):
-        rows = [line for line in (ROOT / "sheets/README.md").read_text("ascii").splitlines() if line.startswith("| `")]
+        rows = [line for line in (ROOT / "sheets/README.md").read_text("utf-8").splitlines() if line.startswith("| `")]
         for name in PICTURES:
             row = next(row for row in rows if f"`{name}`" in row.split(" | ")[0])
             cells = row.replace("\\|", "!").strip("| ").split(" | ")[1:]

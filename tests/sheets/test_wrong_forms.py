@@ -15,7 +15,8 @@ COLUMN = "column [padding LEFT RIGHT] [delimiter D] [alignment A] [constraint C 
 CELL = 'cell [delimiter D] [alignment A] "line" .., in this order'
 ORDER = "the order is: edition, arrangement, target, delimiter, indicator, style, top, "
 BEYOND = "at most {}; a count or length is a byte, so that over 255 can't be written at all"
-ASCII = "a text form is ASCII throughout, comments too"
+ASCII = "a text form is ASCII and the degree sign, as UTF-8 writes it (C2 B0), comments too"
+CELLS_ONLY = "the degree sign stands in the texts of cells only"
 RAW = "raw, alone and first; then only bytes, pad and cut"
 
 # The form, the place, the message, and the start of what is right.
@@ -63,9 +64,9 @@ WRONG = [
     ('row "a""b"', (1, 8), "a space is missing", r'words and texts are separated by spaces, and " within a'),
     ("row hello", (1, 5), "a cell: hello is no text in quotes", 'row [height N] ["cell" ..]'),
     ("row\n  cell hello", (2, 8), "a cell's line: hello is no text in quotes", CELL),
-    (f'row "{256 * "a"}"', (1, 5), "a cell has 256 characters", BEYOND.format(200)),
-    (f'row\n  cell "a" "{256 * "a"}"', (2, 12), "a cell's line has 256 characters", BEYOND.format(200)),
-    (f'indicator "{256 * "a"}"', (1, 11), "indicator has 256 characters", BEYOND.format(8)),
+    (f'row "{256 * "a"}"', (1, 5), "a cell has 256 bytes", BEYOND.format(200)),
+    (f'row\n  cell "a" "{256 * "a"}"', (2, 12), "a cell's line has 256 bytes", BEYOND.format(200)),
+    (f'indicator "{256 * "a"}"', (1, 11), "indicator has 256 bytes", BEYOND.format(8)),
     # Words and their order.
     ("edition 1\n  colum", (2, 3), "unknown word colum", "a line starts with one of edition, arrangement, target, "),
     ('"target" 20', (1, 1), 'unknown word "target"', "a line starts with one of "),
@@ -98,6 +99,16 @@ WRONG = [
     (b'edition 1\nrow "caf\xc3\xa9"', (2, 9), "byte C3 (hexadecimal) isn't ASCII", ASCII),
     (b"edition 1 # 20 \xb0C", (1, 16), "byte B0 (hexadecimal) isn't ASCII", ASCII),
     (b"\xef\xbb\xbfedition 1", (1, 1), "byte EF (hexadecimal) isn't ASCII", ASCII),
+    (b'row "\xc2\xb0\xb0"', (1, 7), "byte B0 (hexadecimal) isn't ASCII", ASCII),
+    (b'row "\xc2\xb0\xc2', (1, 7), "byte C2 (hexadecimal) isn't ASCII", ASCII),
+    # The degree sign where no cell is.
+    ('indicator "..\xb0"', (1, 14), "indicator: \xb0 isn't ASCII", CELLS_ONLY),
+    ('delimiter "\xb0"', (1, 12), "delimiter: \xb0 isn't ASCII", CELLS_ONLY),
+    ('column delimiter "\xb0"', (1, 19), "delimiter: \xb0 isn't ASCII", CELLS_ONLY),
+    ('row\n  cell delimiter "\xb0" "21.5\xb0C"', (2, 19), "delimiter: \xb0 isn't ASCII", CELLS_ONLY),
+    ('top "+-\xb0+"', (1, 8), "top: \xb0 isn't ASCII", CELLS_ONLY),
+    ("row 21.5\xb0C", (1, 5), "a cell: 21.5\xb0C is no text in quotes", 'row [height N] ["cell" ..]'),
+    (f'row "{128 * chr(0xB0)}"', (1, 5), "a cell has 256 bytes", BEYOND.format(200)),
     # Damage.
     ("bytes 0", (1, 7), "0 isn't made of bytes", "bytes 01 FF .., each of two hexadecimal digits"),
     ("bytes", (1, 6), "a byte is missing", "bytes 01 FF .., each of two hexadecimal digits"),

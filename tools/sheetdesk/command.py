@@ -80,7 +80,7 @@ def explain_file(name):
 
 COMMANDS = {
     "make": ("FILE.txt", lambda name: write(load(name, "text form").sheet)),
-    "text": ("FILE.sheet", lambda name: write(text.text(load(name, "sheet").sheet).encode("ascii"))),
+    "text": ("FILE.sheet", lambda name: write(text.text(load(name, "sheet").sheet).encode())),
     "print": ("FILE", print_page),
     "explain": ("FILE", explain_file),
     "build": ("", folder.build),

@@ -1,6 +1,7 @@
 """What the library answers about a sheet, in words."""
 
 from . import fields
+from .words import SIGN
 
 NUMBERS = {
     1: "the sheet ends before this field is whole",
@@ -19,11 +20,23 @@ def hexadecimal(byte):
     return f"{byte:02X} hexadecimal" + (f", the character {chr(byte)}" if 0x20 <= byte <= 0x7E else "")
 
 
+def character(there, kind):
+    """A character's bytes; of a degree sign's, what is wrong with them."""
+    first, second = SIGN.encode()
+    if len(there) == 2:
+        return f"{there[0]:02X} {there[1]:02X} hexadecimal" + ", C2 without B0 after it" * (there[1] != second)
+    if there[0] not in (first, second):
+        return hexadecimal(there[0])
+    half = "the first byte" if there[0] == first else "the second byte"
+    where = "alone" if kind == "cell text" else "which only the text of a cell may hold"
+    return f"{hexadecimal(there[0])}, {half} of a degree sign, {where}"
+
+
 def value(sheet, field):
     there = sheet[field.start : field.start + field.size]
     if len(there) < field.size:
         return f"missing: the sheet's {len(sheet)} bytes end {'within it' if there else 'before it'}"
-    return hexadecimal(there[0]) if field.kind == "character" else str(int.from_bytes(there, "little"))
+    return str(int.from_bytes(there, "little")) if field.kind == "number" else character(there, field.kind)
 
 
 def described(sheet, number, place):

@@ -6,6 +6,7 @@ This names what stands at a place. It judges nothing: numbers and places of refu
 from collections import namedtuple
 
 from . import styles
+from .words import SIGN
 
 ARRANGEMENTS = ["Disabled", "Dynamic", "DynamicFullWidth"]
 ALIGNMENTS = ["none", "left", "right", "centre"]
@@ -29,6 +30,7 @@ COUNT = "0 to {}"
 TARGET = "0 for none, else 1 to 400"
 PRINTABLE = "a printable character, 20 to 7E hexadecimal"
 UNSET = f"0 for none, else {PRINTABLE}"
+CELL_TEXT = f"{PRINTABLE}, or a degree sign, C2 B0"
 PADDING = "0 to 20"
 HEIGHT = "0 for none, else 1 to 255"
 LINE_COUNT = "1 to 8; an empty cell has one empty line"
@@ -57,6 +59,15 @@ class Reader:
     def text(self, name, size):
         """As many characters, each a field of its own."""
         return bytes(self.take(f"{name}, character {at + 1}", PRINTABLE, kind="character") for at in range(size))
+
+    def line(self, name, size):
+        """A cell's text of so many bytes: each character is a field, the two bytes of a degree sign too."""
+        start, end, count = self.at, self.at + size, 0
+        while self.at < end:
+            count += 1
+            begins_sign = self.sheet[self.at : self.at + 1] == SIGN.encode()[:1] and self.at + 1 < end
+            self.take(f"{name}, character {count}", CELL_TEXT, size=1 + begins_sign, kind="cell text")
+        return self.sheet[start:end].ljust(size, b"\0")
 
     def character(self, name):
         return self.take(name, UNSET, kind="character")
@@ -89,7 +100,7 @@ class Reader:
         lines = []
         for at in range(1, 1 + self.take(f"{name}, count of lines", LINE_COUNT)):
             size = self.take(f"{name}, line {at}, length", COUNT.format(200))
-            lines.append(self.text(f"{name}, line {at}", size))
+            lines.append(self.line(f"{name}, line {at}", size))
         return Cell(delimiter, alignment, lines)
 
     def row(self, name, columns):

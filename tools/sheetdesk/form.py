@@ -158,7 +158,7 @@ class Form:
                 "arrangement": lambda: line.code(name, fields.ARRANGEMENTS),
                 "target": lambda: line.number_or_none(name, "none, or 1 to 400", 2),
                 "delimiter": line.delimiter,
-                "indicator": lambda: line.counted_text(name, 8),
+                "indicator": lambda: line.counted(name, line.ascii_text(name), 8),
                 "padding": lambda: self.padding(line),
             }[name]()
 
@@ -167,7 +167,7 @@ class Form:
         unset = line.option("unset")
         if unset:
             return spread(bytes(count), unset.at)
-        word = line.text(name)
+        word = line.ascii_text(name)
         if len(word.text) != count:
             raise line.wrong(f"{name}: {word.written} has {len(word.text)} characters", word)
         return word.text
@@ -193,13 +193,13 @@ class Form:
         cells = []
         while line.before_options():
             at = line.words[0].at
-            cells.append(Record(at, spread(b"\0\0\1", at) + line.counted_text("a cell", 200)))
+            cells.append(Record(at, spread(b"\0\0\1", at) + line.cell_text("a cell")))
         return Row(line.at, height, cells)
 
     def read_cell(self, line):
         start, lines = delimiter_and_alignment(line), []
         while line.before_options():
-            lines.append(Record(line.words[0].at, line.counted_text("a cell's line", 200)))
+            lines.append(Record(line.words[0].at, line.cell_text("a cell's line")))
         cells = (self.rows or self.header)[-1].cells
         cells.append(Record(line.at, start + counted(lines, "line", 8, line.at)))
 

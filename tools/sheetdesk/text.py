@@ -1,16 +1,22 @@
 """A sheet as a text form that makes the same bytes."""
 
 from . import fields, form, styles
-from .words import Wrong
+from .words import SIGN, Wrong
+
+
+def shown(byte):
+    if byte in b'"\\':
+        return "\\" + chr(byte)
+    return chr(byte) if 0x20 <= byte <= 0x7E else "\\0" if byte == 0 else f"\\x{byte:02X}"
 
 
 def quoted(characters):
-    def shown(byte):
-        if byte in b'"\\':
-            return "\\" + chr(byte)
-        return chr(byte) if 0x20 <= byte <= 0x7E else "\\0" if byte == 0 else f"\\x{byte:02X}"
-
     return '"' + "".join(map(shown, characters)) + '"'
+
+
+def cell_text(line):
+    """A cell's line, where a degree sign is written as such; half of one is a byte."""
+    return '"' + SIGN.join("".join(map(shown, part)) for part in line.split(SIGN.encode())) + '"'
 
 
 def code(value, names):
@@ -60,7 +66,7 @@ def style(characters):
 def row(name, held):
     yield f"{name} height {held.height}" if held.height else name
     for cell in held.cells:
-        yield " ".join(["  cell", *options(cell), *map(quoted, cell.lines)])
+        yield " ".join(["  cell", *options(cell), *map(cell_text, cell.lines)])
 
 
 def table(held):
@@ -84,7 +90,7 @@ def bytes_lines(sheet):
 
 def makes(lines, sheet):
     try:
-        return form.read("\n".join(lines).encode("ascii")).sheet == sheet
+        return form.read("\n".join(lines).encode()).sheet == sheet
     except Wrong:
         return False
 

@@ -11,6 +11,10 @@ ESCAPE = re.compile(r'\\(?:x([0-9A-Fa-f]{2})|(["\\0]))')
 PLAIN = re.compile(r'[^\s"#]+')
 SPACE = re.compile(r"\s*")
 
+# The degree sign, two bytes of cell text; the only character beyond ASCII that a text form may hold.
+SIGN = "\xb0"
+KNOWN = re.compile(b"(?:[\0-\x7f]|%s)*" % SIGN.encode())
+
 # A line and a column, both counted from 1; the note says more where the byte isn't written there itself.
 Place = namedtuple("Place", "line column note", defaults=[""])
 # `text` holds the bytes of a quoted text and is None for a plain word.
@@ -43,7 +47,7 @@ def quoted(line, number, start):
     while at < len(line) and line[at] != '"':
         place = Place(number, at + 1)
         if line[at] != "\\":
-            text.append((ord(line[at]), place))
+            text += spread(line[at].encode(), place)
             at += 1
             continue
         escape = ESCAPE.match(line, at)
@@ -77,11 +81,12 @@ def split(line, number):
 def lines(form):
     """Each line of a text form that has words, as a Line."""
     for number, line in enumerate(form.split(b"\n"), 1):
-        odd = next((at for at, byte in enumerate(line) if byte > 0x7F), None)
-        if odd is not None:
-            right = "a text form is ASCII throughout, comments too"
-            raise Wrong(f"byte {line[odd]:02X} (hexadecimal) isn't ASCII", right, Place(number, odd + 1))
-        line = line.decode("ascii").rstrip()
+        odd = KNOWN.match(line).end()
+        if odd < len(line):
+            right = "a text form is ASCII and the degree sign, as UTF-8 writes it (C2 B0), comments too"
+            place = Place(number, len(line[:odd].decode()) + 1)
+            raise Wrong(f"byte {line[odd]:02X} (hexadecimal) isn't ASCII", right, place)
+        line = line.decode().rstrip()
         words = split(line, number)
         if words:
             yield Line(words, Place(number, len(line) + 1))
@@ -152,18 +157,28 @@ class Line:
             raise self.wrong(f"{what}: {word.written} is no text in quotes", word)
         return word
 
-    def counted_text(self, what, most):
-        """A text after its length, of which the printer takes `most`."""
+    def ascii_text(self, what):
+        """A quoted text of which each byte is a character."""
         word = self.text(what)
+        if SIGN in word.written:
+            at = word.at._replace(column=word.at.column + word.written.index(SIGN))
+            raise Wrong(f"{what}: {SIGN} isn't ASCII", "the degree sign stands in the texts of cells only", at)
+        return word
+
+    def counted(self, what, word, most):
+        """A text after its length, of which the printer takes `most`."""
         if len(word.text) > 255:
-            raise self.wrong(f"{what} has {len(word.text)} characters", word, beyond_a_byte(most))
+            raise self.wrong(f"{what} has {len(word.text)} bytes", word, beyond_a_byte(most))
         return spread([len(word.text)], word.at) + word.text
+
+    def cell_text(self, what):
+        return self.counted(what, self.text(what), 200)
 
     def delimiter(self):
         none = self.option("none")
         if none:
             return spread([0], none.at)
-        word = self.text("delimiter")
+        word = self.ascii_text("delimiter")
         if len(word.text) != 1:
             right = 'exactly one character in quotes, such as "/", or none'
             raise self.wrong(f"delimiter: {word.written} has {len(word.text)} characters", word, right)
