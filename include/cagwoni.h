@@ -1,4 +1,4 @@
-/* Cagwoni: a sheet becomes a page of printable ASCII, or is refused with a number and a place.
+/* Cagwoni: a sheet becomes a page of printable ASCII and degree signs, or is refused with a number and a place.
  *
  * A sheet is `sheet_len` bytes from `sheet` on (docs/FORMAT.md says what they mean); a page buffer is `page_len` bytes
  * from `page` on. A pointer may be null if its length is 0. No call reads a byte outside the sheet, or reads or writes
@@ -12,8 +12,11 @@
  * A call goes through the sheet more than once. If its bytes change in between, by an overlap or by somebody else,
  * nothing is promised any more: the call may write outside the buffer.
  *
- * A page is lines of bytes 20 to 7E (hexadecimal), each closed by byte 0A. Lines are counted from 0, and a line's
- * bytes include its 0A.
+ * A page is lines of characters, each closed by byte 0A. A character is a byte from 20 to 7E (hexadecimal) or the pair
+ * C2 B0, the degree sign as UTF-8 writes it: one character, one column, two bytes. Only the text of cells, the header's
+ * too, can bring a pair in, and none is ever cut in two. Lengths in the sheet, line and buffer lengths, byte counts and
+ * places count bytes; content widths count characters. So lines of one page that are equally wide can have different
+ * lengths. Lines are counted from 0, and a line's bytes include its 0A.
  *
  * A refused call answers a number other than 0, a place and a written count of 0; its other counts and widths are 0,
  * no column is marked hidden, and the page buffer keeps every byte. Otherwise number and place are 0, and the bytes of
@@ -21,13 +24,15 @@
  *
  * From the input; every call gives these, and they come before 21 and 20. 2 is tested first, then fields left to
  * right, 1 before any other at a field, then 9. The place is the field's first byte unless said; each character is a
- * field of its own.
+ * field of its own, and a pair in the text of a cell is one.
  *   CAGWONI_ENDS_EARLY        1  sheet ends before a field is whole, an empty sheet included (place: its length)
  *   CAGWONI_TOO_LONG          2  sheet over 32,768 bytes (place 32,768)
  *   CAGWONI_EDITION           3  edition not 1
  *   CAGWONI_UNKNOWN_CODE      4  unknown code (arrangement, alignment, constraint, used unit)
  *   CAGWONI_BEYOND_LIMITS     5  count, length or value beyond its limits
- *   CAGWONI_NOT_PRINTABLE     6  byte neither printable nor an allowed 0
+ *   CAGWONI_NOT_PRINTABLE     6  byte neither printable nor an allowed 0; in the text of a cell C2 without B0 after it
+ *                                in the same line (place: the C2, also if it is the line's last byte and the sheet
+ *                                ends there), and B0 without C2 before it; elsewhere either of them
  *   CAGWONI_MORE_CELLS        7  more cells than columns (cell count at most 12)
  *   CAGWONI_UNUSED_NOT_ZERO   8  unused width byte not zero (place: that byte)
  *   CAGWONI_BYTES_AFTER       9  bytes after the last row (place: the first of them)
@@ -93,8 +98,8 @@ enum {
     CAGWONI_LONGEST_SHEET = 32768,
     CAGWONI_MOST_COLUMNS = 12,
     /* A buffer of this size takes any line, its 0A included: the bound that is proved (crates/rules/proofs/Counts.antt,
-     * line-at-bound). */
-    CAGWONI_LONGEST_LINE = 10201
+     * line-at-bound). It is 12 columns of 950 bytes, 100 of which are the second bytes of pairs, and the 0A. */
+    CAGWONI_LONGEST_LINE = 11401
 };
 
 /* Bytes of stack that are enough for each call, from its return address on, the red zone included. They are counted in
@@ -139,8 +144,8 @@ cagwoni_checked cagwoni_check(const uint8_t *sheet, size_t sheet_len);
 /* The page's line count and byte count, the closing bytes 0A included. */
 cagwoni_counted cagwoni_count(const uint8_t *sheet, size_t sheet_len);
 
-/* The count of columns, and for each of them the content width, which leaves padding out, and whether the column is
- * hidden. Entries past the columns are 0 and not hidden. */
+/* The count of columns, and for each of them the content width, which counts characters and leaves padding out, and
+ * whether the column is hidden. Entries past the columns are 0 and not hidden. */
 cagwoni_measured cagwoni_widths(const uint8_t *sheet, size_t sheet_len);
 
 /* Prints the page. Number 0: the first `written` bytes of the buffer are the page, and those after them are

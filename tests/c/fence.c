@@ -35,7 +35,8 @@ void give_back(struct lent *lent) {
         munmap(lent->whole, lent->whole_length);
 }
 
-static uint8_t mark_at(size_t at) { return (uint8_t)(0x80 + at % 127); }
+/* 80 to AE: neither B0 nor C2, which a page may hold. */
+static uint8_t mark_at(size_t at) { return (uint8_t)(0x80 + at % 47); }
 
 void mark(struct lent *lent) {
     for (size_t at = 0; at < lent->length; at++)

@@ -6,7 +6,7 @@
 #include "replay.h"
 
 /* The bound that crates/rules/proofs/Counts.antt has at line-at-bound. */
-_Static_assert(CAGWONI_LONGEST_LINE == 10201, "the longest line is the one proved");
+_Static_assert(CAGWONI_LONGEST_LINE == 11401, "the longest line is the one proved");
 
 /* Only the widths' answer has padding, four bytes at its end. */
 static void layouts(void) {

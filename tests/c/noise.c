@@ -1,4 +1,4 @@
-/* Random bytes as sheets, seeded: noise, and the desk's sheet with some bytes changed. */
+/* Random bytes as sheets, seeded: noise, and the desk's sheet with some bytes changed and pairs put into it. */
 #include <string.h>
 
 #include "cases.h"
@@ -23,10 +23,20 @@ static size_t noise(uint8_t *sheet, uint64_t *state) {
     return length;
 }
 
+/* The desk's last text starts at 66. */
+static void put_pairs(uint8_t *sheet, size_t length, uint64_t *state) {
+    for (size_t pairs = next(state) % 5; pairs > 0; pairs--) {
+        size_t at = 66 + next(state) % (length - 66 - 1);
+        sheet[at] = 0xC2;
+        sheet[at + 1] = 0xB0;
+    }
+}
+
 static size_t changed_desk(uint8_t *sheet, uint64_t *state) {
     size_t length = sizeof desk_sheet;
     memcpy(sheet, desk_sheet, length);
-    for (size_t changes = 1 + next(state) % 3; changes > 0; changes--) {
+    put_pairs(sheet, length, state);
+    for (size_t changes = next(state) % 4; changes > 0; changes--) {
         uint8_t *byte = &sheet[next(state) % length];
         *byte = (uint8_t)(next(state) % 2 ? *byte + 1 + next(state) % 4 : next(state));
     }

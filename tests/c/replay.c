@@ -16,6 +16,14 @@ static struct span line_of(const struct expected *e, size_t start) {
     return (struct span){start, (size_t)(end + 1 - (e->page + start))};
 }
 
+/* A pair is one column: its second byte isn't counted. */
+static size_t columns_of(const struct expected *e, struct span line) {
+    size_t seconds = 0;
+    for (size_t at = line.start; at < line.start + line.length; at++)
+        seconds += e->page[at] == 0xB0;
+    return line.length - seconds;
+}
+
 static size_t line_count(const struct expected *e) {
     size_t count = 0;
     for (size_t at = 0; at < e->page_len; at++)
@@ -125,6 +133,21 @@ static void each_line(const struct expected *e, size_t count, enum fence fence) 
     }
 }
 
+/* Lines differ in length where they differ in pairs: up to four in a buffer that they fill, and in one a byte short. */
+static void lines_exactly(const struct expected *e, size_t count, enum fence fence) {
+    size_t step = count / 50 + 1, start = 0;
+    for (size_t k = 0; k < count; start += line_of(e, start).length, k++) {
+        size_t end = start;
+        for (size_t more = 0; k % step == 0 && more < 4 && end < e->page_len; more++) {
+            end += line_of(e, end).length;
+            for (size_t less = 0; less < 2; less++) {
+                size_t from = start;
+                lines_into(e, k, &from, end - start - less, fence);
+            }
+        }
+    }
+}
+
 /* The whole page by buffers of one line, of two and a half, and of ten. */
 static void lines_in_turn(const struct expected *e, size_t count, enum fence fence) {
     size_t longest = 1;
@@ -148,7 +171,7 @@ static int any_set(const uint8_t *style, const size_t places[6]) {
     return 0;
 }
 
-/* The widths call and the page must fit: each line is as long as its columns, borders and 0A. */
+/* The widths call and the page must fit: each line is as wide as its columns and borders, and closed by its 0A. */
 static void widths_fit(const struct expected *e, const cagwoni_measured *got) {
     static const size_t lefts[6] = {0, 4, 7, 11, 14, 18}, rights[6] = {3, 6, 10, 13, 17, 21};
     static const size_t junctions[6] = {2, 5, 9, 12, 16, 20};
@@ -165,9 +188,10 @@ static void widths_fit(const struct expected *e, const cagwoni_measured *got) {
     size_t between = visible > 1 ? visible - 1 : 0;
     size_t text = length + (any_set(style, junctions) ? between : 0), border = length + between;
     for (size_t start = 0; start < e->page_len; start += line_of(e, start).length) {
-        size_t line = line_of(e, start).length;
-        CHECK(line == text || (line == border && (start == 0 || start + line == e->page_len)));
-        CHECK(line <= CAGWONI_LONGEST_LINE);
+        struct span line = line_of(e, start);
+        size_t wide = columns_of(e, line);
+        CHECK(wide == text || (wide == border && (start == 0 || start + line.length == e->page_len)));
+        CHECK(line.length <= CAGWONI_LONGEST_LINE);
     }
 }
 
@@ -202,10 +226,17 @@ static void check_and_count(const struct expected *e, size_t lines) {
     CHECK(counted.bytes == e->page_len);
 }
 
+static int is_pair(const struct expected *e, size_t at) {
+    return at + 1 < e->page_len && e->page[at] == 0xC2 && e->page[at + 1] == 0xB0;
+}
+
 static void printable(const struct expected *e) {
     size_t good = 0;
     for (size_t at = 0; at < e->page_len; at++)
-        good += e->page[at] == '\n' || (e->page[at] >= 0x20 && e->page[at] <= 0x7E);
+        if (is_pair(e, at))
+            good += 2, at++;
+        else
+            good += e->page[at] == '\n' || (e->page[at] >= 0x20 && e->page[at] <= 0x7E);
     about_call("the page's bytes", 0);
     CHECK(good == e->page_len);
     CHECK(e->page_len == 0 || e->page[e->page_len - 1] == '\n');
@@ -230,6 +261,7 @@ static void every_call(const struct expected *e, enum fence fence) {
     }
     each_line(e, lines, fence);
     lines_in_turn(e, lines, fence);
+    lines_exactly(e, lines, fence);
     by_fixed_buffer(e, fence);
 }
 
