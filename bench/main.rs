@@ -17,7 +17,7 @@ mod sheets;
 use std::hint::black_box;
 
 use archive::Calls;
-use sheets::Named;
+use sheets::{Kind, Named};
 
 /// Nanoseconds that a batch of calls takes at least.
 const BATCH: u64 = 4_000_000;
@@ -106,7 +106,7 @@ fn print_head() {
         BATCH / 1_000_000
     );
     println!(
-        "{:16} {:>6} {:>8} {:>6} | {:>9} {:>7} | {:>9} | {:>10} {:>7} | {:>9} | {:>11} {:>7} | {:>6}",
+        "{:18} {:>6} {:>8} {:>6} | {:>9} {:>7} | {:>9} | {:>10} {:>7} | {:>9} | {:>11} {:>7} | {:>6}",
         "sheet",
         "bytes",
         "page",
@@ -127,7 +127,7 @@ fn print_head() {
 fn print_row(m: &Measured) {
     let per = |time: f64, bytes: usize| time / bytes as f64;
     println!(
-        "{:16} {:6} {:8} {:6} | {:9.0} {:7.2} | {:9.0} | {:10.0} {:7.2} | {:9.0} | {:11.0} {:7.2} | {:6.1}",
+        "{:18} {:6} {:8} {:6} | {:9.0} {:7.2} | {:9.0} | {:10.0} {:7.2} | {:9.0} | {:11.0} {:7.2} | {:6.1}",
         m.name,
         m.sheet,
         m.page,
@@ -151,7 +151,7 @@ fn print_growth(rows: &[Measured]) {
         time(last) / time(first) / ((last.sheet + last.page) as f64 / (first.sheet + first.page) as f64)
     };
     println!(
-        "{:16} growth over that of sheet and page: check {:.2}, count {:.2}, print page {:.2}, mid line {:.2}, Rust {:.2}",
+        "{:18} growth over that of sheet and page: check {:.2}, count {:.2}, print page {:.2}, mid line {:.2}, Rust {:.2}",
         "",
         grown(|m| m.check),
         grown(|m| m.count),
@@ -195,23 +195,32 @@ fn print_huge() {
     }
 }
 
+fn print_grown(kind: Kind) {
+    let rows: Vec<Measured> = sheets::SIZES.iter().map(|size| measure(&sheets::grown(kind, *size))).collect();
+    rows.iter().for_each(print_row);
+    print_growth(&rows);
+}
+
+/// Degree signs come last: an archive from before them ends the run here, with the other rows printed.
 fn bench() {
     print_head();
     for named in [sheets::small(), sheets::typical()] {
         print_row(&measure(&named));
     }
-    for kind in sheets::KINDS {
-        let rows: Vec<Measured> = sheets::SIZES.iter().map(|size| measure(&sheets::grown(kind, *size))).collect();
-        rows.iter().for_each(print_row);
-        print_growth(&rows);
+    for kind in sheets::PLAIN_KINDS {
+        print_grown(kind);
     }
     print_huge();
+    print_row(&measure(&sheets::typical_signs()));
+    print_grown(Kind::LargeSigns);
 }
 
 /// Writes the sheets, for programs that measure something else.
 fn write(folder: &str) {
-    let grown = sheets::KINDS.into_iter().map(|kind| sheets::grown(kind, sheets::SIZES[3]));
-    for named in [sheets::small(), sheets::typical(), sheets::huge()].into_iter().chain(grown) {
+    let kinds = sheets::PLAIN_KINDS.into_iter().chain([Kind::LargeSigns]);
+    let grown = kinds.map(|kind| sheets::grown(kind, sheets::SIZES[3]));
+    let fixed = [sheets::small(), sheets::typical(), sheets::typical_signs(), sheets::huge()];
+    for named in fixed.into_iter().chain(grown) {
         let path = format!("{folder}/{}.sheet", named.name.replace(' ', "-"));
         std::fs::write(path, named.sheet).expect("the folder can be written to");
     }

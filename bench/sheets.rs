@@ -1,7 +1,7 @@
 //! The measured sheets, the same in each run.
 
 use crate::random::Random;
-use crate::sheet::{Cell, Column, LONGEST_SHEET, Row, Table, Width, decode, encode};
+use crate::sheet::{Cell, Column, LONGEST_SHEET, Row, SIGN, Table, Width, decode, encode};
 
 const GRID: [u8; 22] = *b"+-++|||+=++|||+-+++-++";
 const ABSOLUTE: u8 = 3;
@@ -21,9 +21,11 @@ pub enum Kind {
     LongTexts,
     /// The same texts in one column that is 1 wide.
     Wrap,
+    /// `Large` with a degree sign in every cell.
+    LargeSigns,
 }
 
-pub const KINDS: [Kind; 3] = [Kind::Large, Kind::LongTexts, Kind::Wrap];
+pub const PLAIN_KINDS: [Kind; 3] = [Kind::Large, Kind::LongTexts, Kind::Wrap];
 
 fn table(target: u16, columns: Vec<Column>) -> Table {
     Table {
@@ -65,6 +67,21 @@ fn row(cells: Vec<Cell>) -> Row {
     Row { height: 0, cells }
 }
 
+/// A setpoint, or a sign alone, takes the place of the first characters; the text keeps its width.
+fn with_sign(text: &[u8]) -> Vec<u8> {
+    match text.get(6..) {
+        Some(rest) => ["21.5\u{B0}C".as_bytes(), rest].concat(),
+        None => [&SIGN, &text[1..]].concat(),
+    }
+}
+
+fn with_signs(mut row: Row) -> Row {
+    for line in row.cells.iter_mut().flat_map(|cell| &mut cell.lines) {
+        *line = with_sign(line);
+    }
+    row
+}
+
 /// The desk's: two columns, one row, target 20.
 pub fn small() -> Named {
     let mut table = table(20, columns(2));
@@ -75,13 +92,24 @@ pub fn small() -> Named {
 }
 
 /// 12 columns, a header and 40 rows, target 120.
-pub fn typical() -> Named {
+fn typical_table() -> Table {
     let mut random = Random::new(1, 0);
     let mut table = table(120, columns(12));
     let cells = |random: &mut Random| row((0..12).map(|_| cell(random, 1, 2, 14)).collect());
     table.header = Some(cells(&mut random));
     table.rows = (0..40).map(|_| cells(&mut random)).collect();
-    Named { name: "typical".to_string(), sheet: encode(&table).bytes }
+    table
+}
+
+pub fn typical() -> Named {
+    Named { name: "typical".to_string(), sheet: encode(&typical_table()).bytes }
+}
+
+pub fn typical_signs() -> Named {
+    let mut table = typical_table();
+    table.header = table.header.map(with_signs);
+    table.rows = table.rows.into_iter().map(with_signs).collect();
+    Named { name: "typical signs".to_string(), sheet: encode(&table).bytes }
 }
 
 fn absolute(value: u16) -> Column {
@@ -91,6 +119,7 @@ fn absolute(value: u16) -> Column {
 fn setting(kind: Kind) -> (&'static str, Table) {
     match kind {
         Kind::Large => ("large", table(200, columns(12))),
+        Kind::LargeSigns => ("large signs", table(200, columns(12))),
         Kind::LongTexts => ("long texts", table(160, columns(2))),
         Kind::Wrap => ("wrap heavy", table(80, vec![absolute(1)])),
     }
@@ -99,6 +128,7 @@ fn setting(kind: Kind) -> (&'static str, Table) {
 fn one_row(kind: Kind, random: &mut Random) -> Row {
     match kind {
         Kind::Large => row((0..12).map(|_| cell(random, 1, 16, 32)).collect()),
+        Kind::LargeSigns => with_signs(one_row(Kind::Large, random)),
         Kind::LongTexts => row((0..2).map(|_| cell(random, 8, 200, 200)).collect()),
         Kind::Wrap => row(vec![cell(random, 8, 200, 200)]),
     }
