@@ -1,4 +1,4 @@
-//! The differential tool: comfy-table as the oracle, document 01 read as a program, aimed sheets.
+//! The differential tool: comfy-table as the oracle, the documents read as a program, aimed sheets.
 
 #[cfg(gateway)]
 mod archive;
