@@ -48,7 +48,7 @@ use Rattle.parts.specs.declared.cursor.Cursor.{Cursor}
 use Rattle.parts.specs.declared.cursor.Stage.{Stage}
 use Rattle.parts.specs.declared.cursor.Stage.the-variants.{Top, Header, Body, Bottom, End}
 use Rattle.display_info.proofs.Opening.{limits-of}
-use Rattle.parts.proofs.Parts.{border-few, border-lengths, top-drawn, bottom-drawn, header-drawn, body-drawn}
+use Rattle.parts.proofs.Parts.{border-few, border-lengths, border-most, top-drawn, bottom-drawn, header-drawn, body-drawn}
 use Rattle.parts.proofs.Parts.{top-count, header-count, body-count, bottom-count, end-count}
 
 pub drop-append : {A : Type 0} (n : ℕ) (xs ys : List A) → n ≤ length xs → drop n (xs ++ ys) ≡ drop n xs ++ ys
@@ -218,6 +218,13 @@ module _ (s : List ℕ) (view : View) (y : RowStyle) (here : Rows) (plain : Bool
           D .few,
         )
 
+    pub band-most : length (closed (bandLines s view y (rowsIn s here))) ≤ (mostLines + 1) * (longestLine + 1)
+    band-most = omega (arith, bytes-summed _ (cond (y .ruled) size 0) refl refl, text-most, rule-small (y .ruled))
+      where
+        rule-small : (b : Bool) → cond b size 0 ≤ longestLine + 1
+        rule-small true = B .small
+        rule-small false = omega arith
+
     -- ---- its line n
     pub line-text : (n : ℕ) → n < rowHeight s (firstRow s here)
         → getD (bandLines s view y (rowsIn s here)) n [] ≡ getD (rowLines s (y .lines) (firstRow s here)) n []
@@ -267,6 +274,15 @@ module _ (s : List ℕ) (view : View) (y : RowStyle) (here : Rows) (plain : Bool
             let h = ltb-true n (rowHeight s (firstRow s here)) f in
             rw (line-text n h) (sym (B .text (omega (arith, rows-number s here)) .each e n h))
         by false f = line-rule n (ltb-false n (rowHeight s (firstRow s here)) f) k
+
+-- a band's bytes aren't too many
+pub bytes-most : (s : List ℕ) (view : View) (y : RowStyle) (here : Rows) (plain : Bool) (size : ℕ) → SizedBand s view y (rowsIn s here) plain size
+    → length (closed (bandLines s view y (rowsIn s here))) ≤ (mostLines + 1) * (longestLine + 1)
+bytes-most s view y here plain size B = by (ltb 0 (here .left)) refl
+  where
+    by : (b : Bool) → ltb 0 (here .left) ≡ b → length (closed (bandLines s view y (rowsIn s here))) ≤ (mostLines + 1) * (longestLine + 1)
+    by true e = band-most s view y here plain size B (ltb-true 0 (here .left) e)
+    by false e = omega (arith, bytes-none s view y here plain size B (omega (arith, ltb-false 0 (here .left) e)))
 
 -- a band that has a line has a row
 pub band-there : (s : List ℕ) (view : View) (y : RowStyle) (here : Rows) (n : ℕ) → n < length (bandLines s view y (rowsIn s here)) → 0 < here .left
@@ -406,6 +422,16 @@ module _ (s : List ℕ) (cols : List (List ℕ)) (p : Page) (O : Opened s cols p
   part-body y e f = rw e (sym (body-drawn s cols p O (c .here) y f))
 
   module _ (l : Lengths) (L : LengthsAre s l) (n : ℕ) (h : n ≡ length (partLines s p c)) where
+    pub top-most : c .stage ≡ Top → n * (l .border + 1) ≤ longestLine + 1
+    top-most e =
+        let z = border-bytes topBorder n (l .border + 1) (part-top e) h (rw (L .border)) ∙ ap (λ ls. length (closed ls)) (part-top e) in
+        omega (arith, z, border-most s topBorder, L .border, L .border-small)
+
+    pub bottom-most : c .stage ≡ Bottom → n * (l .border + 1) ≤ longestLine + 1
+    bottom-most e =
+        let z = border-bytes bottomBorder n (l .border + 1) (part-bottom e) h (rw (L .border)) ∙ ap (λ ls. length (closed ls)) (part-bottom e) in
+        omega (arith, z, border-most s bottomBorder, L .border, L .border-small)
+
     pub top-bytes : c .stage ≡ Top → n * (l .border + 1) ≡ length (closed (partLines s p c))
     top-bytes e = border-bytes topBorder n (l .border + 1) (part-top e) h (rw (L .border))
 

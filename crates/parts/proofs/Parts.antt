@@ -14,7 +14,7 @@ use Rattle.rules.specs.Sheet.{Cell, Row, noRow, allRows}
 use Rattle.rules.specs.Limits.{LineLimits, CellLimits, RowLimits, Plain, PlainCell, PlainRow}
 use Rattle.rules.specs.Style.{topBorder, headerLines, headerRule, contentLines, rowRule, bottomBorder, anyJunction, isVisible}
 use Rattle.rules.specs.Widths.{visible}
-use Rattle.rules.specs.Page.{areas, areaAt, textLine, rowText, visibleWidths, borderLength, ruled, shown, headed, ruledRows, ruledMore, framed}
+use Rattle.rules.specs.Page.{areas, areaAt, textLine, rowText, visibleWidths, borderLength, closed, ruled, shown, headed, ruledRows, ruledMore, framed}
 use Rattle.laws.proofs.Areas.{length-areas, line-at}
 use Rattle.laws.proofs.Counts.{height-bound, text-line-bound}
 use Rattle.laws.proofs.Lines.{plain-row, rule-length, border-length}
@@ -392,6 +392,7 @@ module _ (s : List ℕ) (cols : List (List ℕ)) (p : Page) (O : Opened s cols p
     header-sized = rw (O .styles) (record {
       text = λ h. text-sized headerLines (p .header) (O .header-at) (omega (arith, rows-number s (p .header)));
       rule = rule-sized headerRule;
+      small = omega (arith, L .line-small);
     })
 
     pub body-sized : (here : Rows) (y : RowStyle) → RowsAt s here → y ≡ bodyStyle (p .styles .body) (here .left) → SizedBand s
@@ -399,8 +400,8 @@ module _ (s : List ℕ) (cols : List (List ℕ)) (p : Page) (O : Opened s cols p
     unfolding stylesOf
     body-sized here y A e = rw (e, O .styles) (record {
       text = λ h. text-sized contentLines here A (omega (arith, rows-number s here));
-      rule =
-          rule-sized rowRule;
+      rule = rule-sized rowRule;
+      small = omega (arith, L .line-small);
     })
 
 -- each line of a border has its length
@@ -412,3 +413,15 @@ border-lengths s k = go (isVisible (tableOf s .style) k)
         (elim b as (λ x. List (List ℕ)) [ true ↦ ruled (tableOf s .style) true k (visibleWidths (tableOf s) (widthsIn s)) ∷ [] | false ↦ [] ])
     go true = (rw (border-length (tableOf s) (widthsIn s) k), tt)
     go false = tt
+
+-- they are one or none
+pub border-most : (s : List ℕ) (k : ℕ) → length (closed (ruleLines s true k)) ≤ borderLength (tableOf s) (widthsIn s) + 1
+unfolding ruleLines shown closed
+border-most s k = go (isVisible (tableOf s .style) k)
+  where
+    go : (b : Bool) → length (closed (elim b as (λ x. List (List ℕ))
+        [ true ↦ ruled (tableOf s .style) true k (visibleWidths (tableOf s) (widthsIn s)) ∷ [] | false ↦ [] ])) ≤ borderLength (tableOf s) (widthsIn s) + 1
+    go true =
+        let l = ruled (tableOf s .style) true k (visibleWidths (tableOf s) (widthsIn s)) in
+        omega (arith, length-append l (10 ∷ []), border-length (tableOf s) (widthsIn s) k)
+    go false = omega arith

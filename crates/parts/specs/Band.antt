@@ -1,11 +1,12 @@
 -- The first of some rows and the rule after it, by the styles that they are drawn with. Assumes nothing.
-use Prim.Native.Nat.{ℕ, _+_, _<_}
+use Prim.Native.Nat.{ℕ, _+_, _≤_, _<_}
 use mathlib.Core.Path.{_≡_}
 use mathlib.Core.List.{List, [], _∷_, _++_}
 use mathlib.Core.Bool.{Bool, cond, _&&_}
 use lib.ListN.{length, getD}
 use lib.Dec.{ltb}
 use Rattle.rules.specs.Sheet.{Row, noRow}
+use Rattle.rules.specs.Limits.{longestLine}
 use Rattle.row.specs.View.{View}
 use Rattle.formatting.specs.RowText.{rowLines, rowHeight, Sized}
 use Rattle.borders.specs.Rule.{ruleText}
@@ -29,3 +30,4 @@ bodyStyle y left = record { lines = y .lines; rule = y .rule; ruled = y .ruled &
 pub record SizedBand (s : List ℕ) (view : View) (y : RowStyle) (rs : List Row) (plain : Bool) (n : ℕ) : Type 0 where
   pub text : 0 < length rs → Sized s (y .lines) (getD rs 0 noRow) plain n
   pub rule : n ≡ length (ruleText view (y .rule)) + 1
+  pub small : n ≤ longestLine + 1

@@ -1,0 +1,51 @@
+use borrow.Author.Needs.{needs}
+use native.Mathlib.Omega.{arith}
+use mathlib.Core.Path.{sym, ap, _∙_}
+use mathlib.Core.List.{[]}
+use Prim.Native.Nat.{_+_}
+use denote.Ref.{now}
+use lib.ListN.{length}
+use Rattle.row.specs.Packed.{viewOf}
+use Rattle.parts.proofs.Parts.{drawable}
+use Rattle.parts.proofs.Bands.{band-sized, band-there, line-text, line-rule, line-plain}
+use Rattle.parts.proofs.sizes.band_line.Statement.{statement}
+use Rattle.parts.proofs.sizes.band_line.Tie as tie
+
+pub band-line-spec : {M : Type 1} → statement M
+band-line-spec =
+    tie.close
+    (tie.spec
+    (λ c.
+    let s = c .before .before in
+    let a = s .args in
+    let some = band-there (now (a .sheet)) (viewOf (now (a .columns)) (a .p .count)) (a .style) (a .here) (a .n) (s .pre .1) in
+    line-plain (now (a .sheet)) (viewOf (now (a .columns)) (a .p .count)) (a .style) (a .here) (a .p .plain) (a .size) (s .pre .0 .1 .1) some (c .if1 .taken) (a .n) (s .pre .1))
+    (λ c κs.
+    let s = c .before .before in
+    let a = s .args in
+    let some = band-there (now (a .sheet)) (viewOf (now (a .columns)) (a .p .count)) (a .style) (a .here) (a .n) (s .pre .1) in
+    drawable (now (a .sheet)) (now (a .columns)) (a .p) (s .pre .0 .0) (a .here) (s .pre .0 .1 .0) some)
+    (λ c κs.
+    let s = c .before .before .before .before .before .before in
+    let a = s .args in
+    let some = band-there (now (a .sheet)) (viewOf (now (a .columns)) (a .p .count)) (a .style) (a .here) (a .n) (s .pre .1) in
+    (
+      (
+        drawable (now (a .sheet)) (now (a .columns)) (a .p) (s .pre .0 .0) (a .here) (s .pre .0 .1 .0) some,
+        (
+          s .pre .0 .0 .marks,
+          band-sized (now (a .sheet)) (viewOf (now (a .columns)) (a .p .count)) (a .style) (a .here) (a .p .plain) (a .size) (s .pre .0 .1 .1) some .bounded,
+        ),
+      ),
+      omega (arith, c .before .before .before .row-lines .ensures, c .before .before .if2 .taken),
+    ))
+    (λ c.
+    let s = c .before .before .before .before .before .before .before in
+    let a = s .args in
+    let some = band-there (now (a .sheet)) (viewOf (now (a .columns)) (a .p .count)) (a .style) (a .here) (a .n) (s .pre .1) in
+    c .line-bytes .ensures ∙ sym (ap (λ l. length l + 1) (line-text (now (a .sheet)) (viewOf (now (a .columns)) (a .p .count)) (a .style) (a .here) (a .p .plain) (a .size) (s .pre .0 .1 .1) some (a .n) (omega (arith, c .before .before .before .before .row-lines .ensures, c .before .before .before .if2 .taken)))))
+    (λ c.
+    let s = c .before .before .before .before in
+    let a = s .args in
+    let some = band-there (now (a .sheet)) (viewOf (now (a .columns)) (a .p .count)) (a .style) (a .here) (a .n) (s .pre .1) in
+    line-rule (now (a .sheet)) (viewOf (now (a .columns)) (a .p .count)) (a .style) (a .here) (a .p .plain) (a .size) (s .pre .0 .1 .1) some (a .n) (omega (arith, c .before .row-lines .ensures, c .if2 .left)) (s .pre .1)))
