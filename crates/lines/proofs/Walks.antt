@@ -4,21 +4,18 @@ use mathlib.Core.Path.{_≡_, refl, sym, ap, _∙_}
 use mathlib.Core.List.{List, [], _∷_, _++_, append-assoc}
 use mathlib.Core.Bool.{true, false, true≢false}
 use native.Mathlib.Omega.{arith}
-use native.Mathlib.Nat.{suc-mul}
 use lib.ListN.{length, take, drop, getD, length-append, length-drop, take-append-drop, List·getD-append}
 use lib.Seq.{getD-drop, drop-drop, take-all, take-at}
 use borrow.Author.Tests.{leb-false}
 use borrow.Rule.Slice.PartMut.{putMid}
 use Rattle.rules.specs.Text.{All}
 use Rattle.rules.specs.Page.{closed}
-use Rattle.laws.proofs.Lists.{all-getD}
 use Rattle.laws.proofs.Sizes.{closed-append, closed-none}
 use Rattle.formatting.specs.Part.{PartIs}
 use Rattle.formatting.specs.declared.content_format.Part.{Part}
 use Rattle.formatting.proofs.Parts.{part-none, part-length, part-room, part-whole, part-join, part-short}
 use Rattle.display_info.specs.Opened.{Opened}
 use Rattle.parts.specs.Ahead.{partLines, restLines, ahead, linesOf, isEnd, firstCursor, furtherOn, At, Next}
-use Rattle.parts.specs.Lengths.{SizeIs}
 use Rattle.display_info.specs.declared.Page.{Page}
 use Rattle.lines.specs.declared.Sought.{Sought}
 use Rattle.parts.specs.declared.cursor.Cursor.{Cursor}
@@ -27,11 +24,6 @@ use Rattle.parts.proofs.Parts.{ahead-start, first-at, first-ahead, end-ahead}
 use Rattle.parts.proofs.Bands.{drop-append, drop-whole, take-more, part-few}
 
 -- ---- counting
-
-closed-sized : (n : ℕ) (ls : List (List ℕ)) → All (λ l. length l + 1 ≡ n) ls → length (closed ls) ≡ length ls * n
-unfolding closed
-closed-sized n [] h = omega arith
-closed-sized n (l ∷ ls) h = length-append l (10 ∷ closed ls) ∙ omega (arith, closed-sized n ls (h .1), h .0, suc-mul (length ls) n)
 
 -- the parts before the cursor are counted
 pub record Counting (s : List ℕ) (p : Page) (c : Cursor) (lines bytes : ℕ) : Type 0 where
@@ -56,20 +48,14 @@ module _ (s : List ℕ) (p : Page) (c : Cursor) (lines bytes : ℕ) (C : Countin
   parts-bytes = ap (λ ls. length (closed ls)) (ahead-start s p c (C .start)) ∙ ap length (closed-append (partLines s p c) (restLines s p c)) ∙
       length-append (closed (partLines s p c)) (closed (restLines s p c))
 
-  module _ (n size : ℕ) (en : n ≡ length (partLines s p c)) (Z : SizeIs s p c size) where
-    part-bytes : n * size ≡ length (closed (partLines s p c))
-    part-bytes = rw en (sym (closed-sized size (partLines s p c) (Z .each)))
-
-    pub counting-room : (lines + n ≤ length (linesOf s p)) × ((n * size ≤ length (closed (linesOf s p))) ×
-        (bytes + n * size ≤ length (closed (linesOf s p))))
+  module _ (n m : ℕ) (en : n ≡ length (partLines s p c)) (em : m ≡ length (closed (partLines s p c))) where
+    pub counting-room : (lines + n ≤ length (linesOf s p)) × (bytes + m ≤ length (closed (linesOf s p)))
     counting-room =
-        let a = part-bytes in
         let b = parts-bytes in
-        (omega (arith, parts-length, C .counted), (omega (arith, C .sized), omega (arith, C .sized)))
+        (omega (arith, parts-length, C .counted), omega (arith, C .sized))
 
-    pub counting-on : (k : Cursor) → Next s p c k → Counting s p k (lines + n) (bytes + n * size)
+    pub counting-on : (k : Cursor) → Next s p c k → Counting s p k (lines + n) (bytes + m)
     counting-on k N =
-        let a = part-bytes in
         let b = parts-bytes in
         record {
           at = N .at;
@@ -179,7 +165,8 @@ module _ (s : List ℕ) (p : Page) (k : ℕ) (r : Sought) (S : SoughtIs s p k r)
         at = S .at;
       }
 
-  module _ (e : isEnd (r .cursor .stage) ≡ false) (size : ℕ) (Z : SizeIs s p (r .cursor) size) where
+  module _ (e : isEnd (r .cursor .stage) ≡ false) (size : ℕ)
+    (Z : size ≡ length (getD (partLines s p (r .cursor)) (r .cursor .line) []) + 1) where
     there : ahead s p (r .cursor) ≡ drop k (linesOf s p)
     there = S .lines ∙ ap (λ n. drop n (linesOf s p)) (S .reached e)
 
@@ -197,7 +184,7 @@ module _ (s : List ℕ) (p : Page) (k : ℕ) (r : Sought) (S : SoughtIs s p k r)
         let z : k + 0 ≡ k = omega arith in
         let line : getD (linesOf s p) k [] ≡ getD (partLines s p (r .cursor)) (r .cursor .line) [] =
         sym (getD-drop k (linesOf s p) 0 [] ∙ ap (λ n. getD (linesOf s p) n []) z) ∙ ap (λ ls. getD ls 0 []) (sym there) ∙ here-line in
-        sym (ap (λ l. length l + 1) line ∙ all-getD (λ l. length l + 1 ≡ size) (partLines s p (r .cursor)) (r .cursor .line) [] (S .some e) (Z .each))
+        Z ∙ sym (ap (λ l. length l + 1) line)
 
     before : k < length (linesOf s p)
     unfolding ahead

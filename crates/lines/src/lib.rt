@@ -10,6 +10,7 @@ use parts::cursor;
 use parts::cursor::Cursor;
 use parts::lengths;
 use parts::part;
+use parts::sizes;
 use rules::MOST_COLUMNS;
 
 // A page's lines and bytes.
@@ -18,7 +19,7 @@ pub struct Totals {
     pub bytes: usize,
 }
 
-// A page's lines and bytes: each part's lines have one length.
+// A page's lines and bytes, part after part.
 pub fn count(sheet: &[u8], columns: &[[usize; 6]; MOST_COLUMNS], p: Page) -> Totals
     requires { ⌜ Opened (now sheet) (now columns) p ⌝ }
     ensures { λ r. ⌜ TotalsAre (now (sheet .entry)) p r ⌝ }
@@ -29,9 +30,9 @@ pub fn count(sheet: &[u8], columns: &[[usize; 6]; MOST_COLUMNS], p: Page) -> Tot
     let mut bytes: usize = 0;
     while !cursor::is_end(c) {
         let n = part::lines(sheet, columns, p, c);
-        let size = lengths::line_size(sheet, columns, p, l, c);
+        let more = sizes::bytes(sheet, columns, p, l, c, n);
         lines += n;
-        bytes += n * size;
+        bytes += more;
         c = cursor::next(sheet, p, c);
     }
     Totals { lines, bytes }
@@ -92,7 +93,7 @@ pub fn find(
         };
     }
     let l = lengths::measure(sheet, columns, p);
-    let needed = lengths::line_size(sheet, columns, p, l, cursor);
+    let needed = sizes::line_size(sheet, columns, p, l, cursor);
     if room < needed {
         return Found {
             number: 20,

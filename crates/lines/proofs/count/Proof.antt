@@ -27,26 +27,23 @@ count-spec =
     (c .first .ensures))
     (λ c κs. search needs)
     (λ c κs. (c .before .before .before .before .before .before .pre, c .before .before .loop .inv .at .rows))
-    (λ c κs. (c .before .before .before .before .before .before .before .pre, c .before .before .before .before .before .measure .ensures))
+    (λ c κs.
+    let s = c .before .before .before .before .before .before .before in
+    ((s .pre, (c .before .before .before .loop .inv .at .rows, c .before .before .before .before .before .measure .ensures)), c .lines .ensures))
     (λ c.
     let s = c .before .before .before .before .before .before .before .before in
-    let r = counting-room (now (s .args .sheet)) (s .args .p) (c .before .before .before .before .loop .c) _ _
-    (c .before .before .before .before .loop .inv) _ _ (c .before .lines .ensures) (c .line-size .ensures) in
+    let l = c .before .before .before .before .loop in
+    let r = counting-room (now (s .args .sheet)) (s .args .p) (l .c) _ _ (l .inv) _ _ (c .before .lines .ensures) (c .bytes .ensures) in
     omega (arith, r .0, total-lines (now (s .args .sheet)) (now (s .args .columns)) (s .args .p) (s .pre)))
     (λ c.
     let s = c .before .before .before .before .before .before .before .before in
-    let r = counting-room (now (s .args .sheet)) (s .args .p) (c .before .before .before .before .loop .c) _ _
-    (c .before .before .before .before .loop .inv) _ _ (c .before .lines .ensures) (c .line-size .ensures) in
-    omega (arith, r .1 .0, total-bytes (now (s .args .sheet)) (now (s .args .columns)) (s .args .p) (s .pre)))
-    (λ c.
-    let s = c .before .before .before .before .before .before .before .before in
-    let r = counting-room (now (s .args .sheet)) (s .args .p) (c .before .before .before .before .loop .c) _ _
-    (c .before .before .before .before .loop .inv) _ _ (c .before .lines .ensures) (c .line-size .ensures) in
-    omega (arith, r .1 .1, total-bytes (now (s .args .sheet)) (now (s .args .columns)) (s .args .p) (s .pre)))
+    let l = c .before .before .before .before .loop in
+    let r = counting-room (now (s .args .sheet)) (s .args .p) (l .c) _ _ (l .inv) _ _ (c .before .lines .ensures) (c .bytes .ensures) in
+    omega (arith, r .1, total-bytes (now (s .args .sheet)) (now (s .args .columns)) (s .args .p) (s .pre)))
     (λ c κs. c .before .before .before .before .loop .inv .at .rows)
     (λ c. let is-end = c .before .before .before .before .is-end in
     c .next .ensures .fewer (sym (is-end .ensures) ∙ not-true (is-end .result) (c .before .before .before .if1 .taken)))
     (λ c. let loop = c .before .before .before .before .before .loop in
-    counting-on _ _ (loop .c) _ _ (loop .inv) _ _ (c .before .before .lines .ensures) (c .before .line-size .ensures) _ (c .next .ensures))
+    counting-on _ _ (loop .c) _ _ (loop .inv) _ _ (c .before .before .lines .ensures) (c .before .bytes .ensures) _ (c .next .ensures))
     (λ c. let loop = c .before .before .loop in counting-done _ _ (loop .c) _ _ (loop .inv)
     (sym (c .before .is-end .ensures) ∙ not-false (c .before .is-end .result) (c .if1 .left))))

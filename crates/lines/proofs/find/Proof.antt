@@ -15,7 +15,10 @@ find-spec =
     found-past (now (s .sheet)) (s .p) (s .k) _ (c .before .before .before .seek .ensures) (sym (c .before .is-end .ensures) ∙ c .if1 .taken)
     (s .room))
     (λ c κs. search needs)
-    (λ c κs. (c .before .before .before .before .before .before .pre, c .measure .ensures))
+    (λ c κs.
+    let k = c .before .before .before .before .seek .ensures in
+    let e = sym (c .before .before .is-end .ensures) ∙ c .before .if1 .left in
+    ((c .before .before .before .before .before .before .pre, (k .at, c .measure .ensures)), k .some e))
     (λ c. let s = c .before .before .before .before .before .before .before .before .args in
     found-short (now (s .sheet)) (s .p) (s .k) _ (c .before .before .before .before .before .before .seek .ensures)
     (sym (c .before .before .before .before .is-end .ensures) ∙ c .before .before .before .if1 .left) _ (c .before .line-size .ensures) (s .room)
