@@ -1,7 +1,7 @@
 -- What each call answers, from what its parts found. Assumes nothing.
 use Prim.Native.Nat.{ℕ, suc, _+_, _-_, _≤_, _<_}
 use mathlib.Core.Path.{_≡_, refl, sym, ap, _∙_}
-use Rattle.rules.specs.Limits.{mostLines}
+use Rattle.rules.specs.Limits.{mostLines, PlainTable}
 use mathlib.Core.List.{List, [], _∷_, _++_, append-nil}
 use mathlib.Core.Bool.{Bool, true, false}
 use native.Mathlib.Omega.{arith}
@@ -20,6 +20,8 @@ use Rattle.rules.specs.Calls.{check, checkOf, count, countOf, put, notPrinted, 
 use Rattle.laws.proofs.Counts.{line-count-bound}
 use Rattle.laws.proofs.Fitting.{fitting-few, fitting-none, fitting-more, fitting-stops, fitting-all}
 use Rattle.laws.proofs.Sizes.{closed-one, byte-count-closed}
+use Rattle.sheet.specs.Examine.{ExaminedIs}
+use Rattle.sheet.specs.declared.Examined.{Examined}
 use Rattle.table.specs.Held.{IsAccepted, tableOf}
 use Rattle.table.specs.Walk.{rowsIn}
 use Rattle.table.proofs.Held.{held}
@@ -77,6 +79,14 @@ unfolding over
 prefix-back l b a n e h f =
     let z : drop (length l) (take n b) ≡ [] = drop-of-length-le (take n b) {i = length l} (omega (arith, length-take-le n b h)) in
     rw (f, z, append-nil, e)
+
+-- ---- a sheet that was examined
+
+pub examined : (s : List ℕ) (r : Examined) → ExaminedIs s r → record { number = r .number; place = r .place } ≡ check s
+examined s r E = rw (E .number, E .place)
+
+pub examined-plain : (s : List ℕ) (r : Examined) → ExaminedIs s r → IsAccepted s → r .plain ≡ true → PlainTable (tableOf s)
+examined-plain s r E h e = let g = held s h in E .plain e (tableOf s) (g .end) (g .reads)
 
 -- ---- a refused sheet
 

@@ -47,17 +47,17 @@ pub fn widths(sheet: &[u8]) -> Measured
 pub fn count(sheet: &[u8]) -> Counted
     ensures { λ r. ⌜ r ≡ calls.count (now (sheet .entry)) ⌝ }
 {
-    let refusal = sheet::check(sheet);
-    if refusal.number != 0 {
+    let examined = sheet::examine(sheet);
+    if examined.number != 0 {
         return Counted {
-            number: refusal.number,
-            place: refusal.place,
+            number: examined.number,
+            place: examined.place,
             lines: 0,
             bytes: 0,
         };
     }
     let mut columns = [[0usize; 6]; MOST_COLUMNS];
-    let p = display_info::open(sheet, &mut columns);
+    let p = display_info::open(sheet, examined.plain, &mut columns);
     let totals = lines::count(sheet, &columns, p);
     Counted {
         number: 0,
@@ -83,12 +83,12 @@ pub fn print_page(sheet: &[u8], page: &mut [u8]) -> Printed
     ensures { λ r. ⌜ r ≡ calls.printPage (now (sheet .entry)) (now (page .entry)) .answer ⌝ }
     ensures { λ _. ⌜ now (page .exit) ≡ calls.printPage (now (sheet .entry)) (now (page .entry)) .buffer ⌝ }
 {
-    let checked = sheet::check(sheet);
-    if checked.number != 0 {
-        return turned_down(checked.number, checked.place);
+    let examined = sheet::examine(sheet);
+    if examined.number != 0 {
+        return turned_down(examined.number, examined.place);
     }
     let mut columns = [[0usize; 6]; MOST_COLUMNS];
-    let p = display_info::open(sheet, &mut columns);
+    let p = display_info::open(sheet, examined.plain, &mut columns);
     let totals = lines::count(sheet, &columns, p);
     if page.len() < totals.bytes {
         return turned_down(20, totals.bytes as u64);
@@ -106,12 +106,12 @@ pub fn print_line(sheet: &[u8], line: usize, page: &mut [u8]) -> Printed
     ensures { λ r. ⌜ r ≡ calls.printLine (now (sheet .entry)) line (now (page .entry)) .answer ⌝ }
     ensures { λ _. ⌜ now (page .exit) ≡ calls.printLine (now (sheet .entry)) line (now (page .entry)) .buffer ⌝ }
 {
-    let checked = sheet::check(sheet);
-    if checked.number != 0 {
-        return turned_down(checked.number, checked.place);
+    let examined = sheet::examine(sheet);
+    if examined.number != 0 {
+        return turned_down(examined.number, examined.place);
     }
     let mut columns = [[0usize; 6]; MOST_COLUMNS];
-    let p = display_info::open(sheet, &mut columns);
+    let p = display_info::open(sheet, examined.plain, &mut columns);
     let found = lines::find(sheet, &columns, p, line, page.len());
     if found.number != 0 {
         return turned_down(found.number, found.place as u64);
@@ -151,12 +151,12 @@ pub fn print_lines(sheet: &[u8], line: usize, page: &mut [u8]) -> PrintedLines
     ensures { λ r. ⌜ r ≡ printLines (now (sheet .entry)) line (now (page .entry)) .answer ⌝ }
     ensures { λ _. ⌜ now (page .exit) ≡ printLines (now (sheet .entry)) line (now (page .entry)) .buffer ⌝ }
 {
-    let checked = sheet::check(sheet);
-    if checked.number != 0 {
-        return no_lines(checked.number, checked.place);
+    let examined = sheet::examine(sheet);
+    if examined.number != 0 {
+        return no_lines(examined.number, examined.place);
     }
     let mut columns = [[0usize; 6]; MOST_COLUMNS];
-    let p = display_info::open(sheet, &mut columns);
+    let p = display_info::open(sheet, examined.plain, &mut columns);
     let found = lines::find(sheet, &columns, p, line, page.len());
     if found.number != 0 {
         return no_lines(found.number, found.place as u64);

@@ -17,7 +17,7 @@ fn sheet_space() -> [u8; 32769]
     [0; 32769]
 }
 
-// Room for many lines of a page: the longest has 10,201 bytes.
+// Room for many lines of a page: the longest has 11,401 bytes.
 fn page_space() -> [u8; 65536]
     ensures { λ r. ⌜ 65536 ≡ length r ⌝ }
 {
@@ -28,13 +28,13 @@ fn page_space() -> [u8; 65536]
 fn print(sheet: &[u8], space: &mut [u8])
     requires { ⌜ longestLine + 1 ≤ length (now space) ⌝ }
 {
-    let checked = page::check(sheet);
-    if checked.number != 0 {
-        stream::write_refusal(checked.number, checked.place);
+    let examined = sheet::examine(sheet);
+    if examined.number != 0 {
+        stream::write_refusal(examined.number, examined.place);
         return;
     }
     let mut columns = [[0usize; 6]; MOST_COLUMNS];
-    let p = display_info::open(sheet, &mut columns);
+    let p = display_info::open(sheet, examined.plain, &mut columns);
     let mut c = cursor::first(p);
     while !cursor::is_end(c) {
         let part = lines::write(space, sheet, &columns, p, c);

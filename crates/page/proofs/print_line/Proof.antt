@@ -8,7 +8,7 @@ use Rattle.rules.specs.Page.{lineAt}
 use Rattle.table.specs.Held.{tableOf}
 use Rattle.rules.specs.Calls.{Written}
 use Rattle.table.proofs.Held.{is-accepted}
-use Rattle.page.proofs.Answers.{line-refused, line-turned, found-here, lines-bound, line-written, line-answer, prefix-back}
+use Rattle.page.proofs.Answers.{examined, examined-plain, line-refused, line-turned, found-here, lines-bound, line-written, line-answer, prefix-back}
 use Rattle.page.proofs.print_line.Statement.{statement}
 use Rattle.page.proofs.print_line.Tie as tie
 
@@ -19,21 +19,24 @@ print-line-spec =
     (λ c κs. search needs)
     (λ c κs. search needs)
     (λ c.
-    let e = line-refused _ _ (c .before .before .before .check .ensures) (c .before .if1 .taken) _
+    let e = line-refused _ _ (examined _ _ (c .before .before .before .examine .ensures)) (c .before .if1 .taken) _
     (now (c .before .before .before .before .before .before .args .page)) in
     (c .turned-down .ensures ∙ sym (ap (λ (w : Written). w .answer) e), sym (ap (λ (w : Written). w .buffer) e)))
-    (λ c κs. (is-accepted _ _ (c .before .before .before .check .ensures) (c .before .if1 .left), refl))
+    (λ c κs. 
+    let e = c .before .before .before .examine .ensures in
+    let h = is-accepted _ _ (examined _ _ e) (c .before .if1 .left) in
+    ((h, refl), examined-plain _ _ e h))
     (λ c κs. c .before .«open» .ensures .0)
     (λ c κs. search needs)
     (λ c.
-    let h = is-accepted _ _ (c .before .before .before .before .before .before .before .before .before .check .ensures)
+    let h = is-accepted _ _ (examined _ _ (c .before .before .before .before .before .before .before .before .before .examine .ensures))
     (c .before .before .before .before .before .before .before .if1 .left) in
     let e = line-turned _ h _ (c .before .before .before .before .before .«open» .ensures .1) _
     (now (c .before .before .before .before .before .before .before .before .before .before .before .before .args .page)) _
     (c .before .before .before .find .ensures) (c .before .if2 .taken) in
     (c .turned-down2 .ensures ∙ sym (ap (λ (w : Written). w .answer) e), sym (ap (λ (w : Written). w .buffer) e)))
     (λ c.
-    let h = is-accepted _ _ (c .before .before .before .before .before .before .before .before .before .check .ensures)
+    let h = is-accepted _ _ (examined _ _ (c .before .before .before .before .before .before .before .before .before .examine .ensures))
     (c .before .before .before .before .before .before .before .if1 .left) in
     omega (
       arith,
@@ -43,7 +46,7 @@ print-line-spec =
           (c .before .before .before .find .ensures) (c .before .if2 .left) .1 .1,
     ))
     (λ c.
-    let h = is-accepted _ _ (c .before .before .before .before .before .before .before .before .before .before .check .ensures)
+    let h = is-accepted _ _ (examined _ _ (c .before .before .before .before .before .before .before .before .before .before .examine .ensures))
     (c .before .before .before .before .before .before .before .before .if1 .left) in
     let b = now (c .before .before .before .before .before .before .before .before .before .before .before .before .before .args .page) in
     sym (length-take-le _ b (omega (
@@ -53,7 +56,7 @@ print-line-spec =
           (c .before .before .before .before .find .ensures) (c .before .before .if2 .left) .1 .1,
     ))))
     (λ c κs.
-    let h = is-accepted _ _ (c .before .before .before .before .before .before .before .before .before .before .before .check .ensures)
+    let h = is-accepted _ _ (examined _ _ (c .before .before .before .before .before .before .before .before .before .before .before .examine .ensures))
     (c .before .before .before .before .before .before .before .before .before .if1 .left) in
     let o = c .before .before .before .before .before .before .before .«open» .ensures in
     let f = c .before .before .before .before .before .find .ensures in (
@@ -67,8 +70,7 @@ print-line-spec =
     ))
     (λ c. search needs)
     (λ c.
-    let h = is-accepted _ _ (c .before .before .before .before .before .before .before .before .before .before .before .before .before .before .check
-    .ensures) (c .before .before .before .before .before .before .before .before .before .before .before .before .if1 .left) in
+    let h = is-accepted _ _ (examined _ _ (c .before .before .before .before .before .before .before .before .before .before .before .before .before .before .examine .ensures)) (c .before .before .before .before .before .before .before .before .before .before .before .before .if1 .left) in
     let o = c .before .before .before .before .before .before .before .before .before .before .«open» .ensures .1 in
     let f = c .before .before .before .before .before .before .before .before .find .ensures in
     let n = c .before .before .before .before .before .before .if2 .left in

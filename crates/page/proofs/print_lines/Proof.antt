@@ -4,7 +4,7 @@ use mathlib.Core.Path.{refl, sym, ap, _∙_}
 use denote.Ref.{now}
 use Rattle.page.specs.Several.{Several}
 use Rattle.table.proofs.Held.{is-accepted}
-use Rattle.page.proofs.Answers.{lines-refused, lines-turned, lines-bound, lines-answer, lines-few, k-small}
+use Rattle.page.proofs.Answers.{examined, examined-plain, lines-refused, lines-turned, lines-bound, lines-answer, lines-few, k-small}
 use Rattle.page.proofs.print_lines.Statement.{statement}
 use Rattle.page.proofs.print_lines.Tie as tie
 
@@ -15,21 +15,24 @@ print-lines-spec =
     (λ c κs. search needs)
     (λ c κs. search needs)
     (λ c.
-    let e = lines-refused _ _ (c .before .before .before .check .ensures) (c .before .if1 .taken) _
+    let e = lines-refused _ _ (examined _ _ (c .before .before .before .examine .ensures)) (c .before .if1 .taken) _
     (now (c .before .before .before .before .before .before .args .page)) in
     (c .no-lines .ensures ∙ sym (ap (λ (w : Several). w .answer) e), sym (ap (λ (w : Several). w .buffer) e)))
-    (λ c κs. (is-accepted _ _ (c .before .before .before .check .ensures) (c .before .if1 .left), refl))
+    (λ c κs. 
+    let e = c .before .before .before .examine .ensures in
+    let h = is-accepted _ _ (examined _ _ e) (c .before .if1 .left) in
+    ((h, refl), examined-plain _ _ e h))
     (λ c κs. c .before .«open» .ensures .0)
     (λ c κs. search needs)
     (λ c.
-    let h = is-accepted _ _ (c .before .before .before .before .before .before .before .before .before .check .ensures)
+    let h = is-accepted _ _ (examined _ _ (c .before .before .before .before .before .before .before .before .before .examine .ensures))
     (c .before .before .before .before .before .before .before .if1 .left) in
     let e = lines-turned _ h _ (c .before .before .before .before .before .«open» .ensures .1) _
     (now (c .before .before .before .before .before .before .before .before .before .before .before .before .args .page)) _
     (c .before .before .before .find .ensures) (c .before .if2 .taken) in
     (c .no-lines2 .ensures ∙ sym (ap (λ (w : Several). w .answer) e), sym (ap (λ (w : Several). w .buffer) e)))
     (λ c κs.
-    let h = is-accepted _ _ (c .before .before .before .before .before .before .before .before .before .before .before .check .ensures)
+    let h = is-accepted _ _ (examined _ _ (c .before .before .before .before .before .before .before .before .before .before .before .examine .ensures))
     (c .before .before .before .before .before .before .before .before .before .if1 .left) in
     let o = c .before .before .before .before .before .before .before .«open» .ensures in
     let f = c .before .before .before .before .before .find .ensures in (
@@ -42,8 +45,8 @@ print-lines-spec =
       ),
     ))
     (λ c.
-    let h = is-accepted _ _ (c .before .before .before .before .before .before .before .before .before .before .before .before .before .before .before
-    .check .ensures) (c .before .before .before .before .before .before .before .before .before .before .before .before .before .if1 .left) in
+    let h = is-accepted _ _ (examined _ _ (c .before .before .before .before .before .before .before .before .before .before .before .before .before .before .before
+    .examine .ensures)) (c .before .before .before .before .before .before .before .before .before .before .before .before .before .if1 .left) in
     let o = c .before .before .before .before .before .before .before .before .before .before .before .«open» .ensures in
     let f = c .before .before .before .before .before .before .before .before .before .find .ensures in
     let n = c .before .before .before .before .before .before .before .if2 .left in
@@ -58,8 +61,8 @@ print-lines-spec =
     ))
     (λ c. search needs)
     (λ c.
-    let h = is-accepted _ _ (c .before .before .before .before .before .before .before .before .before .before .before .before .before .before .before
-    .check .ensures) (c .before .before .before .before .before .before .before .before .before .before .before .before .before .if1 .left) in
+    let h = is-accepted _ _ (examined _ _ (c .before .before .before .before .before .before .before .before .before .before .before .before .before .before .before
+    .examine .ensures)) (c .before .before .before .before .before .before .before .before .before .before .before .before .before .if1 .left) in
     let o = c .before .before .before .before .before .before .before .before .before .before .before .«open» .ensures in
     let f = c .before .before .before .before .before .before .before .before .before .find .ensures in
     let e = lines-answer _ h _ (o .1) _ (now

@@ -6,6 +6,7 @@ use denote.Ref.{now}
 use lib.ListN.{length}
 use lib.Seq.{length-take-le}
 use Rattle.table.proofs.Held.{is-accepted}
+use Rattle.page.proofs.Answers.{examined, examined-plain}
 use Rattle.print.proofs.Rounds.{left, Standing, standing-first, standing-few, round-bytes, round-on, round-less}
 use Rattle.print.proofs.print.Statement.{statement}
 use Rattle.print.proofs.print.Tie as tie
@@ -25,7 +26,10 @@ print-spec =
     (λ c κs. search needs)
     (λ c κs. search needs)
     (λ c. search needs)
-    (λ c κs. (is-accepted _ _ (c .before .before .before .check .ensures) (c .before .if1 .left), refl))
+    (λ c κs. 
+    let e = c .before .before .before .examine .ensures in
+    let h = is-accepted _ _ (examined _ _ e) (c .before .if1 .left) in
+    ((h, refl), examined-plain _ _ e h))
     (λ c κs. search needs)
     (λ c. (standing-first _ _ _ (c .before .«open» .ensures .0) _ (c .first .ensures), refl))
     (λ c κs. search needs)
