@@ -205,10 +205,10 @@ checked-reading s e = go (sheet s) refl e
     go (refused n q) i j = let h = refused-number s n q i in absurd (omega arith)
 
 -- the steps of the whole: 2, the fields, 9. Whatever a line is
-pub steps-of : (x : Format (List ℕ)) → Faithful x Whole → (s : List ℕ) → stepOf (sheetBy x s) ≡ elim (ltb 32768 (length s))
+pub sheet-steps : (x : Format (List ℕ)) → Faithful x Whole → (s : List ℕ) → stepOf (sheetBy x s) ≡ elim (ltb 32768 (length s))
     [ true ↦ Refused 2 32768 | false ↦ readFrom ended s (after (tableBy x) s (At 0)) ]
 unfolding sheetBy onward readFrom
-steps-of x whole s = go (ltb 32768 (length s))
+sheet-steps x whole s = go (ltb 32768 (length s))
   where
     ends : (t : Table) (y : Read (Unit {0})) → stepOf (onward y (λ u q. got t q)) ≡ stepOf y
     ends t (got u q) = refl
@@ -227,7 +227,3 @@ steps-of x whole s = go (ltb 32768 (length s))
         ≡ elim b as (λ z. Step) [ true ↦ Refused 2 32768 | false ↦ readFrom ended s (after (tableBy x) s (At 0)) ]
     go true = refl
     go false = inner (reads (tableBy x) s 0) ∙ ap (readFrom ended s) (sym (steps (tableBy x) Whole (table-whole x whole) s 0))
-
-pub sheet-steps : (s : List ℕ) → stepOf (sheet s) ≡ elim (ltb 32768 (length s))
-    [ true ↦ Refused 2 32768 | false ↦ readFrom ended s (after table s (At 0)) ]
-sheet-steps s = steps-of line line-whole s

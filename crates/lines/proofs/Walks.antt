@@ -166,7 +166,7 @@ module _ (s : List ℕ) (p : Page) (k : ℕ) (r : Sought) (S : SoughtIs s p k r)
       }
 
   module _ (e : isEnd (r .cursor .stage) ≡ false) (size : ℕ)
-    (Z : size ≡ length (getD (partLines s p (r .cursor)) (r .cursor .line) []) + 1) where
+      (Z : size ≡ length (getD (partLines s p (r .cursor)) (r .cursor .line) []) + 1) where
     there : ahead s p (r .cursor) ≡ drop k (linesOf s p)
     there = S .lines ∙ ap (λ n. drop n (linesOf s p)) (S .reached e)
 

@@ -8,7 +8,7 @@ use lib.ListN.{length}
 use lib.Dec.{eqb}
 use borrow.Author.Tests.{lt-ltb, le-ltb, eq-eqb}
 use Rattle.rules.specs.Sheet.{Table, mostColumns}
-use Rattle.rules.specs.Field.{Read, got, refused, byteAt, between, printable, printableOrZero, ended}
+use Rattle.rules.specs.Field.{Read, got, refused, byteAt, between, printableOrZero, ended}
 use Rattle.rules.specs.Description as description
 use Rattle.rules.specs.Description.{Format, Faithful, reads, stands, wordTo, optional, zeroWord, counted, text}
 use Rattle.rules.specs.Format.{line, cellBy, rowBy, width, column, tableBy, sheetBy, sheet}
@@ -19,8 +19,8 @@ use Rattle.rules.specs.declared.Step.{Step}
 use Rattle.rules.specs.declared.Step.the-variants.{At, Refused}
 use Rattle.rules.specs.Calls.{check, checkOf}
 use Rattle.rules.specs.declared.Checked.{Checked}
-use Rattle.laws.proofs.Reading.{tested, times-off, readFrom-off}
-use Rattle.laws.proofs.Accepted.{steps-of}
+use Rattle.laws.proofs.Reading.{tested}
+use Rattle.laws.proofs.Accepted.{sheet-steps}
 use Rattle.laws.proofs.Plainly.{plainly-got, plainly-refused, plainly-table}
 use Rattle.laws.proofs.Stands.{parts-count}
 use Rattle.sheet.specs.Steps.{byteBetween, constraintAfter, cellsAfter, headAfter, bodyAfter, answerOf, lineOf, readingOf, atFirst}
@@ -53,20 +53,6 @@ after-inside low high n s (At q) p e = go (byteBetween low high n s q) refl e
     go (got v r) i j = let t = tested (between low high) n s q v r i in let d : r ≡ p = cc in omega (arith, t .end, t .there)
     go (refused m r) i j = let z : _≡_ {A = ℕ} 0 1 = cc in absurd (omega arith)
 after-inside low high n s (Refused m q) p e = let z : _≡_ {A = ℕ} 0 1 = cc in absurd (omega arith)
-
--- a text, from the step y after its length
-module _ (most : ℕ) (s : List ℕ) (x y : Step) (count : y ≡ readFrom (byteBetween 0 most 5) s x) where
-  pub text-stopped : (n q : ℕ) → y ≡ Refused n q → y ≡ after (text 0 most printable) s x
-  text-stopped n q e =
-      e ∙ (sym (times-off (byteOf s x) (readFrom (description.character printable) s) (readFrom-off (description.character printable) s) n q)
-      ∙ (rw (← e) (characters-whole 0 most printable s x y (byteOf s x) count refl)))
-
-  pub text-start : (p : ℕ) → y ≡ At p → p ≤ length s
-  text-start p e = after-inside 0 most 5 s x p (sym count ∙ e)
-
-  pub text-whole : (p v : ℕ) (z : Step) → y ≡ At p → v ≡ byteOf s x
-      → z ≡ times v (readFrom (description.character printable) s) (At p) → z ≡ after (text 0 most printable) s x
-  text-whole p v z e i j = j ∙ rw (← e) (characters-whole 0 most printable s x y v count i)
 
 -- a cell
 pub cell-after : (x : Format (List ℕ)) (s : List ℕ) (y : Step)
@@ -119,13 +105,13 @@ line-whole false = λ l. tt
 
 pub reading-long : (pairs : Bool) (s : List ℕ) → 32768 < length s → Refused 2 32768 ≡ readingOf pairs s
 unfolding readingOf
-reading-long pairs s h = sym (steps-of (lineOf pairs) (line-whole pairs) s ∙ rw (lt-ltb 32768 (length s) h))
+reading-long pairs s h = sym (sheet-steps (lineOf pairs) (line-whole pairs) s ∙ rw (lt-ltb 32768 (length s) h))
 
 pub reading-short : (pairs : Bool) (s : List ℕ) → length s ≤ 32768
     → readingOf pairs s ≡ readFrom ended s (bodyAfter (lineOf pairs) s (headAfter s (At 0)))
 unfolding readingOf
 reading-short pairs s h =
-    steps-of (lineOf pairs) (line-whole pairs) s
+    sheet-steps (lineOf pairs) (line-whole pairs) s
     ∙ rw (le-ltb 32768 (length s) h) (ap (readFrom ended s) (table-after (lineOf pairs) s (At 0)))
 
 -- what the check answers is what the reading with pairs comes to
@@ -166,21 +152,30 @@ first-stands s x e f = rw e (go (sheetBy (lineOf false) s) refl (rw e at f))
         record { answer = rw h; plain = λ u q k. let l = sym h ∙ k in let z : _≡_ {A = ℕ} 0 1 = cc in absurd (omega arith) }
 
 -- what is answered after one reading, and after two
-module _ (s : List ℕ) (x : Step) (r : Checked) (first : x ≡ readingOf false s) where
-  pub examined-once : atFirst s x ≡ false → r ≡ answerOf x → ExaminedIs s (record { number = r .number; place = r .place; plain = true })
-  examined-once h e =
+module _ (s : List ℕ) (pairs : Bool) (x : Step) (read : x ≡ readingOf pairs s) where
+  -- the reading without pairs, by what the code knows of `pairs`
+  first-reading : pairs ≡ false → x ≡ readingOf false s
+  first-reading p = rw (← p) read
+
+  pub examined-again : pairs ≡ false → atFirst s x ≡ true → atFirst s (readingOf false s) ≡ true
+  examined-again p h = rw (← first-reading p) h
+
+  pub examined-once : (r : Checked) → pairs ≡ false → atFirst s x ≡ false → r ≡ answerOf x
+      → ExaminedIs s (record { number = r .number; place = r .place; plain = true })
+  examined-once r p h e =
+      let first = first-reading p in
       let k = first-stands s x first h in
       record { number = rw (e, k .answer); place = rw (e, k .answer); plain = λ i. k .plain; stood = rw (← first, h) }
 
-  pub examined-twice : (y : Step) → atFirst s x ≡ true → y ≡ readingOf true s → r ≡ answerOf y
+  pub examined-twice : (r : Checked) → pairs ≡ true → atFirst s (readingOf false s) ≡ true → r ≡ answerOf x
       → ExaminedIs s (record { number = r .number; place = r .place; plain = false })
-  examined-twice y h i e =
-      let k = second-stands s y i in
+  examined-twice r p h e =
+      let k = second-stands s x (rw (← p) read) in
       record {
         number = rw (e, k);
         place = rw (e, k);
         plain = λ f. let z : _≡_ {A = ℕ} 0 1 = cc in absurd (omega arith);
-        stood = rw (← first, h);
+        stood = rw h;
       }
 
 -- an answer by its parts

@@ -3,7 +3,7 @@ use Prim.Native.Nat.{ℕ, zero, suc, _+_, _-_, _<_, _≤_}
 use mathlib.Core.Path.{_≡_}
 use mathlib.Core.Bool.{Bool, true, false, _&&_}
 use mathlib.Core.List.{List}
-use lib.ListN.{getD}
+use lib.ListN.{length, getD}
 use lib.Dec.{leb, eqb}
 use Rattle.rules.specs.Sheet.{mostColumns}
 use Rattle.rules.specs.Field.{Reader, byteAt, only, between, printable, printableOrZero, byte, several}
@@ -18,6 +18,13 @@ use Rattle.rules.specs.declared.Checked.{Checked}
 unfoldable pub printables : List ℕ → ℕ → ℕ → Bool
 printables s i zero = true
 printables s i (suc n) = printables s i n && printable (getD s (i + n) 0)
+
+-- the first byte from i on that isn't printable, or `end`
+pub record BadIs (s : List ℕ) (i end r : ℕ) : Type 0 where
+  pub order : i ≤ r
+  pub within : r ≤ end
+  pub passed : printables s i (r - i) ≡ true
+  pub bad : r < end → printable (getD s r 0) ≡ false
 
 -- a byte from low to high, `number` beyond them
 abbrev pub byteBetween : ℕ → ℕ → ℕ → Reader ℕ
@@ -48,7 +55,7 @@ bytesFrom pairs s end p = readFrom (lineBytes pairs (end - p)) s (At p)
 
 -- what the character at p comes to: the refusal of these bytes, or the place where the others begin
 abbrev pub CharacterIs : Bool → List ℕ → ℕ → ℕ → Step → Type 0
-CharacterIs pairs s end p (At q) = (p < q) × ((q ≤ end) × (bytesFrom pairs s end p ≡ bytesFrom pairs s end q))
+CharacterIs pairs s end p (At q) = (p < q) × ((q ≤ end) × ((q ≤ length s) × (bytesFrom pairs s end p ≡ bytesFrom pairs s end q)))
 CharacterIs pairs s end p (Refused n q) = Refused n q ≡ bytesFrom pairs s end p
 
 -- a row's cells: their count, and each. Here and below, x is what a line is

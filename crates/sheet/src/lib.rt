@@ -121,24 +121,31 @@ pub struct Examined {
     pub plain: bool,
 }
 
-// Any bytes may be asked about.
+// Any bytes may be asked about. Both readings are one call, so that it is compiled into the loop.
 pub fn examine(sheet: &[u8]) -> Examined
     ensures { λ r. ⌜ ExaminedIs (now (sheet .entry)) r ⌝ }
 {
-    let first = reading(sheet, false);
-    if at_first(sheet, first) {
-        let again = answer(reading(sheet, true));
-        return Examined {
-            number: again.number,
-            place: again.place,
-            plain: false,
-        };
-    }
-    let checked = answer(first);
-    Examined {
-        number: checked.number,
-        place: checked.place,
-        plain: true,
+    let mut pairs = false;
+    loop {
+        let step = reading(sheet, pairs);
+        if pairs {
+            let again = answer(step);
+            return Examined {
+                number: again.number,
+                place: again.place,
+                plain: false,
+            };
+        }
+        if at_first(sheet, step) {
+            pairs = true;
+        } else {
+            let checked = answer(step);
+            return Examined {
+                number: checked.number,
+                place: checked.place,
+                plain: true,
+            };
+        }
     }
 }
 

@@ -1,12 +1,12 @@
 // Texts of a sheet: where nearly all of its bytes stand.
 ghost use mathlib.Core.Path.{_≡_};
-ghost use mathlib.Core.Bool.{true, _&&_, cond};
+ghost use mathlib.Core.Bool.{true, false, _&&_, cond};
 ghost use Prim.Native.Nat.{_+_, _-_, _≤_, _<_, min};
 ghost use lib.ListN.{length, getD};
 ghost use Rattle.rules.specs.Field.{printable};
 ghost use Rattle.rules.specs.Description as description;
-ghost use Rattle.rules.specs.Steps.{readFrom, times, after};
-ghost use Rattle.sheet.specs.Steps.{printables, lineOf, lineBytes, CharacterIs};
+ghost use Rattle.rules.specs.Steps.{after};
+ghost use Rattle.sheet.specs.Steps.{printables, BadIs, lineOf, bytesFrom, CharacterIs};
 use super::field;
 use rules::Step;
 
@@ -62,53 +62,28 @@ fn past_printable(sheet: &[u8], start: usize, end: usize) -> usize
     start
 }
 
-// n characters from `start` on. A bad one comes before the sheet's end.
-fn characters(sheet: &[u8], start: usize, n: u8) -> Step
-    requires { ⌜ start ≤ length (now sheet) ⌝ }
-    ensures { λ r. ⌜ r ≡ times n (readFrom (description.character printable) (now (sheet .entry))) (Step.At start) ⌝ }
+// The first byte from `from` on that isn't printable, or `end`.
+fn next_bad(sheet: &[u8], from: usize, end: usize) -> usize
+    requires { ⌜ (from ≤ end) × (end ≤ length (now sheet)) ⌝ }
+    ensures { λ r. ⌜ BadIs (now (sheet .entry)) from end r ⌝ }
 {
-    let end = reach(sheet.len(), start, n);
-    let mut i = past_printable(sheet, start, end);
+    let mut i = from;
     while i < end {
         let value = sheet[i];
         if value < 32 {
-            return Step::Refused {
-                number: 6,
-                place: i,
-            };
+            return i;
         }
         if 126 < value {
-            return Step::Refused {
-                number: 6,
-                place: i,
-            };
+            return i;
         }
         i += 1;
     }
-    if end - start < n as usize {
-        return Step::Refused {
-            number: 1,
-            place: sheet.len(),
-        };
-    }
-    Step::At(end)
+    i
 }
 
-// A length up to `most`, and as many characters.
-pub fn text(sheet: &[u8], from: Step, most: u8) -> Step
-    ensures { λ r. ⌜ r ≡ after (description.text 0 most printable) (now (sheet .entry)) from ⌝ }
-{
-    let count = field::byte_between(sheet, from, 0, most, 5);
-    let first = count.next;
-    let Step::At(start) = first else {
-        return first;
-    };
-    characters(sheet, start, count.value)
-}
-
-// The character at `at` of a line's bytes, which end at `end`. C2 begins a pair, unless it is the last byte: no B0 can follow it in the line.
-fn character_at(sheet: &[u8], at: usize, end: usize, pairs: bool) -> Step
-    requires { ⌜ at < end ⌝ }
+// What is no printable character at `at` of bytes that end at `end`. C2 begins a pair, unless it is the last byte: no B0 can follow it there.
+fn other_at(sheet: &[u8], at: usize, end: usize, pairs: bool) -> Step
+    requires { ⌜ (at < end) × (at < length (now sheet) → printable (getD (now sheet) at 0) ≡ false) ⌝ }
     ensures { λ r. ⌜ CharacterIs pairs (now (sheet .entry)) end at r ⌝ }
 {
     if sheet.len() <= at {
@@ -117,17 +92,7 @@ fn character_at(sheet: &[u8], at: usize, end: usize, pairs: bool) -> Step
             place: sheet.len(),
         };
     }
-    let value = sheet[at];
-    if value < 32 {
-        return Step::Refused {
-            number: 6,
-            place: at,
-        };
-    }
-    if value <= 126 {
-        return Step::At(at + 1);
-    }
-    if value != 194 {
+    if sheet[at] != 194 {
         return Step::Refused {
             number: 6,
             place: at,
@@ -161,22 +126,56 @@ fn pair_at(sheet: &[u8], first: usize, end: usize) -> Step
     Step::At(second + 1)
 }
 
-// n bytes of a line from `start` on. Where all are printable, or all up to the sheet's end, they are passed at once.
-fn line_bytes(sheet: &[u8], start: usize, n: u8, pairs: bool) -> Step
-    requires { ⌜ start ≤ length (now sheet) ⌝ }
-    ensures { λ r. ⌜ r ≡ readFrom (lineBytes pairs n) (now (sheet .entry)) (Step.At start) ⌝ }
+// Bytes from `from` on up to `end`, of which those before `inside` stand in the sheet: from one that isn't printable to the next.
+fn bytes(sheet: &[u8], from: usize, inside: usize, end: usize, pairs: bool) -> Step
+    requires { ⌜ (from ≤ inside) × (inside ≡ min (length (now sheet)) end) ⌝ }
+    ensures { λ r. ⌜ r ≡ bytesFrom pairs (now (sheet .entry)) end from ⌝ }
 {
-    let end = start + n as usize;
-    let inside = reach(sheet.len(), start, n);
-    let mut i = past_printable(sheet, start, inside);
+    let mut i = next_bad(sheet, from, inside);
     while i < end {
-        let step = character_at(sheet, i, end, pairs);
+        let step = other_at(sheet, i, end, pairs);
         let Step::At(next) = step else {
             return step;
         };
-        i = next;
+        i = next_bad(sheet, next, inside);
     }
     Step::At(i)
+}
+
+// n characters from `start` on.
+fn characters(sheet: &[u8], start: usize, n: u8) -> Step
+    requires { ⌜ start ≤ length (now sheet) ⌝ }
+    ensures { λ r. ⌜ r ≡ bytesFrom false (now (sheet .entry)) (start + n) start ⌝ }
+{
+    let end = start + n as usize;
+    let inside = reach(sheet.len(), start, n);
+    bytes(sheet, start, inside, end, false)
+}
+
+// A length up to `most`, and as many characters.
+pub fn text(sheet: &[u8], from: Step, most: u8) -> Step
+    ensures { λ r. ⌜ r ≡ after (description.text 0 most printable) (now (sheet .entry)) from ⌝ }
+{
+    let count = field::byte_between(sheet, from, 0, most, 5);
+    let first = count.next;
+    let Step::At(start) = first else {
+        return first;
+    };
+    characters(sheet, start, count.value)
+}
+
+// n bytes of a line from `start` on. Where all are printable, as nearly always, they are passed many at a time.
+fn line_bytes(sheet: &[u8], start: usize, n: u8, pairs: bool) -> Step
+    requires { ⌜ start ≤ length (now sheet) ⌝ }
+    ensures { λ r. ⌜ r ≡ bytesFrom pairs (now (sheet .entry)) (start + n) start ⌝ }
+{
+    let end = start + n as usize;
+    let inside = reach(sheet.len(), start, n);
+    let i = past_printable(sheet, start, inside);
+    if end <= i {
+        return Step::At(i);
+    }
+    bytes(sheet, i, inside, end, pairs)
 }
 
 // A line of a cell: its length, and as many bytes of characters and, where they are looked for, pairs.

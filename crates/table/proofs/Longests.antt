@@ -44,26 +44,29 @@ unfolding parts
 no-parts zero here stop p h = refl
 no-parts (suc n) here stop p h = absurd (omega arith)
 
--- with the lines before c walked, m is their longest
-pub record LinesSoFar (s : List ℕ) (all c : Lines) (m : ℕ) : Type 0 where
-  pub whole : max m (greatest (map textWidth (linesIn s c))) ≡ max 1 (greatest (map textWidth (linesIn s all)))
+-- with the lines before c walked, m is their longest, or what was longer before them
+pub record LinesSoFar (s : List ℕ) (all c : Lines) (before m : ℕ) : Type 0 where
+  pub whole : max m (greatest (map textWidth (linesIn s c))) ≡ max before (max 1 (greatest (map textWidth (linesIn s all))))
   pub ends : linesEnd s c ≡ linesEnd s all
   pub inside : linesEnd s c ≤ length s
 
-pub lines-begin : (s : List ℕ) (all : Lines) → linesEnd s all ≤ length s → LinesSoFar s all all 1
-lines-begin s all h = record { whole = refl; ends = refl; inside = h }
+pub lines-begin : (s : List ℕ) (all : Lines) (before m : ℕ) → linesEnd s all ≤ length s → m ≡ max before 1 → LinesSoFar s all all before m
+lines-begin s all before m h e = record { whole = omega (arith, e); ends = refl; inside = h }
 
-pub lines-again : (s : List ℕ) (all c r : Lines) (t : List ℕ) (m k : ℕ) → 0 < c .left → t ≡ firstLine s c → k ≡ max m (textWidth t) → LinesNext s c r
-    → LinesSoFar s all c m → LinesSoFar s all r k
+max-again : (m n g : ℕ) → max (max m n) g ≡ max m (max n g)
+max-again m n g = omega arith
+
+pub lines-again : (s : List ℕ) (all c r : Lines) (t : List ℕ) (before m k : ℕ) → 0 < c .left → t ≡ firstLine s c → k ≡ max m (textWidth t) → LinesNext s c r
+    → LinesSoFar s all c before m → LinesSoFar s all r before k
 unfolding linesIn greatest
-lines-again s all c r t m k some e i next so =
+lines-again s all c r t before m k some e i next so =
     let f = cons-parts (c .left) (textAt s) (lineStop s) (c .at) some in
     let g = next .lines in
     let n = textWidth (textAt s (c .at)) in
     let j : k ≡ max m n = i ∙ ap (λ l. max m (textWidth l)) (e ∙ ap (λ ls. getD ls 0 []) f) in
-    let h : max m (max n (greatest (map textWidth (parts (r .left) (textAt s) (lineStop s) (r .at))))) ≡ max 1
-    (greatest (map textWidth (linesIn s all))) = rw (f, ← g) at (so .whole) in
-    record { whole = omega arith; ends = next .ends ∙ so .ends; inside = rw (next .ends) (so .inside) }
+    let h : max m (max n (greatest (map textWidth (parts (r .left) (textAt s) (lineStop s) (r .at))))) ≡ max before
+    (max 1 (greatest (map textWidth (linesIn s all)))) = rw (f, ← g) at (so .whole) in
+    record { whole = rw j (max-again m n (greatest (map textWidth (parts (r .left) (textAt s) (lineStop s) (r .at))))) ∙ h; ends = next .ends ∙ so .ends; inside = rw (next .ends) (so .inside) }
 
 -- a line has as many bytes as its length byte says
 pub line-bytes : (s : List ℕ) (c : Lines) (t : List ℕ) (n : ℕ) → 0 < c .left → linesEnd s c ≤ length s → t ≡ firstLine s c → n ≡ byteAt s (c .at)
@@ -83,11 +86,12 @@ line-counted t n e =
     let w : n ≡ textWidth t = e ∙ ap textWidth (take-all (length t) t (omega arith)) in
     (w, omega (arith, w, width-le t))
 
-pub lines-done : (s : List ℕ) (all c : Lines) (m : ℕ) → c .left ≤ 0 → LinesSoFar s all c m → CellWalked s all (record { longest = m; end = c .at })
+pub lines-done : (s : List ℕ) (all c : Lines) (before m : ℕ) → c .left ≤ 0 → LinesSoFar s all c before m
+    → CellWalked s all before (record { longest = m; end = c .at })
 unfolding linesIn greatest
-lines-done s all c m none so =
+lines-done s all c before m none so =
     let f = no-parts (c .left) (textAt s) (lineStop s) (c .at) none in
-    let h : max m 0 ≡ max 1 (greatest (map textWidth (linesIn s all))) = rw f at (so .whole) in
+    let h : max m 0 ≡ max before (max 1 (greatest (map textWidth (linesIn s all)))) = rw f at (so .whole) in
     record { longest = omega arith; ends = sym (lines-none s c none) ∙ so .ends }
 
 -- with the cells before c walked, the first j columns have their longest in this row
@@ -123,12 +127,12 @@ at-missing : (j : ℕ) (xs : List sheet.Cell) → length xs ≤ j → longestAt 
 unfolding longestAt
 at-missing j xs h = rw (le-ltb j (length xs) h, longestAt)
 
-pub cells-again : (s : List ℕ) (all c : Cells) (x : Cell) (found : LongestLine) (before longest : List ℕ) (j v : ℕ) → 0 < c .left → CellIs s c x →
-    CellWalked s (x .lines) found
-    → v ≡ max (getD longest j 0) (found .longest) → CellsSoFar s all c before longest j
-    → CellsSoFar s all (record { at = found .end; left = c .left - 1 }) before (set longest j v) (j + 1)
+pub cells-again : (s : List ℕ) (all c : Cells) (x : Cell) (found : LongestLine) (before longest : List ℕ) (j : ℕ) → 0 < c .left → CellIs s c x →
+    CellWalked s (x .lines) (getD longest j 0) found
+    → CellsSoFar s all c before longest j
+    → CellsSoFar s all (record { at = found .end; left = c .left - 1 }) before (set longest j (found .longest)) (j + 1)
 unfolding cellLongest
-cells-again s all c x found before longest j v some is walked e so =
+cells-again s all c x found before longest j some is walked so =
     let next = cells-next s c some (found .end) (walked .ends ∙ is .ends) in
     let n = cells-number s all in
     let count = so .count in
@@ -136,16 +140,17 @@ cells-again s all c x found before longest j v some is walked e so =
     let long = so .long in
     let z : j + 0 ≡ j = omega arith in
     let here : firstCell s c ≡ getD (cellsIn s all) j noCell = rw (so .rest) (getD-drop j (cellsIn s all) 0 noCell ∙ rw z) in
-    let size : found .longest ≡ longestAt j (cellsIn s all) = walked .longest ∙ rw (is .lines, here) (sym (at-there j (cellsIn s all) (omega arith)))
-    in
-    let new : v ≡ max (getD before j 0) (longestAt j (cellsIn s all)) = e ∙ rw (size, so .todo j (omega arith)) in
+    let size : found .longest ≡ max (getD longest j 0) (longestAt j (cellsIn s all)) =
+    walked .longest ∙ rw (is .lines, here) (ap (max (getD longest j 0)) (sym (at-there j (cellsIn s all) (omega arith)))) in
+    let new : found .longest ≡ max (getD before j 0) (longestAt j (cellsIn s all)) =
+    size ∙ ap (λ n. max n (longestAt j (cellsIn s all))) (so .todo j (omega arith)) in
     record {
-      long = rw (length-set longest j v) long;
+      long = rw (length-set longest j (found .longest)) long;
       count = omega arith;
       few = few;
       rest = next .cells ∙ rw (so .rest) (drop-drop 1 j (cellsIn s all));
       done = λ k h. passed new (so .done) (omega arith) k h (eqb k j) refl;
-      todo = λ k h. getD-set-other longest j k v 0 (λ i. ahead k h i) ∙ so .todo k (omega arith);
+      todo = λ k h. getD-set-other longest j k (found .longest) 0 (λ i. ahead k h i) ∙ so .todo k (omega arith);
       ends = next .ends ∙ so .ends;
       inside = rw (next .ends) (so .inside);
     }
@@ -153,11 +158,11 @@ cells-again s all c x found before longest j v some is walked e so =
     ahead : (k : ℕ) → j + 1 ≤ k → k ≡ j → ⊥
     ahead k h i = omega arith
 
-    passed : v ≡ max (getD before j 0) (longestAt j (cellsIn s all)) →
+    passed : found .longest ≡ max (getD before j 0) (longestAt j (cellsIn s all)) →
         ((k : ℕ) → k < j → getD longest k 0 ≡ max (getD before k 0) (longestAt k (cellsIn s all))) → j < length longest
-        → (k : ℕ) → k < j + 1 → (b : Bool) → eqb k j ≡ b → getD (set longest j v) k 0 ≡ max (getD before k 0) (longestAt k (cellsIn s all))
-    passed new done l k h true i = let m = eqb-true k j i in rw m (getD-set-same longest j v 0 l ∙ new)
-    passed new done l k h false i = let m = eqb-false k j i in getD-set-other longest j k v 0 m ∙ done k (below k h m)
+        → (k : ℕ) → k < j + 1 → (b : Bool) → eqb k j ≡ b → getD (set longest j (found .longest)) k 0 ≡ max (getD before k 0) (longestAt k (cellsIn s all))
+    passed new done l k h true i = let m = eqb-true k j i in rw m (getD-set-same longest j (found .longest) 0 l ∙ new)
+    passed new done l k h false i = let m = eqb-false k j i in getD-set-other longest j k (found .longest) 0 m ∙ done k (below k h m)
       where
         below : (k : ℕ) → k < j + 1 → (k ≡ j → ⊥) → k < j
         below k h m = omega arith

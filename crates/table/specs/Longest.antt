@@ -27,9 +27,9 @@ longestAt j xs = elim (ltb j (length xs)) [ true ↦ cellLongest (getD xs j noCe
 abbrev pub Narrow : List sheet.Row → Type 0
 Narrow rs = All (λ r. length (r .cells) ≤ mostColumns) rs
 
--- a cell's lines have been walked, at least 1 for the cell
-pub record CellWalked (s : List ℕ) (c : Lines) (r : LongestLine) : Type 0 where
-  pub longest : r .longest ≡ max 1 (greatest (map textWidth (linesIn s c)))
+-- a cell's lines have been walked, at least 1 for the cell, from the column's longest so far
+pub record CellWalked (s : List ℕ) (c : Lines) (before : ℕ) (r : LongestLine) : Type 0 where
+  pub longest : r .longest ≡ max before (max 1 (greatest (map textWidth (linesIn s c))))
   pub ends : r .end ≡ linesEnd s c
 
 -- a row's cells have been walked, from the columns' longest so far

@@ -15,7 +15,7 @@ use super::records::Rows;
 use super::walk;
 use rules::MOST_COLUMNS;
 
-// A cell's longest line, and where the cell ends.
+// A column's longest line so far, and where its cell ends.
 pub struct LongestLine {
     pub longest: u16,
     pub end: usize,
@@ -39,12 +39,12 @@ fn longer(longest: u16, line: &[u8], bytes: u16) -> u16
     numbers::greater_u16(longest, columns as u16)
 }
 
-// A cell counts 1 even where all its lines are empty.
-fn longest_of_cell(sheet: &[u8], lines: Lines) -> LongestLine
+// A cell counts 1 even where all its lines are empty. The cells before it come first, so that few lines are counted.
+fn longest_of_cell(sheet: &[u8], lines: Lines, before: u16) -> LongestLine
     requires { ⌜ linesEnd (now sheet) lines ≤ length (now sheet) ⌝ }
-    ensures { λ r. ⌜ CellWalked (now (sheet .entry)) lines r ⌝ }
+    ensures { λ r. ⌜ CellWalked (now (sheet .entry)) lines before r ⌝ }
 {
-    let mut longest: u16 = 1;
+    let mut longest = numbers::greater_u16(before, 1);
     let mut c = lines;
     while 0 < c.left {
         let at = c.at;
@@ -66,8 +66,8 @@ fn longest_of_row(sheet: &[u8], cells: Cells, before: [u16; MOST_COLUMNS]) -> Lo
     while 0 < c.left {
         let cell = walk::cell(sheet, c);
         let lines = cell.lines;
-        let found = longest_of_cell(sheet, lines);
-        longest[j] = numbers::greater_u16(longest[j], found.longest);
+        let found = longest_of_cell(sheet, lines, longest[j]);
+        longest[j] = found.longest;
         c = Cells {
             at: found.end,
             left: c.left - 1,

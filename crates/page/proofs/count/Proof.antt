@@ -11,7 +11,7 @@ count-spec =
     (tie.spec
     (λ c κs. search needs)
     (λ c. count-refused _ _ (examined _ _ (c .before .before .examine .ensures)) (c .if1 .taken))
-    (λ c κs. 
+    (λ c κs.
     let e = c .before .before .before .examine .ensures in
     let h = is-accepted _ _ (examined _ _ e) (c .before .if1 .left) in
     ((h, refl), examined-plain _ _ e h))

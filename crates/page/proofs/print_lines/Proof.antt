@@ -18,7 +18,7 @@ print-lines-spec =
     let e = lines-refused _ _ (examined _ _ (c .before .before .before .examine .ensures)) (c .before .if1 .taken) _
     (now (c .before .before .before .before .before .before .args .page)) in
     (c .no-lines .ensures ∙ sym (ap (λ (w : Several). w .answer) e), sym (ap (λ (w : Several). w .buffer) e)))
-    (λ c κs. 
+    (λ c κs.
     let e = c .before .before .before .examine .ensures in
     let h = is-accepted _ _ (examined _ _ e) (c .before .if1 .left) in
     ((h, refl), examined-plain _ _ e h))

@@ -26,7 +26,7 @@ print-spec =
     (λ c κs. search needs)
     (λ c κs. search needs)
     (λ c. search needs)
-    (λ c κs. 
+    (λ c κs.
     let e = c .before .before .before .examine .ensures in
     let h = is-accepted _ _ (examined _ _ e) (c .before .if1 .left) in
     ((h, refl), examined-plain _ _ e h))

@@ -28,8 +28,7 @@ band-line-spec =
     (λ c κs.
     let s = c .before .before .before .before .before .before in
     let a = s .args in
-    let some = band-there (now (a .sheet)) (viewOf (now (a .columns)) (a .p .count)) (a .style) (a .here) (a .n) (s .pre .1) in
-    (
+    let some = band-there (now (a .sheet)) (viewOf (now (a .columns)) (a .p .count)) (a .style) (a .here) (a .n) (s .pre .1) in (
       (
         drawable (now (a .sheet)) (now (a .columns)) (a .p) (s .pre .0 .0) (a .here) (s .pre .0 .1 .0) some,
         (

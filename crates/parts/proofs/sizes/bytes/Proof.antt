@@ -20,8 +20,7 @@ bytes-spec =
     (λ c. search needs)
     (λ c κs.
     let s = c .before .before .before .before .before .before .before .before .before in
-    let a = s .args in
-    (
+    let a = s .args in (
       (s .pre .0 .0, (s .pre .0 .0 .header-at, header-sized (now (a .sheet)) (now (a .columns)) (a .p) (s .pre .0 .0) (a .l) (s .pre .0 .1 .1))),
       header-here (now (a .sheet)) (now (a .columns)) (a .p) (s .pre .0 .0) (a .c) (c .before .enum-told2 .given .1) (a .n) (s .pre .1),
     ))

@@ -16,8 +16,7 @@ line-size-spec =
     (λ c. omega (arith, c .before .before .before .before .before .before .before .before .before .pre .0 .1 .1 .line-small))
     (λ c κs.
     let s = c .before .before .before .before .before .before .before .before .before in
-    let a = s .args in
-    (
+    let a = s .args in (
       (s .pre .0 .0, (s .pre .0 .0 .header-at, header-sized (now (a .sheet)) (now (a .columns)) (a .p) (s .pre .0 .0) (a .l) (s .pre .0 .1 .1))),
       header-there (now (a .sheet)) (now (a .columns)) (a .p) (s .pre .0 .0) (a .c) (s .pre .1) (c .before .enum-told2 .given .1),
     ))

@@ -1,47 +1,23 @@
--- `sheet::text::line_bytes` meets its contract. The loop: what is left of the bytes comes to what all of them do. Assumes nothing.
-use Prim.Native.Nat.{_+_, _-_}
-use mathlib.Core.Path.{_≡_, refl}
-use native.Mathlib.Omega.{arith}
-use borrow.Author.Needs.{needs}
+-- `sheet::text::line_bytes` meets its contract. Assumes nothing.
 use denote.Ref.{now}
-use Rattle.rules.specs.Steps.{readFrom}
-use Rattle.rules.specs.declared.Step.the-variants.{At}
-use Rattle.sheet.specs.Steps.{lineBytes}
-use Rattle.sheet.proofs.Pairs.{Left, left-past, left-next, left-refused, left-done}
+use Rattle.sheet.proofs.Pairs.{past-is, past-whole, past-rest}
+use borrow.Author.Needs.{needs}
 use Rattle.sheet.proofs.text.line_bytes.Statement.{statement}
 use Rattle.sheet.proofs.text.line_bytes.Tie as tie
-
-abbrev Inv-loop : tie.InvT-loop
-Inv-loop sheet start n pairs end inside i₀ i = (end ≡ start + n) × Left pairs sheet (start + n) i (readFrom (lineBytes pairs n) sheet (At start))
-
-abbrev μ-loop : tie.MeasureT-loop
-μ-loop sheet start n pairs end inside i₀ i = end - i
 
 pub line-bytes-spec : {M : Type 1} → statement M
 line-bytes-spec =
     tie.close
     (tie.spec
-    Inv-loop
-    μ-loop
-    (λ c. omega (arith, c .before .good, c .before .pre))
-    (λ c κs. search needs)
-    (λ c κs. let s = c .before .before in (omega (arith, s .pre, c .reach .ensures), omega (arith, c .reach .ensures)))
-    (λ c. let s = c .before .before .before in
-    let a = s .args in
-    let r = c .before .reach in (
-      refl,
-      left-past (a .pairs) (now (a .sheet)) (a .start) (a .n) (r .result) (c .past-printable .result) (omega (arith, s .pre, r .ensures))
-          (omega (arith, r .ensures)) (omega (arith, r .ensures)) (c .past-printable .ensures),
-    ))
-    (λ c κs. search needs)
     (λ c. search needs)
-    (λ c. search needs)
-    (λ c. let turn = c .before .before in
-    left-refused _ _ _ _ _ (turn .before .before .loop .inv .1) _ _ _ (c .enum-told .given .1) (turn .character-at .ensures))
-    (λ c. let turn = c .before .before .before in
-    let r = left-next _ _ _ _ _ (turn .before .before .loop .inv .1) _ _ (c .before .step .given .1) (turn .character-at .ensures) in
-    omega (arith, r .0, r .1 .order, turn .before .loop-test .taken))
-    (λ c. let turn = c .before .before .before in
-    let r = left-next _ _ _ _ _ (turn .before .before .loop .inv .1) _ _ (c .before .step .given .1) (turn .character-at .ensures) in
-    (refl, r .1))
-    (λ c. left-done _ _ _ _ _ (c .before .loop .inv .1) (omega arith)))
+    (λ c κs. search needs)
+    (λ c κs. search needs)
+    (λ c. let s = c .before .before .before .before in
+    past-whole (s .args .pairs) _ _ _ _ _ (s .pre) (c .before .before .reach .ensures) (c .before .past-printable .ensures) (c .if1 .taken))
+    (λ c κs. let s = c .before .before .before .before in
+    let reach = c .before .before .reach .ensures in
+    let past = c .before .past-printable .ensures in
+    (past-is (s .args .pairs) (now (s .args .sheet)) (s .args .start) (s .args .n) _ _ (s .pre) reach past .1 .0, reach))
+    (λ c. let s = c .before .before .before .before .before in
+    let past = c .before .before in
+    past-rest (s .args .pairs) _ _ _ _ _ (s .pre) (past .before .reach .ensures) (past .past-printable .ensures) _ (c .bytes .ensures)))

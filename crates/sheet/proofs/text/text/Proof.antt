@@ -1,6 +1,6 @@
 -- `sheet::text::text` meets its contract. Assumes nothing.
 use borrow.Author.Needs.{needs}
-use Rattle.sheet.proofs.Sections.{text-stopped, text-start, text-whole}
+use Rattle.sheet.proofs.Pairs.{text-stopped, text-start, text-whole}
 use Rattle.sheet.proofs.text.text.Statement.{statement}
 use Rattle.sheet.proofs.text.text.Tie as tie
 

@@ -7,10 +7,10 @@ use Rattle.table.proofs.longest.longest_of_cell.Statement.{statement}
 use Rattle.table.proofs.longest.longest_of_cell.Tie as tie
 
 abbrev Inv-loop : tie.InvT-loop
-Inv-loop sheet longest₀ c₀ longest c = LinesSoFar sheet c₀ c longest
+Inv-loop sheet before longest₀ c₀ longest c = LinesSoFar sheet c₀ c before longest
 
 abbrev μ-loop : tie.MeasureT-loop
-μ-loop sheet longest₀ c₀ longest c = c .left
+μ-loop sheet before longest₀ c₀ longest c = c .left
 
 pub longest-of-cell-spec : {M : Type 1} → statement M
 longest-of-cell-spec =
@@ -18,7 +18,8 @@ longest-of-cell-spec =
     (tie.spec
     Inv-loop
     μ-loop
-    (λ c. lines-begin _ _ (c .before .pre))
+    (λ c κs. search needs)
+    (λ c. lines-begin _ _ _ _ (c .before .before .pre) (c .greater-u16 .ensures))
     (λ c. line-there _ _ (c .before .if1 .taken) (c .before .before .before .loop .inv .inside))
     (λ c κs. search needs)
     (λ c κs. let i = c .before .before in (i .if1 .taken, i .before .before .loop .inv .inside))
@@ -32,5 +33,5 @@ longest-of-cell-spec =
     let r = c .before in
     let l = r .before in
     let i = l .before .before .before in
-    lines-again _ _ _ _ _ _ _ (i .if1 .taken) (l .line .ensures) (r .longer .ensures) (c .next-line .ensures) (i .before .before .loop .inv))
-    (λ c. lines-done _ _ _ _ (c .if1 .left) (c .before .before .loop .inv)))
+    lines-again _ _ _ _ _ _ _ _ (i .if1 .taken) (l .line .ensures) (r .longer .ensures) (c .next-line .ensures) (i .before .before .loop .inv))
+    (λ c. lines-done _ _ _ _ _ (c .if1 .left) (c .before .before .loop .inv)))

@@ -20,21 +20,15 @@ longest-of-row-spec =
     μ-loop
     (λ c. cells-begin _ _ _ (search needs) (c .before .pre .0) (c .before .pre .1))
     (λ c κs. (c .if1 .taken, c .before .before .loop .inv .inside))
+    (λ c. let i = c .before .before .before .before .loop .inv in omega (arith, i .count, i .few))
+    (λ c. let i = c .before .before .before .before .loop .inv in omega (arith, i .count, i .few))
     (λ c κs. rw (c .before .cell .ensures .ends) (cell-whole _ _ (c .before .before .if1 .taken)
     (c .before .before .before .before .loop .inv .inside)))
-    (λ c. let a = c .before .before .before .before .before .loop .inv .count in let b = c .before .before .before .before .before .loop .inv .few in
-    omega arith)
-    (λ c. let a = c .before .before .before .before .before .loop .inv .count in let b = c .before .before .before .before .before .loop .inv .few in
-    omega arith)
-    (λ c κs. search needs)
-    (λ c. let a = c .before .before .before .before .before .before .loop .inv .count in
-    let b = c .before .before .before .before .before .before .loop .inv .few in omega arith)
-    (λ c. let a = c .before .before .before .before .before .before .loop .inv .count in
-    let b = c .before .before .before .before .before .before .loop .inv .few in omega arith)
+    (λ c. let i = c .before .before .before .before .before .loop .inv in omega (arith, i .count, i .few))
+    (λ c. let i = c .before .before .before .before .before .loop .inv in omega (arith, i .count, i .few))
     (λ c. search needs)
-    (λ c. let a = c .before .before .before .before .before .before .before .loop .inv .count in
-    let b = c .before .before .before .before .before .before .before .loop .inv .few in omega arith)
+    (λ c. let i = c .before .before .before .before .before .before .loop .inv in omega (arith, i .count, i .few))
     (λ c. search needs)
-    (λ c. cells-again _ _ _ _ _ _ _ _ _ (c .before .before .before .before .before .if1 .taken) (c .before .before .before .before .cell .ensures)
-    (c .before .before .longest-of-cell .ensures) (c .before .greater-u16 .ensures) (c .before .before .before .before .before .before .before .loop .inv))
+    (λ c. cells-again _ _ _ _ _ _ _ _ (c .before .before .before .before .if1 .taken) (c .before .before .before .cell .ensures)
+    (c .before .longest-of-cell .ensures) (c .before .before .before .before .before .before .loop .inv))
     (λ c. cells-done _ _ _ _ _ _ (c .if1 .left) (c .before .before .loop .inv)))
