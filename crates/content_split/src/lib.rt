@@ -164,7 +164,7 @@ fn at_width(
 
 // The next line that `text` is split into, from `from` on. It is looked for backwards from the place where the width is reached: most bytes
 // of a plain text aren't read.
-pub fn split_line(text: &[u8], from: usize, width: usize, delimiter: u8, plain: bool) -> Part
+fn split_from(text: &[u8], from: usize, width: usize, delimiter: u8, plain: bool) -> Part
     requires { ⌜ (from ≤ length (now text)) × ((0 < width) × (Sound delimiter (now text) from × IsPlain plain (now text))) ⌝ }
     ensures { λ r. ⌜ PartIs width delimiter (now (text .entry)) from r ⌝ }
 {
@@ -188,6 +188,25 @@ pub fn split_line(text: &[u8], from: usize, width: usize, delimiter: u8, plain: 
         };
     }
     at_width(text, start, place.at, width, delimiter, plain)
+}
+
+// The same of a text that may have pairs.
+fn split_paired(text: &[u8], from: usize, width: usize, delimiter: u8) -> Part
+    requires { ⌜ (from ≤ length (now text)) × ((0 < width) × Sound delimiter (now text) from) ⌝ }
+    ensures { λ r. ⌜ PartIs width delimiter (now (text .entry)) from r ⌝ }
+{
+    split_from(text, from, width, delimiter, false)
+}
+
+// The same. What is done for pairs stands apart, so that the way of plain texts is short enough to be compiled into its callers.
+pub fn split_line(text: &[u8], from: usize, width: usize, delimiter: u8, plain: bool) -> Part
+    requires { ⌜ (from ≤ length (now text)) × ((0 < width) × (Sound delimiter (now text) from × IsPlain plain (now text))) ⌝ }
+    ensures { λ r. ⌜ PartIs width delimiter (now (text .entry)) from r ⌝ }
+{
+    if plain {
+        return split_from(text, from, width, delimiter, true);
+    }
+    split_paired(text, from, width, delimiter)
 }
 
 // How many lines `text` wraps into.
