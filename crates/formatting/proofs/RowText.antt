@@ -2,12 +2,12 @@
 use Prim.Native.Nat.{ℕ, suc, _+_, _-_, _*_, _≤_, _<_}
 use mathlib.Core.Path.{_≡_, refl, sym, ap, subst, _∙_}
 use mathlib.Core.List.{List, [], _∷_, _++_, map}
-use mathlib.Core.Bool.{Bool, true, false, not, _&&_}
+use mathlib.Core.Bool.{Bool, true, false, _&&_}
 use native.Mathlib.Omega.{arith}
 use lib.ListN.{length, take, drop, getD, length-append, length-map, length-drop, take-append-drop}
 use lib.Seq.{take-suc, take-all, getD-drop, drop-cons}
+use borrow.Author.Tests.{ltb-true, ltb-false, lt-leb}
 use lib.Dec.{leb}
-use borrow.Author.Tests.{ltb-true, ltb-false, leb-true, leb-false}
 use borrow.Rule.Slice.PartMut.{putMid}
 use Rattle.rules.specs.Sheet.{Row}
 use Rattle.rules.specs.Widths.{visible, contents}
@@ -82,15 +82,20 @@ module _ (s : List ℕ) (view : View) (r : Row) (W : Views (tableOf s) (contents
       pub here-size : length (lineBytes s view (take (i .count) (i .characters)) y ts last) ≡ length (getD (rowLines s y r) j []) + 1
       here-size = ap length line-here ∙ length-append (getD (rowLines s y r) j []) (10 ∷ [])
 
+      -- it has its 0A
+      pub line-some : 0 < length (lineBytes s view (take (i .count) (i .characters)) y ts last)
+      line-some = omega (arith, here-size)
+
     -- it can be measured
-    pub stands-measurable : (i : Indicator) → Marks s i → (y : TextStyle) (limit : ℕ) → limit ≡ r .limit → (plain : Bool) (n : ℕ) → Sized s y r plain n
-        → Measurable s view i y ts (lastOf limit j) plain n
-    stands-measurable i M y limit el plain n Z =
-        let h = here-size i M y limit el (lastOf limit j) refl in
+    pub stands-measurable : (i : Indicator) → Marks s i → (y : TextStyle) (limit : ℕ) → limit ≡ r .limit → (last : Bool) → last ≡ lastOf limit j
+        → (plain : Bool) (n : ℕ) → Sized s y r plain (view .count) n → Measurable s view i y ts last plain n
+    stands-measurable i M y limit el last ea plain n Z =
+        let h = here-size i M y limit el last ea in
         record {
           ready = stands-drawn;
           indicator = M .indicator;
           short = omega (arith, h, Z .bounded .short j stands-less);
+          most = omega (arith, h, Z .most j stands-less);
           each = λ p. sym (h ∙ Z .each p j stands-less);
         }
 
@@ -104,38 +109,20 @@ module _ (s : List ℕ) (view : View) (r : Row) (W : Views (tableOf s) (contents
 
 -- ---- lines drawn
 
--- the lines from `first` up to `line` are written, and line `line`, which takes `size` bytes, is pending, if the row has it
+-- the lines from `first` up to `line` are written, and line `line` is pending, if the row has it
 pub record Running (s : List ℕ) (view : View) (y : TextStyle) (r : Row) (first : ℕ) (b page : List ℕ) (ts : List Pending) (more : Bool)
-    (at line : ℕ) (last : Bool) (size : ℕ) : Type 0 where
+    (at line : ℕ) : Type 0 where
   pub onward : first ≤ line
   pub stands : StandsAt s view r line more ts
   pub part : PartIs (take (line - first) (drop first (rowLines s y r))) b page (record { lines = line - first; bytes = at; whole = true })
-  pub last-is : last ≡ lastOf (r .limit) line
-  pub size-is : more ≡ true → size ≡ length (getD (rowLines s y r) line []) + 1
 
-module _ (s : List ℕ) (view : View) (y : TextStyle) (r : Row) (first : ℕ) (W : Views (tableOf s) (contents (tableOf s)) view) (b : List ℕ)
-    (i : Indicator) (M : Marks s i) (limit : ℕ) (el : limit ≡ r .limit) where
-  -- what is known of the line that comes next
-  ahead-size : (line : ℕ) (more : Bool) (ts : List Pending) (last : Bool) (size : ℕ) → StandsAt s view r line more ts → last ≡ lastOf limit line
-      → (more ≡ true → size ≡ length (lineBytes s view (take (i .count) (i .characters)) y ts last))
-      → more ≡ true → size ≡ length (getD (rowLines s y r) line []) + 1
-  ahead-size line more ts last size S ea h e = h e ∙ here-size s view r W line more ts S e i M y limit el last ea
-
-  pub running-begins : (ts : List Pending) (more last : Bool) (size : ℕ) → StandsAt s view r first more ts → last ≡ lastOf limit first
-      → (more ≡ true → size ≡ length (lineBytes s view (take (i .count) (i .characters)) y ts last))
-      → Running s view y r first b b ts more 0 first last size
-  running-begins ts more last size S ea h =
+module _ (s : List ℕ) (view : View) (y : TextStyle) (r : Row) (first : ℕ) (W : Views (tableOf s) (contents (tableOf s)) view) (b : List ℕ) where
+  pub running-begins : (ts : List Pending) (more : Bool) → StandsAt s view r first more ts → Running s view y r first b b ts more 0 first
+  running-begins ts more S =
       let z : first - first ≡ 0 = omega arith in
-      record {
-        onward = omega arith;
-        stands = S;
-        part = rw z (part-none b);
-        last-is = ea ∙ ap (λ n. lastOf n first) el;
-        size-is = ahead-size first more ts last size S ea h;
-      }
+      record { onward = omega arith; stands = S; part = rw z (part-none b) }
 
-  module _ (page : List ℕ) (ts : List Pending) (more : Bool) (at line : ℕ) (last : Bool) (size : ℕ)
-      (G : Running s view y r first b page ts more at line last size) where
+  module _ (page : List ℕ) (ts : List Pending) (more : Bool) (at line : ℕ) (G : Running s view y r first b page ts more at line) where
     pub running-length : length page ≡ length b
     running-length = part-length _ b page _ (G .part)
 
@@ -152,26 +139,24 @@ module _ (s : List ℕ) (view : View) (y : TextStyle) (r : Row) (first : ℕ) (W
       here-at : getD (drop first (rowLines s y r)) (line - first) [] ≡ getD (rowLines s y r) line []
       here-at = getD-drop first (rowLines s y r) (line - first) [] ∙ ap (λ k. getD (rowLines s y r) k []) (omega (arith, G .onward))
 
-      here : lineBytes s view (take (i .count) (i .characters)) y ts last ≡ getD (rowLines s y r) line [] ++ (10 ∷ [])
-      here = line-here s view r W line more ts (G .stands) e i M y limit el last (G .last-is ∙ ap (λ n. lastOf n line) (sym el))
+      module _ (i : Indicator) (M : Marks s i) (limit : ℕ) (el : limit ≡ r .limit) (last : Bool) (ea : last ≡ lastOf limit line) where
+        here : lineBytes s view (take (i .count) (i .characters)) y ts last ≡ getD (rowLines s y r) line [] ++ (10 ∷ [])
+        here = line-here s view r W line more ts (G .stands) e i M y limit el last ea
 
-      pub running-size : length (lineBytes s view (take (i .count) (i .characters)) y ts last) ≡ size
-      running-size = ap length here ∙ length-append (getD (rowLines s y r) line []) (10 ∷ []) ∙ sym (G .size-is e)
+        size : length (lineBytes s view (take (i .count) (i .characters)) y ts last) ≡ length (getD (rowLines s y r) line []) + 1
+        size = ap length here ∙ length-append (getD (rowLines s y r) line []) (10 ∷ [])
 
-      module _ (room : size ≤ length page - at) (c ys : List ℕ) (us : List Pending) (found m : Bool) (n : ℕ)
-          (o : ys ≡ over (lineBytes s view (take (i .count) (i .characters)) y ts last) (take (length page - at) (drop at page)))
-          (p : c ≡ putMid at (length page - at) page ys) (q : n ≡ length (lineBytes s view (take (i .count) (i .characters)) y ts last))
-          (a : AfterAll s view ts us) (f : found ≡ anyFound us (view .count)) (g : m ≡ (inLimit limit (line + 1) && found)) where
-        pub running-stands : StandsAt s view r (line + 1) m us
-        running-stands = stands-more s view r W line more ts (G .stands) e limit el us found m a f g
-
-        pub running-on : (last′ : Bool) (size′ : ℕ) → last′ ≡ lastOf limit (line + 1)
-            → (m ≡ true → size′ ≡ length (lineBytes s view (take (i .count) (i .characters)) y us last′))
-            → Running s view y r first b c us m (at + n) (line + 1) last′ size′
-        running-on last′ size′ ea h =
-            let wide : n ≡ length (getD (rowLines s y r) line []) + 1 = q ∙ running-size ∙ G .size-is e in
+        -- a line was written
+        pub running-on : length (lineBytes s view (take (i .count) (i .characters)) y ts last) ≤ length page - at
+            → (c ys : List ℕ) (us : List Pending) (found m : Bool) (n : ℕ)
+            → ys ≡ over (lineBytes s view (take (i .count) (i .characters)) y ts last) (take (length page - at) (drop at page)) → c ≡ putMid at
+            (length page - at) page ys
+            → n ≡ length (lineBytes s view (take (i .count) (i .characters)) y ts last) → AfterAll s view ts us → found ≡ anyFound us (view .count)
+            → m ≡ (inLimit limit (line + 1) && found) → Running s view y r first b c us m (at + n) (line + 1)
+        running-on room c ys us found m n o p q a f g =
+            let wide : n ≡ length (getD (rowLines s y r) line []) + 1 = q ∙ size in
             let fits : length (getD (rowLines s y r) line []) + 1 ≤ length (take (length page - at) (drop at page)) =
-            omega (arith, room, G .size-is e, ap length (lent page at), length-drop at page) in
+            omega (arith, room, size, ap length (lent page at), length-drop at page) in
             let one = part-line (getD (rowLines s y r) line []) (take (length page - at) (drop at page)) ys fits
             (o ∙ ap (λ t. over t (take (length page - at) (drop at page))) here) in
             let both = part-join (take (line - first) (drop first (rowLines s y r))) (getD (rowLines s y r) line [] ∷ []) b page c ys
@@ -185,11 +170,32 @@ module _ (s : List ℕ) (view : View) (y : TextStyle) (r : Row) (first : ℕ) (W
             let count : line + 1 - first ≡ line - first + 1 = omega (arith, G .onward) in
             record {
               onward = omega (arith, G .onward);
-              stands = running-stands;
+              stands = stands-more s view r W line more ts (G .stands) e limit el us found m a f g;
               part = rw (grown, count, wide) both;
-              last-is = ea ∙ ap (λ n. lastOf n (line + 1)) el;
-              size-is = ahead-size (line + 1) m us last′ size′ running-stands ea h;
             }
+
+        -- there is no room for it
+        pub running-full : length page - at < length (lineBytes s view (take (i .count) (i .characters)) y ts last)
+            → PartIs (drop first (rowLines s y r)) b page (record { lines = line - first; bytes = at; whole = false })
+        running-full h =
+            let next : drop (line - first) (drop first (rowLines s y r)) ≡ getD (rowLines s y r) line [] ∷ drop (suc (line - first))
+            (drop first (rowLines s y r)) =
+            drop-cons (drop first (rowLines s y r)) (line - first) [] left ∙ rw here-at in
+            let whole : drop first (rowLines s y r)
+            ≡ take (line - first) (drop first (rowLines s y r)) ++ (getD (rowLines s y r) line [] ∷ drop (suc (line - first))
+            (drop first (rowLines s y r))) =
+            sym (take-append-drop (line - first) (drop first (rowLines s y r))) ∙ rw next in
+            let none = part-full (getD (rowLines s y r) line []) (drop (suc (line - first)) (drop first (rowLines s y r)))
+            (take (length page - at) (drop at page))
+            (omega (arith, h, size, ap length (lent page at), length-drop at page)) in
+            let both = part-join (take (line - first) (drop first (rowLines s y r)))
+            (getD (rowLines s y r) line [] ∷ drop (suc (line - first)) (drop first (rowLines s y r)))
+            b page page (take (length page - at) (drop at page)) (record { lines = line - first; bytes = at; whole = true })
+            (record { lines = 0; bytes = 0; whole = false })
+            (G .part) refl none (sym (lent-same page at running-room)) in
+            let z : at + 0 ≡ at = omega arith in
+            let w : line - first + 0 ≡ line - first = omega arith in
+            subst (λ (ls : List (List ℕ)). PartIs ls b page (record { lines = line - first; bytes = at; whole = false })) (sym whole) (rw (z, w) at both)
 
     -- the row has no further line
     pub running-ends : more ≡ false → PartIs (drop first (rowLines s y r)) b page (record { lines = line - first; bytes = at; whole = true })
@@ -198,38 +204,6 @@ module _ (s : List ℕ) (view : View) (y : TextStyle) (r : Row) (first : ℕ) (W
         let all : take (line - first) (drop first (rowLines s y r)) ≡ drop first (rowLines s y r) =
         take-all (line - first) (drop first (rowLines s y r)) (omega (arith, lines-count s y r, length-drop first (rowLines s y r))) in
         rw all at (G .part)
-
-    -- there is no room for it
-    pub running-full : more ≡ true → length page - at < size
-        → PartIs (drop first (rowLines s y r)) b page (record { lines = line - first; bytes = at; whole = false })
-    running-full e h =
-        let next : drop (line - first) (drop first (rowLines s y r)) ≡ getD (rowLines s y r) line [] ∷ drop (suc (line - first))
-        (drop first (rowLines s y r)) =
-        drop-cons (drop first (rowLines s y r)) (line - first) [] (left e) ∙ rw (here-at e) in
-        let whole : drop first (rowLines s y r)
-        ≡ take (line - first) (drop first (rowLines s y r)) ++ (getD (rowLines s y r) line [] ∷ drop (suc (line - first))
-        (drop first (rowLines s y r))) =
-        sym (take-append-drop (line - first) (drop first (rowLines s y r))) ∙ rw next in
-        let none = part-full (getD (rowLines s y r) line []) (drop (suc (line - first)) (drop first (rowLines s y r)))
-        (take (length page - at) (drop at page))
-        (omega (arith, G .size-is e, ap length (lent page at), length-drop at page)) in
-        let both = part-join (take (line - first) (drop first (rowLines s y r)))
-        (getD (rowLines s y r) line [] ∷ drop (suc (line - first)) (drop first (rowLines s y r)))
-        b page page (take (length page - at) (drop at page)) (record { lines = line - first; bytes = at; whole = true })
-        (record { lines = 0; bytes = 0; whole = false })
-        (G .part) refl none (sym (lent-same page at running-room)) in
-        let z : at + 0 ≡ at = omega arith in
-        let w : line - first + 0 ≡ line - first = omega arith in
-        subst (λ (ls : List (List ℕ)). PartIs ls b page (record { lines = line - first; bytes = at; whole = false })) (sym whole) (rw (z, w) at both)
-
-    -- what has been drawn where the loop ends
-    pub running-done : (t : Bool) → t ≡ (more && leb size (length page - at)) → t ≡ false
-        → PartIs (drop first (rowLines s y r)) b page (record { lines = line - first; bytes = at; whole = not more })
-    running-done t e f = by more refl
-      where
-        by : (m : Bool) → more ≡ m → PartIs (drop first (rowLines s y r)) b page (record { lines = line - first; bytes = at; whole = not m })
-        by true q = running-full q (leb-false size (length page - at) (sym (rw q at e) ∙ f))
-        by false q = running-ends q
 
 -- ---- a row's lines measured
 
@@ -287,7 +261,7 @@ module _ (s : List ℕ) (view : View) (y : TextStyle) (r : Row) (W : Views (tabl
         let h = ltb-false line (rowHeight s r) (sym (G .stands .has) ∙ e) in
         G .sum ∙ ap (λ l. length (closed l)) (take-all line (rowLines s y r) (omega (arith, lines-count s y r)))
 
--- ---- the loop's test
+-- ---- room
 
-pub goes : (more b : Bool) (size room : ℕ) → b ≡ (more && leb size room) → b ≡ true → (more ≡ true) × (size ≤ room)
-goes more b size room e h = (first-true more (leb size room) (sym e ∙ h), leb-true size room (second-true more (leb size room) (sym e ∙ h)))
+pub too-long : (n m most room : ℕ) → n ≡ m → room < most → most ≡ n → false ≡ leb m room
+too-long n m most room e h f = sym (lt-leb m room (omega (arith, e, f)))

@@ -1,8 +1,8 @@
 -- A row's text lines, by what they are drawn with. Assumes nothing.
-use Prim.Native.Nat.{ℕ, _+_, _≤_, _<_}
+use Prim.Native.Nat.{ℕ, _+_, _*_, _≤_, _<_}
 use mathlib.Core.Path.{_≡_}
 use mathlib.Core.List.{List, [], map}
-use mathlib.Core.Bool.{Bool, true}
+use mathlib.Core.Bool.{Bool, true, false}
 use lib.ListN.{length, take, getD}
 use Rattle.rules.specs.Text.{All}
 use lib.Dec.{ltb}
@@ -54,16 +54,24 @@ pub record Bounded (s : List ℕ) (y : TextStyle) (r : Row) : Type 0 where
   pub short : (k : ℕ) → k < rowHeight s r → length (getD (rowLines s y r) k []) ≤ longestLine
   pub few : rowHeight s r ≤ mostLines
 
+-- the most bytes that a line takes, n being those of a plain one, in so many visible columns: a cell's line shows at most 100 pairs
+abbrev pub mostBytes : Bool → ℕ → ℕ → ℕ
+mostBytes true n count = n
+mostBytes false n count = n + 100 * count
+
 -- and if it is said to be plain, each takes n bytes, its 0A included
-pub record Sized (s : List ℕ) (y : TextStyle) (r : Row) (plain : Bool) (n : ℕ) : Type 0 where
+pub record Sized (s : List ℕ) (y : TextStyle) (r : Row) (plain : Bool) (count n : ℕ) : Type 0 where
   pub bounded : Bounded s y r
+  pub small : n ≤ longestLine + 1
   pub each : plain ≡ true → (k : ℕ) → k < rowHeight s r → length (getD (rowLines s y r) k []) + 1 ≡ n
+  pub most : (k : ℕ) → k < rowHeight s r → length (getD (rowLines s y r) k []) + 1 ≤ mostBytes plain n count
 
 -- the line that is pending can be measured
 pub record Measurable (s : List ℕ) (view : View) (i : Indicator) (y : TextStyle) (ts : List Pending) (last plain : Bool) (n : ℕ) : Type 0 where
   pub ready : ReadyAll s view ts
   pub indicator : IndicatorIs i
   pub short : length (lineBytes s view (take (i .count) (i .characters)) y ts last) ≤ longestLine + 1
+  pub most : length (lineBytes s view (take (i .count) (i .characters)) y ts last) ≤ mostBytes plain n (view .count)
   pub each : plain ≡ true → n ≡ length (lineBytes s view (take (i .count) (i .characters)) y ts last)
 
 -- whether a row has line j, which is then pending

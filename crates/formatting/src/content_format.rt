@@ -18,7 +18,7 @@ ghost use Rattle.formatting.specs.Line.{linePiece, lineBytes, ReadyAll, 
 ghost use Rattle.formatting.specs.Stand.{inLimit, lastOf};
 ghost use Rattle.row.specs.Packed.{viewOf, pendingsOf};
 ghost use Rattle.formatting.specs.Part.{PartIs};
-ghost use Rattle.formatting.specs.RowText.{Drawable, rowLines, rowHeight, EnteredIs, Measurable, Sized, Marks};
+ghost use Rattle.formatting.specs.RowText.{Drawable, rowLines, EnteredIs, Measurable, mostBytes, Sized, Marks};
 use cells::Next;
 use row::Pending;
 use row::VisibleColumn;
@@ -328,13 +328,6 @@ pub struct Part {
     pub whole: bool,
 }
 
-// A line comes next, and there is room for it.
-fn goes_on(more: bool, room: usize, size: usize) -> bool
-    ensures { λ r. ⌜ r ≡ (more && leb size room) ⌝ }
-{
-    if more { size <= room } else { false }
-}
-
 // Whether another line follows a cell's line, which is looked for only where the line is the last that the limit leaves.
 fn is_cut(sheet: &[u8], v: VisibleColumn, t: Pending, last: bool) -> bool
     requires { ⌜ Ready (now sheet) v t ⌝ }
@@ -405,44 +398,39 @@ pub fn line_size(
     size
 }
 
-// The line that comes next: whether it is the last that the limit leaves, and its bytes, its 0A included.
-pub struct Upcoming {
-    pub last: bool,
-    pub size: usize,
+// The most bytes that a text line takes: on a plain page `size`, on others up to 100 more for each column.
+fn most_bytes(plain: bool, size: usize, count: usize) -> usize
+    requires { ⌜ (size ≤ longestLine + 1) × (count ≤ mostColumns) ⌝ }
+    ensures { λ r. ⌜ r ≡ mostBytes plain size count ⌝ }
+{
+    if plain {
+        return size;
+    }
+    size + 100 * count
 }
 
-// On a plain page each text line takes `size` bytes, and needn't be measured.
-fn look_ahead(
+// Whether the text line that is pending fits, where the most that a line takes wouldn't.
+fn fits_after_all(
     sheet: &[u8],
     columns: &[[usize; 6]; MOST_COLUMNS],
     count: usize,
     indicator: Indicator,
     style: TextStyle,
-    limit: usize,
-    line: usize,
-    more: bool,
+    last: bool,
     plain: bool,
     size: usize,
     state: &[[usize; 10]; MOST_COLUMNS],
-) -> Upcoming
-    requires { ⌜ line ≤ mostLines ⌝ }
-    requires { ⌜ (more ≡ true → Measurable (now sheet) (viewOf (now columns) count) indicator style (pendingsOf (now state)) (lastOf limit line) plain size) ⌝ }
-    ensures { λ r. ⌜ r .last ≡ lastOf limit line ⌝ }
+    room: usize,
+) -> bool
+    requires { ⌜ Measurable (now sheet) (viewOf (now columns) count) indicator style (pendingsOf (now state)) last plain size × (room < mostBytes plain size count) ⌝ }
     ensures { λ r.
-        ⌜ (more ≡ true → r .size ≡ length (lineBytes (now (sheet .entry)) (viewOf (now (columns .entry)) count) (take (indicator .count) (indicator .characters))
-        style (pendingsOf (now (state .entry))) (r .last))) ⌝ }
+        ⌜ r ≡ leb (length (lineBytes (now (sheet .entry)) (viewOf (now (columns .entry)) count) (take (indicator .count) (indicator .characters)) style
+        (pendingsOf (now (state .entry))) last)) room ⌝ }
 {
-    let last = is_last(limit, line);
     if plain {
-        return Upcoming { last, size };
+        return false;
     }
-    if !more {
-        return Upcoming { last, size };
-    }
-    Upcoming {
-        last,
-        size: line_size(sheet, columns, count, indicator, style, last, state),
-    }
+    line_size(sheet, columns, count, indicator, style, last, state) <= room
 }
 
 // The text lines of the first of some rows from its line `first` on, as many as the page has room for. On a plain page each takes `size` bytes, its
@@ -460,29 +448,31 @@ pub fn draw_row(
     size: usize,
 ) -> Part
     requires { ⌜ Drawable (now sheet) (viewOf (now columns) count) plain here × Marks (now sheet) indicator ⌝ }
-    requires { ⌜ Sized (now sheet) style (firstRow (now sheet) here) plain size × (first ≤ rowHeight (now sheet) (firstRow (now sheet) here)) ⌝ }
+    requires { ⌜ Sized (now sheet) style (firstRow (now sheet) here) plain count size ⌝ }
     ensures { λ r. ⌜ PartIs (drop first (rowLines (now (sheet .entry)) style (firstRow (now (sheet .entry)) here))) (now (page .entry)) (now (page .exit)) r ⌝ }
 {
     let mut state = [[0usize; 10]; MOST_COLUMNS];
     let entered = enter_row(sheet, columns, count, here, first, plain, &mut state);
     let limit = entered.limit;
+    let most = most_bytes(plain, size, count);
     let mut more = entered.more;
     let mut at: usize = 0;
     let mut line = first;
-    let mut next = look_ahead(
-        sheet,
-        columns,
-        count,
-        indicator,
-        style,
-        limit,
-        line,
-        more,
-        plain,
-        size,
-        &state,
-    );
-    while goes_on(more, page.len() - at, next.size) {
+    while more {
+        let last = is_last(limit, line);
+        let room = page.len() - at;
+        if room < most {
+            let fits = fits_after_all(
+                sheet, columns, count, indicator, style, last, plain, size, &state, room,
+            );
+            if !fits {
+                return Part {
+                    lines: line - first,
+                    bytes: at,
+                    whole: false,
+                };
+            }
+        }
         let l = write_line(
             &mut page[at..],
             sheet,
@@ -490,29 +480,16 @@ pub fn draw_row(
             count,
             indicator,
             style,
-            next.last,
+            last,
             &mut state,
         );
         at += l.written;
         line += 1;
         more = has_line(limit, line, l.more);
-        next = look_ahead(
-            sheet,
-            columns,
-            count,
-            indicator,
-            style,
-            limit,
-            line,
-            more,
-            plain,
-            size,
-            &state,
-        );
     }
     Part {
         lines: line - first,
         bytes: at,
-        whole: !more,
+        whole: true,
     }
 }

@@ -1,0 +1,15 @@
+use borrow.Author.Needs.{needs}
+use native.Mathlib.Omega.{arith}
+use mathlib.Core.Path.{sym, ap}
+use Rattle.formatting.specs.RowText.{mostBytes}
+use Rattle.formatting.proofs.content_format.most_bytes.Statement.{statement}
+use Rattle.formatting.proofs.content_format.most_bytes.Tie as tie
+
+pub most-bytes-spec : {M : Type 1} → statement M
+most-bytes-spec =
+    tie.close
+    (tie.spec
+    (λ c. let a = c .before .args in sym (ap (λ b. mostBytes b (a .size) (a .count)) (c .if1 .taken)))
+    (λ c. search needs)
+    (λ c. search needs)
+    (λ c. let a = c .before .args in sym (ap (λ b. mostBytes b (a .size) (a .count)) (c .if1 .left))))
