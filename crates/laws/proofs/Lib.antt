@@ -24,6 +24,7 @@ pub mod Lines
 pub mod Drawn
 pub mod Areas
 pub mod Counts
+pub mod RowBytes
 pub mod CellText
 pub mod Readable
 pub mod Pairs

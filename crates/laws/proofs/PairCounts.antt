@@ -22,10 +22,11 @@ abbrev pub PairsUpTo : ℕ → List ℕ → Type 0
 PairsUpTo n l = length l ≤ textWidth l + n
 
 -- the pairs' second bytes
-abbrev seconds : List ℕ → List ℕ
+abbrev pub seconds : List ℕ → List ℕ
 seconds l = keep (λ b. not (not (isSecond b))) l
 
-length-seconds : (l : List ℕ) → length l ≡ textWidth l + length (seconds l)
+-- all bytes but these are columns
+pub length-seconds : (l : List ℕ) → length l ≡ textWidth l + length (seconds l)
 unfolding keep
 length-seconds [] = omega (arith, width-nil)
 length-seconds (b ∷ l) = go (isSecond b) refl (length-seconds l)
@@ -34,13 +35,16 @@ length-seconds (b ∷ l) = go (isSecond b) refl (length-seconds l)
     go true e h = rw (width-second b l e, e, keep) (omega arith)
     go false e h = rw (width-cons b l e, e, keep) (omega arith)
 
+-- those of two texts, one after the other
+pub seconds-append : (l m : List ℕ) → length (seconds (l ++ m)) ≡ length (seconds l) + length (seconds m)
+seconds-append l m = ap length (keep-append (λ b. not (not (isSecond b))) l m) ∙ length-append (seconds l) (seconds m)
+
 -- no line has more of them than all lines together
 seconds-part : (ls : List (List ℕ)) → All (λ m. length (seconds m) ≤ length (seconds (flat ls))) ls
 unfolding flat
 seconds-part [] = tt
 seconds-part (l ∷ ls) =
-    let e : length (seconds (l ++ flat ls)) ≡ length (seconds l) + length (seconds (flat ls))
-    = ap length (keep-append (λ b. not (not (isSecond b))) l (flat ls)) ∙ length-append (seconds l) (seconds (flat ls)) in (
+    let e = seconds-append l (flat ls) in (
       omega arith,
       all-imp (λ m. length (seconds m) ≤ length (seconds (flat ls))) (λ m. length (seconds m) ≤ length (seconds (l ++ flat ls)))
           (λ m h. omega arith) ls (seconds-part ls),
