@@ -10,6 +10,8 @@ ghost use Rattle.rules.specs.Text.{All, textWidth};
 ghost use Rattle.rules.specs.Limits.{Printable};
 ghost use Rattle.rules.specs.Wrap.{wrapLine, wrapLines};
 ghost use Rattle.text_width.specs.Measure.{IsPlain};
+ghost use Rattle.content_split.specs.Cut.{Sound};
+ghost use Rattle.content_split.specs.Parts.{PartIs};
 ghost use Rattle.table.specs.Walk.{linesIn, linesEnd, firstLine};
 ghost use Rattle.cells.specs.Cell.{rest, TextIs, Inside, HeadIs, PartIn, taken, noLine, FirstOf, Further};
 
@@ -95,6 +97,17 @@ fn line_fits(text: &[u8], width: usize, plain: bool) -> bool
     text_width::columns(text, 0, n, plain) <= width
 }
 
+// The next line that a text is split into, from `from` on.
+fn part_from(text: &[u8], from: usize, width: usize, delimiter: u8, plain: bool) -> Part
+    requires { ⌜ (from ≤ length (now text)) × ((0 < width) × (Sound delimiter (now text) from × IsPlain plain (now text))) ⌝ }
+    ensures { λ r. ⌜ PartIs width delimiter (now (text .entry)) from r ⌝ }
+{
+    if plain {
+        return content_split::split_plain(text, from, width, delimiter);
+    }
+    content_split::split_paired(text, from, width, delimiter)
+}
+
 // The first line that a cell line wraps into: all of it, where it is no wider than the content.
 fn first_part(text: &[u8], width: usize, delimiter: u8, plain: bool) -> Part
     requires { ⌜ (0 < width) × (Printable delimiter × TextIs plain (now text)) ⌝ }
@@ -107,7 +120,7 @@ fn first_part(text: &[u8], width: usize, delimiter: u8, plain: bool) -> Part
             next: text.len(),
         };
     }
-    content_split::split_line(text, 0, width, delimiter, plain)
+    part_from(text, 0, width, delimiter, plain)
 }
 
 // The first wrapped line of some cell lines. One that is made of delimiters alone may wrap into none.
@@ -139,7 +152,7 @@ pub fn next_line(sheet: &[u8], c: CellCursor, width: usize, delimiter: u8) -> Ne
         return no_line(lines, c.plain);
     }
     let text = walk::line(sheet, lines);
-    let part = content_split::split_line(text, c.from, width, delimiter, c.plain);
+    let part = part_from(text, c.from, width, delimiter, c.plain);
     let r = take_part(text, part, lines, c.plain);
     if r.found {
         return r;

@@ -5,6 +5,7 @@ ghost use mathlib.Core.Path.{_≡_};
 ghost use Prim.Native.Nat.{_≤_, _<_};
 ghost use lib.ListN.{length};
 ghost use mathlib.Core.List.{map};
+ghost use mathlib.Core.Bool.{true};
 ghost use Rattle.rules.specs.Text.{textWidth, greatest};
 ghost use Rattle.rules.specs.Wrap.{split};
 ghost use Rattle.text_width.specs.Measure.{IsPlain};
@@ -190,21 +191,29 @@ fn split_from(text: &[u8], from: usize, width: usize, delimiter: u8, plain: bool
     at_width(text, start, place.at, width, delimiter, plain)
 }
 
+// The same of a text without pairs. What is done for pairs stands apart, so that this is short enough to be compiled into its callers.
+pub fn split_plain(text: &[u8], from: usize, width: usize, delimiter: u8) -> Part
+    requires { ⌜ (from ≤ length (now text)) × ((0 < width) × (Sound delimiter (now text) from × IsPlain true (now text))) ⌝ }
+    ensures { λ r. ⌜ PartIs width delimiter (now (text .entry)) from r ⌝ }
+{
+    split_from(text, from, width, delimiter, true)
+}
+
 // The same of a text that may have pairs.
-fn split_paired(text: &[u8], from: usize, width: usize, delimiter: u8) -> Part
+pub fn split_paired(text: &[u8], from: usize, width: usize, delimiter: u8) -> Part
     requires { ⌜ (from ≤ length (now text)) × ((0 < width) × Sound delimiter (now text) from) ⌝ }
     ensures { λ r. ⌜ PartIs width delimiter (now (text .entry)) from r ⌝ }
 {
     split_from(text, from, width, delimiter, false)
 }
 
-// The same. What is done for pairs stands apart, so that the way of plain texts is short enough to be compiled into its callers.
-pub fn split_line(text: &[u8], from: usize, width: usize, delimiter: u8, plain: bool) -> Part
+// The same of either.
+fn split_line(text: &[u8], from: usize, width: usize, delimiter: u8, plain: bool) -> Part
     requires { ⌜ (from ≤ length (now text)) × ((0 < width) × (Sound delimiter (now text) from × IsPlain plain (now text))) ⌝ }
     ensures { λ r. ⌜ PartIs width delimiter (now (text .entry)) from r ⌝ }
 {
     if plain {
-        return split_from(text, from, width, delimiter, true);
+        return split_plain(text, from, width, delimiter);
     }
     split_paired(text, from, width, delimiter)
 }

@@ -379,6 +379,11 @@ module _ (t : Table) (T : TableLimits t) where
   drawn-short l (inl e, f) = omega (arith, line-length-most t T, visible-count t, T .columns)
   drawn-short l (inr e, f) = omega (arith, border-length-most t T, visible-count t, T .columns)
 
+  -- a text line shows at most 100 pairs in each visible column
+  pub text-line-most : (r : Row) → All CellLimits (r .cells) → (k i : ℕ)
+      → length (textLine (t .style) k (map (areaAt t (contents t) r i) (visible t))) ≤ lineLength t (contents t) + 100 * length (visible t)
+  text-line-most r R k i = omega (arith, text-width t (T .style-characters) (contents t) r k i, text-drawn t T r R k i .1)
+
   -- no text line has more bytes
   pub text-line-bound : (r : Row) → All CellLimits (r .cells) → (k i : ℕ)
       → length (textLine (t .style) k (map (areaAt t (contents t) r i) (visible t))) ≤ longestLine

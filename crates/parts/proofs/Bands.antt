@@ -139,7 +139,7 @@ band-empty s view y here first b e = go (rowsIn s here) (rows-number s here)
     go (r ∷ rs) f = absurd (omega arith)
 
 pub band-sized : (s : List ℕ) (view : View) (y : RowStyle) (here : Rows) (plain : Bool) (n : ℕ) → SizedBand s view y (rowsIn s here) plain n
-    → 0 < here .left → Sized s (y .lines) (firstRow s here) plain n
+    → 0 < here .left → Sized s (y .lines) (firstRow s here) plain (view .count) n
 band-sized s view y here plain n B h = B .text (omega (arith, rows-number s here))
 
 -- ---- its bytes
@@ -176,7 +176,7 @@ module _ (s : List ℕ) (view : View) (y : RowStyle) (here : Rows) (plain : Bool
   unfolding bandLines
   bytes-plain e n h = rw h (sym (closed-sized size (bandLines s view y (rowsIn s here)) (go (rowsIn s here) (B .text))))
     where
-      go : (rs : List Row) → (0 < length rs → Sized s (y .lines) (getD rs 0 noRow) plain size) → All (λ l. length l + 1 ≡ size) (bandLines s view y rs)
+      go : (rs : List Row) → (0 < length rs → Sized s (y .lines) (getD rs 0 noRow) plain (view .count) size) → All (λ l. length l + 1 ≡ size) (bandLines s view y rs)
       go [] Z = tt
       go (r ∷ rs) Z =
           let z = Z (omega arith) in
@@ -307,17 +307,6 @@ module _ (s : List ℕ) (view : View) (y : RowStyle) (here : Rows) (first : ℕ)
   few : (b : Bool) → length (cond b (ruleText view (y .rule) ∷ []) []) ≤ 1
   few true = omega arith
   few false = omega arith
-
-  -- the line that is asked for is one of the row's, or the rule after them
-  pub band-first : first ≤ rowHeight s (firstRow s here)
-  band-first = omega (
-    arith,
-    within,
-    ap length band-is,
-    length-append (rowLines s (y .lines) (firstRow s here)) (cond (y .ruled) (ruleText view (y .rule) ∷ []) []),
-    few (y .ruled),
-    lines-count s (y .lines) (firstRow s here),
-  )
 
   pub band-split : drop first (bandLines s view y (rowsIn s here)) ≡ drop first (rowLines s (y .lines) (firstRow s here)) ++ cond (y .ruled)
       (ruleText view (y .rule) ∷ []) []

@@ -16,7 +16,7 @@ use Rattle.rules.specs.Style.{topBorder, headerLines, headerRule, contentLines,
 use Rattle.rules.specs.Widths.{visible}
 use Rattle.rules.specs.Page.{areas, areaAt, textLine, rowText, visibleWidths, borderLength, closed, ruled, shown, headed, ruledRows, ruledMore, framed}
 use Rattle.laws.proofs.Areas.{length-areas, line-at}
-use Rattle.laws.proofs.Counts.{height-bound, text-line-bound}
+use Rattle.laws.proofs.Counts.{height-bound, text-line-bound, text-line-most}
 use Rattle.laws.proofs.Lines.{plain-row, rule-length, border-length}
 use Rattle.laws.proofs.Lists.{all-drop, all-getD, all-left, all-right, getD-map}
 use Rattle.table.specs.Held.{tableOf}
@@ -26,7 +26,7 @@ use Rattle.table.proofs.Walks.{rows-number}
 use Rattle.row.specs.Packed.{viewOf}
 use Rattle.cells.specs.Cell.{TextIs}
 use Rattle.row.specs.Open.{CellKnown}
-use Rattle.formatting.specs.RowText.{styled, rowLines, rowHeight, Sized, Drawable}
+use Rattle.formatting.specs.RowText.{styled, rowLines, rowHeight, mostBytes, Sized, Drawable}
 use Rattle.borders.specs.Rule.{ruleText, ruleStyleOf}
 use Rattle.formatting.specs.Stand.{textStyleOf}
 use Rattle.formatting.proofs.RowText.{lines-count}
@@ -348,8 +348,18 @@ module _ (s : List ℕ) (cols : List (List ℕ)) (p : Page) (O : Opened s cols p
         ∙ getD-map (textLine (tableOf s .style) k) (areas (tableOf s) (widthsIn s) r) j [] [] (omega (arith, length-areas (tableOf s) (widthsIn s) r))
         ∙ ap (textLine (tableOf s .style) k) (line-at (tableOf s) (widthsIn s) r j i)
 
+    plain-each : (k : ℕ) (here : Rows) → RowsAt s here → 0 < here .left → p .plain ≡ true → (j : ℕ) → j < rowHeight s (firstRow s here)
+        → length (getD (rowLines s (textStyleOf (tableOf s .style) k) (firstRow s here)) j []) + 1 ≡ l .line + 1
+    plain-each k here A h e j i =
+        let r = firstRow s here in
+        rw (
+          text-at k r j i,
+          plain-row (tableOf s) (limits-of s (O .passes)) r (first-limits s here A h .each) (first-has PlainRow s here A h (O .plain e)) k j,
+          L .line,
+        )
+
     text-sized : (k : ℕ) (here : Rows) → RowsAt s here → 0 < here .left
-        → Sized s (textStyleOf (tableOf s .style) k) (firstRow s here) (p .plain) (l .line + 1)
+        → Sized s (textStyleOf (tableOf s .style) k) (firstRow s here) (p .plain) (p .count) (l .line + 1)
     text-sized k here A h =
         let T = limits-of s (O .passes) in
         let r = firstRow s here in
@@ -359,8 +369,18 @@ module _ (s : List ℕ) (cols : List (List ℕ)) (p : Page) (O : Opened s cols p
             short = λ j i. rw (text-at k r j i) (text-line-bound (tableOf s) T r R k j);
             few = omega (arith, row-height-few s here A h);
           };
-          each = λ e j i. rw (text-at k r j i, plain-row (tableOf s) T r R (first-has PlainRow s here A h (O .plain e)) k j, L .line);
+          small = omega (arith, L .line-small);
+          each = plain-each k here A h;
+          most = λ j i. most-of (p .plain) refl j i;
         }
+      where
+        most-of : (b : Bool) → p .plain ≡ b → (j : ℕ) → j < rowHeight s (firstRow s here)
+            → length (getD (rowLines s (textStyleOf (tableOf s .style) k) (firstRow s here)) j []) + 1 ≤ mostBytes b (l .line + 1) (p .count)
+        most-of true e j i = omega (arith, plain-each k here A h e j i)
+        most-of false e j i =
+            let r = firstRow s here in
+            let m = text-line-most (tableOf s) (limits-of s (O .passes)) r (first-limits s here A h .each) k j in
+            omega (arith, ap length (text-at k r j i), m, L .line, O .views .count)
 
     rule-sized : (k : ℕ) → l .line + 1 ≡ length (ruleText (viewOf cols (p .count))
         (ruleStyleOf (tableOf s .style) (anyJunction (tableOf s .style)) k)) + 1

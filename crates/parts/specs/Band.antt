@@ -28,6 +28,6 @@ bodyStyle y left = record { lines = y .lines; rule = y .rule; ruled = y .ruled &
 
 -- the rule takes n bytes, its 0A included, and so does each text line of a plain page
 pub record SizedBand (s : List ℕ) (view : View) (y : RowStyle) (rs : List Row) (plain : Bool) (n : ℕ) : Type 0 where
-  pub text : 0 < length rs → Sized s (y .lines) (getD rs 0 noRow) plain n
+  pub text : 0 < length rs → Sized s (y .lines) (getD rs 0 noRow) plain (view .count) n
   pub rule : n ≡ length (ruleText view (y .rule)) + 1
   pub small : n ≤ longestLine + 1

@@ -25,4 +25,4 @@ first-part-spec =
     let f = c .before .before in
     let s = f .before .before in
     long-head (s .args .width) (s .args .delimiter) (s .pre .0) (now (s .args .text)) (sym (f .line-fits .ensures) ∙ c .before .if1 .left)
-    (c .split-line .result) (c .split-line .ensures)))
+    (c .part-from .result) (c .part-from .ensures)))

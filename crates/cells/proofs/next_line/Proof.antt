@@ -27,7 +27,7 @@ next-line-spec =
     let i = l .before in
     let b = i .before .before .before .before in
     let some : 0 < b .args .c .lines .left = omega (arith, i .if1 .left) in (
-      head-in _ _ _ _ (c .split-line .result) (split-head _ _ (b .pre .1 .0) _ _ (c .split-line .result) (c .split-line .ensures)),
+      head-in _ _ _ _ (c .part-from .result) (split-head _ _ (b .pre .1 .0) _ _ (c .part-from .result) (c .part-from .ensures)),
       rw (l .line .ensures) (first-known _ _ _ some (b .pre .0 .texts) .plain),
     ))
     (λ c.
@@ -35,7 +35,7 @@ next-line-spec =
     let p = t .before in
     let l = p .before in
     let b = l .before .before .before .before .before in
-    next-found _ _ _ (b .pre .1 .0) _ (b .pre .0) _ (l .line .ensures) (p .split-line .result) (p .split-line .ensures) _ (t .take-part .ensures)
+    next-found _ _ _ (b .pre .1 .0) _ (b .pre .0) _ (l .line .ensures) (p .part-from .result) (p .part-from .ensures) _ (t .take-part .ensures)
     (c .if2 .taken))
     (λ c κs. search needs)
     (λ c κs.
@@ -49,6 +49,6 @@ next-line-spec =
     let l = p .before in
     let b = l .before .before .before .before .before in
     rw
-    (next-further _ _ _ (b .pre .1 .0) _ (b .pre .0) _ (l .line .ensures) (p .split-line .result) (p .split-line .ensures) _ (t .take-part .ensures)
+    (next-further _ _ _ (b .pre .1 .0) _ (b .pre .0) _ (l .line .ensures) (p .part-from .result) (p .part-from .ensures) _ (t .take-part .ensures)
     (k .before .if2 .left) _ (k .next-line .ensures))
     (c .first-line .ensures)))

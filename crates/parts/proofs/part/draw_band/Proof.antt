@@ -11,7 +11,7 @@ use Rattle.formatting.specs.RowText.{rowLines}
 use Rattle.formatting.proofs.Parts.{part-room, part-length}
 use Rattle.formatting.proofs.RowText.{lines-count}
 use Rattle.parts.proofs.Parts.{drawable}
-use Rattle.parts.proofs.Bands.{band-empty, band-sized, band-first, band-cut, band-whole, part-few, rule-few}
+use Rattle.parts.proofs.Bands.{band-empty, band-sized, band-cut, band-whole, part-few, rule-few}
 use Rattle.parts.proofs.part.draw_band.Statement.{statement}
 use Rattle.parts.proofs.part.draw_band.Tie as tie
 
@@ -29,11 +29,7 @@ draw-band-spec =
     let B = s .pre .0 .1 in
     let some : 0 < s .args .here .left = omega (arith, c .before .before .before .if1 .left) in (
       (drawable (now (s .args .sheet)) (now (s .args .columns)) (s .args .p) O (s .args .here) (B .0) some, O .marks),
-      (
-        band-sized (now (s .args .sheet)) (viewOf (now (s .args .columns)) (s .args .p .count)) (s .args .style) (s .args .here) _ _ (B .1) some,
-        band-first (now (s .args .sheet)) (viewOf (now (s .args .columns)) (s .args .p .count)) (s .args .style) (s .args .here) (s .args .first) some
-            (s .pre .1),
-      ),
+      band-sized (now (s .args .sheet)) (viewOf (now (s .args .columns)) (s .args .p .count)) (s .args .style) (s .args .here) _ _ (B .1) some,
     ))
     (λ c. search needs)
     (λ c.
