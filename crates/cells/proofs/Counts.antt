@@ -5,6 +5,7 @@ use mathlib.Core.List.{List, [], _∷_}
 use mathlib.Core.Bool.{Bool, true, false}
 use native.Mathlib.Omega.{arith}
 use lib.ListN.{length, drop, length-append}
+use lib.Seq.{slice, take-all}
 use lib.Dec.{ltb, leb, eqb}
 use borrow.Author.Tests.{ltb-true, leb-true, leb-false}
 use Rattle.rules.specs.Text.{All, textWidth, firstOf, restOf}
@@ -12,6 +13,7 @@ use Rattle.rules.specs.Wrap.{Act, join, retry, fill, begin, onto, pieces, glue,
 use Rattle.laws.proofs.Text.{width-nil, width-le, first-rest, rest-shorter}
 use Rattle.laws.proofs.Fuel.{View, joins, retries, fills, begins, view}
 use Rattle.laws.proofs.Split.{wrap-short, wrap-long}
+use Rattle.laws.proofs.RowBytes.{pairsOf}
 use Rattle.rules.specs.Places.{past, parts, byteAt, textAt, lineStop}
 use Rattle.laws.proofs.Stands.{past-onward, lines-onward, text-length}
 use Rattle.table.specs.Walk.{linesIn, linesEnd, firstLine, LinesNext}
@@ -142,3 +144,41 @@ module _ (s : List ℕ) (w d : ℕ) (plain : Bool) (all : Lines) where
 
     pub counting-done : c .left ≤ 0 → n ≡ length (wrapLines w d (linesIn s all))
     counting-done h = omega (arith, C .count, ap length (ap (wrapLines w d) (lines-none s c h) ∙ wrap-none w d))
+
+-- ---- their pairs
+
+-- n pairs are counted, and these cell lines are left
+pub record Pairing (s : List ℕ) (all : Lines) (n : ℕ) (c : Lines) : Type 0 where
+  pub sum : n + pairsOf (linesIn s c) ≡ pairsOf (linesIn s all)
+  pub few : n + span (linesIn s c) ≤ length s
+  pub ends : linesEnd s c ≤ length s
+
+module _ (s : List ℕ) (all : Lines) where
+  pub pairing-begins : linesEnd s all ≤ length s → Pairing s all 0 all
+  pairing-begins h = record { sum = omega arith; few = omega (arith, span-most s all h); ends = h }
+
+  module _ (n : ℕ) (c : Lines) (P : Pairing s all n c) (some : 0 < c .left) (t : List ℕ) (e : t ≡ firstLine s c) (m : ℕ)
+    (f : m ≡ textWidth (slice 0 (length t) t)) where
+      width : m ≡ textWidth t
+      width = f ∙ ap textWidth (take-all (length t) t (omega arith))
+
+      pub pairing-less : m ≤ length t
+      pairing-less = omega (arith, width, width-le t)
+
+      pub pairing-room : n + (length t - m) ≤ length s
+      unfolding span
+      pairing-room = omega (arith, P .few, ap span (lines-some s c some), ap length e)
+
+      pub pairing-on : (k : Lines) → LinesNext s c k → Pairing s all (n + (length t - m)) k
+      unfolding span pairsOf
+      pairing-on k x =
+          let z = ap pairsOf (lines-some s c some) in
+          record {
+            sum = rw (x .lines) (omega (arith, P .sum, z, width, ap length e, ap textWidth e));
+            few = rw (x .lines) (omega (arith, P .few, ap span (lines-some s c some), ap length e));
+            ends = omega (arith, P .ends, x .ends);
+          }
+
+  pub pairing-done : (n : ℕ) (c : Lines) → Pairing s all n c → c .left ≤ 0 → (n ≡ pairsOf (linesIn s all)) × (n ≤ length s)
+  unfolding pairsOf
+  pairing-done n c P h = (omega (arith, P .sum, ap pairsOf (lines-none s c h)), omega (arith, P .few))

@@ -9,6 +9,7 @@ ghost use lib.ListN.{length};
 ghost use Rattle.rules.specs.Text.{All, textWidth};
 ghost use Rattle.rules.specs.Limits.{Printable};
 ghost use Rattle.rules.specs.Wrap.{wrapLine, wrapLines};
+ghost use Rattle.laws.proofs.RowBytes.{pairsOf};
 ghost use Rattle.text_width.specs.Measure.{IsPlain};
 ghost use Rattle.content_split.specs.Cut.{Sound};
 ghost use Rattle.content_split.specs.Parts.{PartIs};
@@ -201,6 +202,22 @@ pub fn cell_height(sheet: &[u8], lines: Lines, width: usize, delimiter: u8, plai
         let text = walk::line(sheet, c);
         let more = line_height(text, width, delimiter, plain);
         n += more;
+        c = walk::next_line(sheet, c);
+    }
+    n
+}
+
+// The pairs of some cell lines: the bytes that they have more than columns.
+pub fn cell_pairs(sheet: &[u8], lines: Lines) -> usize
+    requires { ⌜ linesEnd (now sheet) lines ≤ length (now sheet) ⌝ }
+    ensures { λ r. ⌜ (r ≡ pairsOf (linesIn (now (sheet .entry)) lines)) × (r ≤ length (now (sheet .entry))) ⌝ }
+{
+    let mut c = lines;
+    let mut n: usize = 0;
+    while 0 < c.left {
+        let text = walk::line(sheet, c);
+        let columns = text_width::columns(text, 0, text.len(), false);
+        n += text.len() - columns;
         c = walk::next_line(sheet, c);
     }
     n

@@ -1,5 +1,5 @@
 -- How many lines a row's cells have, column by column. Assumes nothing.
-use Prim.Native.Nat.{ℕ, _+_, _-_, _≤_, _<_, max}
+use Prim.Native.Nat.{ℕ, _+_, _-_, _*_, _≤_, _<_, max}
 use mathlib.Core.Path.{_≡_, refl, sym, ap, _∙_}
 use mathlib.Core.List.{List}
 use native.Mathlib.Omega.{arith}
@@ -8,12 +8,14 @@ use lib.ListN.{length, drop}
 use Rattle.rules.specs.Text.{orElse}
 use Rattle.rules.specs.Sheet.{Cell}
 use Rattle.rules.specs.Wrap.{wrapLines}
+use Rattle.laws.proofs.Text.{width-nil}
+use Rattle.laws.proofs.RowBytes.{pairsOf}
 use Rattle.table.specs.Walk.{cellsIn, cellsEnd, linesIn, firstCell, CellIs}
 use Rattle.table.specs.declared.records.Cells.{Cells}
 use Rattle.table.specs.declared.records.Cell as records
 use Rattle.row.specs.View.{View, visibleAt}
 use Rattle.row.specs.Open.{Rising}
-use Rattle.row.specs.Height.{cellHeight, heightUpTo}
+use Rattle.row.specs.Height.{cellHeight, heightUpTo, pairsUpTo}
 use Rattle.row.specs.declared.VisibleColumn.{VisibleColumn}
 use Rattle.row.proofs.Open.{blank-line, no-cells, Passing, passing-begins, passing-on, cell-here}
 
@@ -57,3 +59,39 @@ measuring-on s view R xs left passed most i M h next n m e f o x =
 pub measuring-done : (s : List ℕ) (view : View) (xs : List Cell) (left : Cells) (passed most i : ℕ) → Measuring s view xs left passed most i →
     view .count ≤ i → most ≡ heightUpTo xs view (view .count)
 measuring-done s view xs left passed most i M h = let w = M .passing .within in let e : i ≡ view .count = omega arith in rw e at (M .tall)
+
+-- ---- pairs
+
+pub pairs-missing : (s : List ℕ) (c : Cells) → c .left ≡ 0 → (0 ≡ pairsOf (firstCell s c .lines)) × (0 ≤ length s)
+unfolding pairsOf
+pairs-missing s c h = (rw (no-cells s c h) (omega (arith, width-nil)), omega arith)
+
+-- the columns before i are counted
+pub record Adding (s : List ℕ) (view : View) (xs : List Cell) (left : Cells) (passed sum i : ℕ) : Type 0 where
+  pub passing : Passing s view xs left passed i
+  pub total : sum ≡ pairsUpTo xs view i
+  pub small : sum ≤ i * 32768
+
+pub adding-begins : (s : List ℕ) (view : View) (c : Cells) → cellsEnd s c ≤ length s → Adding s view (cellsIn s c) c 0 0 0
+unfolding pairsUpTo
+adding-begins s view c h = record { passing = passing-begins s view c h; total = refl; small = omega arith }
+
+pub adding-on : (s : List ℕ) (view : View) → Rising view → length s ≤ 32768 → (xs : List Cell) (left : Cells) (passed sum i : ℕ)
+    → Adding s view xs left passed sum i → i < view .count
+    → (next : Cells) (n : ℕ) → cellsIn s next ≡ drop (visibleAt view i .number - passed) (cellsIn s left) → cellsEnd s next ≡ cellsEnd s left
+    → (n ≡ pairsOf (firstCell s next .lines)) × (n ≤ length s) → Adding s view xs next (visibleAt view i .number) (sum + n) (i + 1)
+unfolding pairsUpTo
+adding-on s view R k xs left passed sum i A h next n e f o =
+    let d = cell-here s view xs left passed i (A .passing) h next e in
+    record {
+      passing = passing-on s view xs left passed i (A .passing) h next e R f;
+      total = rw (add-one i) (omega (arith, A .total, o .0, ap (λ (x : Cell). pairsOf (x .lines)) d));
+      small = omega (arith, A .small, o .1);
+    }
+
+pub adding-done : (s : List ℕ) (view : View) (xs : List Cell) (left : Cells) (passed sum i : ℕ) → Adding s view xs left passed sum i → view .count ≤ i
+    → (sum ≡ pairsUpTo xs view (view .count)) × (sum ≤ view .count * 32768)
+adding-done s view xs left passed sum i A h =
+    let w = A .passing .within in
+    let e : i ≡ view .count = omega arith in
+    (rw e at (A .total), rw e at (A .small))

@@ -19,7 +19,8 @@ use Rattle.row.specs.Packed.{columnFrom, pendingFrom, viewOf, pendingsOf
 use Rattle.row.specs.declared.VisibleColumn.{VisibleColumn}
 use Rattle.row.specs.declared.Pending.{Pending}
 use Rattle.row.proofs.Open.{Passing, Opening, cells-known, opening-on}
-use Rattle.row.proofs.Heights.{Measuring, measuring-on}
+use Rattle.row.proofs.Heights.{Measuring, measuring-on, Adding, adding-on}
+use Rattle.laws.proofs.RowBytes.{pairsOf}
 
 -- ---- one column, one line
 
@@ -129,3 +130,16 @@ module _ (s : List ℕ) (cols : List (List ℕ)) (n : ℕ) (R : Rising (viewOf c
     pub tall-on : (next : Cells) (k m : ℕ) → cellsIn s next ≡ drop (v .number - passed) (cellsIn s left) → cellsEnd s next ≡ cellsEnd s left
         → k ≡ cellHeight (firstCell s next) v → m ≡ max most k → Measuring s (viewOf cols n) xs next (v .number) m (i + 1)
     tall-on next k m a b o x = rw at-i (measuring-on s (viewOf cols n) R xs left passed most i M h next k m (rw at-i at a) b (rw at-i at o) x)
+
+module _ (s : List ℕ) (cols : List (List ℕ)) (n : ℕ) (R : Rising (viewOf cols n)) (xs : List Cell) (left : Cells) (passed : ℕ) (i : ℕ)
+    (h : i < n) (v : VisibleColumn) (e : v ≡ columnFrom (getD cols i [])) where
+  here-i : v ≡ visibleAt (viewOf cols n) i
+  here-i = e ∙ sym (column-at cols n i)
+
+  module _ (sum : ℕ) (A : Adding s (viewOf cols n) xs left passed sum i) where
+    pub add-order : passed ≤ v .number
+    add-order = rw here-i (A .passing .order i (omega arith) h)
+
+    pub add-on : length s ≤ 32768 → (next : Cells) (k : ℕ) → cellsIn s next ≡ drop (v .number - passed) (cellsIn s left) → cellsEnd s next ≡ cellsEnd s left
+        → (k ≡ pairsOf (firstCell s next .lines)) × (k ≤ length s) → Adding s (viewOf cols n) xs next (v .number) (sum + k) (i + 1)
+    add-on w next k a b o = rw here-i (adding-on s (viewOf cols n) R w xs left passed sum i A h next k (rw here-i at a) b o)

@@ -1,10 +1,11 @@
 -- How many lines a row's cells have. Assumes nothing.
-use Prim.Native.Nat.{ℕ, zero, suc, max, min}
+use Prim.Native.Nat.{ℕ, zero, suc, _+_, max, min}
 use mathlib.Core.List.{List}
 use lib.ListN.{length, getD}
 use Rattle.rules.specs.Text.{orElse}
 use Rattle.rules.specs.Sheet.{Cell, noCell}
 use Rattle.rules.specs.Wrap.{wrapLines}
+use Rattle.laws.proofs.RowBytes.{pairsOf}
 use Rattle.row.specs.View.{View, visibleAt}
 use Rattle.row.specs.declared.VisibleColumn.{VisibleColumn}
 
@@ -16,6 +17,11 @@ cellHeight x v = length (wrapLines (v .width) (orElse (x .delimiter) (v .delimit
 unfoldable pub heightUpTo : List Cell → View → ℕ → ℕ
 heightUpTo xs view zero = 0
 heightUpTo xs view (suc n) = max (heightUpTo xs view n) (cellHeight (getD xs (visibleAt view n .number) noCell) (visibleAt view n))
+
+-- the pairs of the cells in the first n visible columns
+unfoldable pub pairsUpTo : List Cell → View → ℕ → ℕ
+pairsUpTo xs view zero = 0
+pairsUpTo xs view (suc n) = pairsUpTo xs view n + pairsOf (getD xs (visibleAt view n .number) noCell .lines)
 
 -- the lines that a limit leaves, 0 being none
 unfoldable pub limited : ℕ → ℕ → ℕ

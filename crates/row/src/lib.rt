@@ -2,13 +2,14 @@
 pub mod packed;
 
 ghost use mathlib.Core.Path.{_≡_};
-ghost use Prim.Native.Nat.{_≤_, _<_};
+ghost use Prim.Native.Nat.{_*_, _≤_, _<_};
 ghost use lib.ListN.{length};
 ghost use Rattle.rules.specs.Text.{All};
 ghost use Rattle.rules.specs.Sheet.{mostColumns};
 ghost use Rattle.rules.specs.Limits.{Printable};
 ghost use Rattle.table.specs.Walk.{cellsIn, cellsEnd, firstCell};
-ghost use Rattle.row.specs.Height.{cellHeight, heightUpTo};
+ghost use Rattle.laws.proofs.RowBytes.{pairsOf};
+ghost use Rattle.row.specs.Height.{cellHeight, heightUpTo, pairsUpTo};
 ghost use Rattle.row.specs.Pending.{anyFound};
 ghost use Rattle.row.specs.Open.{CellKnown, OpenedAt, OpenedRow, Rising, UsableAll, missing};
 ghost use Rattle.row.specs.Packed.{viewOf, pendingsOf};
@@ -160,4 +161,44 @@ pub fn row_height(
         i += 1;
     }
     most
+}
+
+// The pairs of the first of the cells. A missing cell has none.
+fn open_pairs(sheet: &[u8], from: Cells) -> usize
+    requires { ⌜ cellsEnd (now sheet) from ≤ length (now sheet) ⌝ }
+    ensures { λ r. ⌜ (r ≡ pairsOf (firstCell (now (sheet .entry)) from .lines)) × (r ≤ length (now (sheet .entry))) ⌝ }
+{
+    if from.left == 0 {
+        return 0;
+    }
+    let x = walk::cell(sheet, from);
+    let lines = x.lines;
+    cells::cell_pairs(sheet, lines)
+}
+
+// The pairs of a row's cells in the visible columns.
+pub fn row_pairs(
+    sheet: &[u8],
+    columns: &[[usize; 6]; MOST_COLUMNS],
+    count: usize,
+    from: Cells,
+) -> usize
+    requires { ⌜ Rising (viewOf (now columns) count) × ((cellsEnd (now sheet) from ≤ length (now sheet)) × (length (now sheet) ≤ 32768)) ⌝ }
+    ensures { λ r. ⌜ (r ≡ pairsUpTo (cellsIn (now (sheet .entry)) from) (viewOf (now (columns .entry)) count) count) × (r ≤ count * 32768) ⌝ }
+{
+    let mut left = from;
+    let mut passed: usize = 0;
+    let mut sum: usize = 0;
+    let mut i: usize = 0;
+    while i < count {
+        let y = columns[i];
+        let v = packed::column_from(y);
+        let number = v.number;
+        left = walk::skip_cells(sheet, left, number - passed);
+        passed = number;
+        let more = open_pairs(sheet, left);
+        sum += more;
+        i += 1;
+    }
+    sum
 }
