@@ -4,7 +4,7 @@ use mathlib.Core.Path.{_≡_, refl, sym, ap, _∙_}
 use mathlib.Core.List.{List, [], _∷_, _++_}
 use mathlib.Core.Bool.{Bool, true, false, cond, not, _&&_}
 use native.Mathlib.Omega.{arith}
-use native.Mathlib.Nat.{suc-add}
+use native.Mathlib.Nat.{suc-add, suc-mul}
 use lib.ListN.{length, take, drop, getD, length-append, drop-of-length-le, List·getD-append}
 use lib.Seq.{drop-nil, take-nil, getD-at}
 use lib.Dec.{ltb}
@@ -19,13 +19,15 @@ use Rattle.laws.proofs.Counts.{height-bound, framed-count, framed-byte-bound}
 use Rattle.laws.proofs.Fitting.{fitting-few}
 use Rattle.laws.proofs.Lists.{all-append, all-getD, all-places}
 use Rattle.laws.proofs.Sizes.{closed-one, closed-append, closed-sized, closed-most}
-use Rattle.table.specs.Held.{tableOf}
+use Rattle.table.specs.Held.{IsAccepted, tableOf}
+use Rattle.table.proofs.Held.{held}
+use Rattle.laws.proofs.Accepted.{accepted}
 use Rattle.table.specs.Walk.{rowsIn, cellsIn, firstRow, RowIs}
 use Rattle.table.specs.declared.records.Rows.{Rows}
 use Rattle.table.proofs.Walks.{rows-number}
 use Rattle.table.specs.declared.records.Row as records
 use Rattle.buffer.specs.Put.{over}
-use Rattle.row.specs.Height.{heightUpTo, limited}
+use Rattle.row.specs.Height.{heightUpTo, pairsUpTo, limited}
 use Rattle.row.specs.View.{View}
 use Rattle.row.specs.Packed.{viewOf}
 use Rattle.formatting.specs.Part.{PartIs}
@@ -204,6 +206,25 @@ module _ (s : List ℕ) (view : View) (y : RowStyle) (here : Rows) (plain : Bool
         ∙ length-append (closed (rowLines s (y .lines) (firstRow s here))) (closed (cond (y .ruled) (ruleText view (y .rule) ∷ []) [])) in
         omega (arith, c, e, f, rule-bytes)
 
+    -- without a limit as many as plain lines would take, and its cells' pairs
+    pub bytes-pairs : firstRow s here .limit ≡ 0 → (n q : ℕ) → n ≡ length (bandLines s view y (rowsIn s here))
+        → q ≡ pairsUpTo (firstRow s here .cells) view (view .count) → n * size + q ≡ length (closed (bandLines s view y (rowsIn s here)))
+    bytes-pairs u n q f g =
+        let r = firstRow s here in
+        let d = ap length rows-band ∙ length-append (rowLines s (y .lines) (firstRow s here)) (cond (y .ruled) (ruleText view (y .rule) ∷ []) []) in
+        let z = B .pairs (omega (arith, rows-number s here)) u in
+        omega (
+          arith,
+          bytes-summed (length (closed (rowLines s (y .lines) (firstRow s here)))) (cond (y .ruled) size 0) refl refl,
+          z,
+          g,
+          lines-of (y .ruled) (rowHeight s (firstRow s here)) n (omega (arith, f, d, lines-count s (y .lines) (firstRow s here))),
+        )
+      where
+        lines-of : (b : Bool) (h n : ℕ) → n ≡ h + length (cond b (ruleText view (y .rule) ∷ []) []) → n * size ≡ h * size + cond b size 0
+        lines-of true h n e = let k : n ≡ suc h = omega arith in rw k (suc-mul h size ∙ omega arith)
+        lines-of false h n e = let k : n ≡ h = omega arith in rw k (omega arith)
+
     -- they aren't too many
     pub text-most : length (closed (rowLines s (y .lines) (firstRow s here))) ≤ mostLines * (longestLine + 1)
     text-most =
@@ -283,6 +304,10 @@ bytes-most s view y here plain size B = by (ltb 0 (here .left)) refl
     by : (b : Bool) → ltb 0 (here .left) ≡ b → length (closed (bandLines s view y (rowsIn s here))) ≤ (mostLines + 1) * (longestLine + 1)
     by true e = band-most s view y here plain size B (ltb-true 0 (here .left) e)
     by false e = omega (arith, bytes-none s view y here plain size B (omega (arith, ltb-false 0 (here .left) e)))
+
+-- an accepted sheet isn't long
+pub accepted-short : (s : List ℕ) → IsAccepted s → length s ≤ 32768
+accepted-short s h = let r = held s h in accepted s (tableOf s) (r .end) (r .reads) .short
 
 -- a band that has a line has a row
 pub band-there : (s : List ℕ) (view : View) (y : RowStyle) (here : Rows) (n : ℕ) → n < length (bandLines s view y (rowsIn s here)) → 0 < here .left

@@ -7,15 +7,17 @@ use native.Mathlib.Omega.{arith}
 use native.Mathlib.Numerals.{add-one}
 use lib.ListN.{length, getD}
 use Rattle.rules.specs.Text.{sum, upFrom, oneIf}
-use Rattle.rules.specs.Sheet.{Table}
+use Rattle.rules.specs.Sheet.{Row, Table, cellAt, noCell}
 use Rattle.rules.specs.Style.{anyLeft, anyRight, anyJunction, bordersOf}
 use Rattle.rules.specs.Widths.{visible, borders}
 use Rattle.rules.specs.Page.{visibleWidth, visibleWidths, lineLength, borderLength}
 use Rattle.laws.proofs.Cases.{oneIf-cond}
 use Rattle.laws.proofs.Counts.{line-length-bound, border-length-bound}
 use Rattle.laws.proofs.Lists.{upFrom-last, map-append}
+use Rattle.laws.proofs.RowBytes.{pairsOf}
 use Rattle.table.specs.Held.{tableOf}
 use Rattle.row.specs.View.{View, visibleAt, Views, shownOf, numberOf}
+use Rattle.row.specs.Height.{pairsUpTo}
 use Rattle.row.specs.Packed.{columnFrom, viewOf}
 use Rattle.borders.specs.Rule.{NarrowAll, ruleStyleOf}
 use Rattle.row.specs.declared.VisibleColumn.{VisibleColumn}
@@ -102,3 +104,28 @@ lengths-are s cols p O a b i j n ea eb ei ej en =
       line-small = omega (arith, e, line-length-bound (tableOf s) L);
       border-small = omega (arith, f, border-length-bound (tableOf s) L);
     }
+
+-- ---- pairs
+
+-- the visible cells' pairs, by the columns' numbers
+module _ (t : Table) (ws : List ℕ) (view : View) (W : Views t ws view) (r : Row) where
+  cell-pairs : ℕ → ℕ
+  cell-pairs i = pairsOf (cellAt r (numberOf t i) .lines)
+
+  pairs-at : (i : ℕ) → i < view .count → pairsOf (getD (r .cells) (visibleAt view i .number) noCell .lines) ≡ cell-pairs i
+  unfolding cell-pairs shownOf
+  pairs-at i h = ap (λ (v : VisibleColumn). pairsOf (getD (r .cells) (v .number) noCell .lines)) (W .each i h)
+
+  pairs-up-to : (n : ℕ) → n ≤ view .count → pairsUpTo (r .cells) view n ≡ sum (map cell-pairs (upFrom 0 n))
+  unfolding pairsUpTo
+  pairs-up-to zero h = sym (no-sum cell-pairs)
+  pairs-up-to (suc n) h =
+      let z : 0 + n ≡ n = omega arith in
+      let e : map cell-pairs (upFrom 0 (suc n)) ≡ map cell-pairs (upFrom 0 n) ++ (cell-pairs n ∷ []) = ap (map cell-pairs)
+      (upFrom-last 0 n ∙ ap (λ m. upFrom 0 n ++ (m ∷ [])) z) ∙ map-append cell-pairs (upFrom 0 n) (n ∷ []) in
+      omega (arith, pairs-up-to n (omega arith), pairs-at n (omega arith), ap sum e, sum-snoc (map cell-pairs (upFrom 0 n)) (cell-pairs n))
+
+  pub pairs-sum : pairsUpTo (r .cells) view (view .count) ≡ sum (map (λ j. pairsOf (cellAt r j .lines)) (visible t))
+  unfolding cell-pairs
+  pairs-sum = pairs-up-to (view .count) (omega arith) ∙ sym (ap sum (map-numbered (λ j. pairsOf (cellAt r j .lines)) 0 (visible t) ∙ ap
+      (λ n. map cell-pairs (upFrom 0 n)) (sym (W .count))))

@@ -1,5 +1,5 @@
 -- The parts of a page one after another. Assumes nothing.
-use Prim.Native.Nat.{ℕ, zero, suc, _+_, _-_, _≤_, _<_}
+use Prim.Native.Nat.{ℕ, zero, suc, _+_, _-_, _*_, _≤_, _<_}
 use mathlib.Core.Path.{_≡_, refl, sym, ap, _∙_}
 use mathlib.Core.List.{List, [], _∷_, _++_, map, append-assoc, append-nil}
 use mathlib.Core.Logic.{inl, inr, ⊎-elim}
@@ -15,7 +15,8 @@ use Rattle.rules.specs.Limits.{LineLimits, CellLimits, RowLimits, Plain, PlainC
 use Rattle.rules.specs.Style.{topBorder, headerLines, headerRule, contentLines, rowRule, bottomBorder, anyJunction, isVisible}
 use Rattle.rules.specs.Widths.{visible}
 use Rattle.rules.specs.Page.{areas, areaAt, textLine, rowText, visibleWidths, borderLength, closed, ruled, shown, headed, ruledRows, ruledMore, framed}
-use Rattle.laws.proofs.Areas.{length-areas, line-at}
+use Rattle.laws.proofs.Areas.{length-areas, line-at, visible-some}
+use Rattle.laws.proofs.RowBytes.{row-bytes}
 use Rattle.laws.proofs.Counts.{height-bound, text-line-bound, text-line-most}
 use Rattle.laws.proofs.Lines.{plain-row, rule-length, border-length}
 use Rattle.laws.proofs.Lists.{all-drop, all-getD, all-left, all-right, getD-map}
@@ -26,6 +27,8 @@ use Rattle.table.proofs.Walks.{rows-number}
 use Rattle.row.specs.Packed.{viewOf}
 use Rattle.cells.specs.Cell.{TextIs}
 use Rattle.row.specs.Open.{CellKnown}
+use Rattle.row.specs.Height.{pairsUpTo}
+use Rattle.parts.proofs.Measures.{pairs-sum}
 use Rattle.formatting.specs.RowText.{styled, rowLines, rowHeight, mostBytes, Sized, Drawable}
 use Rattle.borders.specs.Rule.{ruleText, ruleStyleOf}
 use Rattle.formatting.specs.Stand.{textStyleOf}
@@ -382,6 +385,16 @@ module _ (s : List ℕ) (cols : List (List ℕ)) (p : Page) (O : Opened s cols p
             let m = text-line-most (tableOf s) (limits-of s (O .passes)) r (first-limits s here A h .each) k j in
             omega (arith, ap length (text-at k r j i), m, L .line, O .views .count)
 
+    text-pairs : (k : ℕ) (here : Rows) → RowsAt s here → 0 < here .left → firstRow s here .limit ≡ 0
+        → length (closed (rowLines s (textStyleOf (tableOf s .style) k) (firstRow s here)))
+        ≡ rowHeight s (firstRow s here) * (l .line + 1) + pairsUpTo (firstRow s here .cells) (viewOf cols (p .count)) (p .count)
+    text-pairs k here A h u =
+        let t = tableOf s in
+        let r = firstRow s here in
+        let e = row-bytes t (limits-of s (O .passes)) (widthsIn s) (visible-some t) r (first-limits s here A h .each) u k in
+        ap (λ ls. length (closed ls)) (text-styled s k r) ∙ e
+        ∙ rw (← pairs-sum t (widthsIn s) (viewOf cols (p .count)) (O .views) r, ← L .line)
+
     rule-sized : (k : ℕ) → l .line + 1 ≡ length (ruleText (viewOf cols (p .count))
         (ruleStyleOf (tableOf s .style) (anyJunction (tableOf s .style)) k)) + 1
     rule-sized k = rw (
@@ -411,6 +424,7 @@ module _ (s : List ℕ) (cols : List (List ℕ)) (p : Page) (O : Opened s cols p
     unfolding stylesOf
     header-sized = rw (O .styles) (record {
       text = λ h. text-sized headerLines (p .header) (O .header-at) (omega (arith, rows-number s (p .header)));
+      pairs = λ h. text-pairs headerLines (p .header) (O .header-at) (omega (arith, rows-number s (p .header)));
       rule = rule-sized headerRule;
       small = omega (arith, L .line-small);
     })
@@ -420,6 +434,7 @@ module _ (s : List ℕ) (cols : List (List ℕ)) (p : Page) (O : Opened s cols p
     unfolding stylesOf
     body-sized here y A e = rw (e, O .styles) (record {
       text = λ h. text-sized contentLines here A (omega (arith, rows-number s here));
+      pairs = λ h. text-pairs contentLines here A (omega (arith, rows-number s here));
       rule = rule-sized rowRule;
       small = omega (arith, L .line-small);
     })

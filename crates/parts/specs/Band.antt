@@ -1,5 +1,5 @@
 -- The first of some rows and the rule after it, by the styles that they are drawn with. Assumes nothing.
-use Prim.Native.Nat.{ℕ, _+_, _≤_, _<_}
+use Prim.Native.Nat.{ℕ, _+_, _*_, _≤_, _<_}
 use mathlib.Core.Path.{_≡_}
 use mathlib.Core.List.{List, [], _∷_, _++_}
 use mathlib.Core.Bool.{Bool, cond, _&&_}
@@ -7,7 +7,9 @@ use lib.ListN.{length, getD}
 use lib.Dec.{ltb}
 use Rattle.rules.specs.Sheet.{Row, noRow}
 use Rattle.rules.specs.Limits.{longestLine}
+use Rattle.rules.specs.Page.{closed}
 use Rattle.row.specs.View.{View}
+use Rattle.row.specs.Height.{pairsUpTo}
 use Rattle.formatting.specs.RowText.{rowLines, rowHeight, Sized}
 use Rattle.borders.specs.Rule.{ruleText}
 use Rattle.display_info.specs.declared.RowStyle.{RowStyle}
@@ -26,8 +28,10 @@ bandCount s ruled (r ∷ rs) = rowHeight s r + cond ruled 1 0
 abbrev pub bodyStyle : RowStyle → ℕ → RowStyle
 bodyStyle y left = record { lines = y .lines; rule = y .rule; ruled = y .ruled && ltb 1 left }
 
--- the rule takes n bytes, its 0A included, and so does each text line of a plain page
+-- the rule takes n bytes, its 0A included, and so does each text line of a plain page; without a limit text lines take as many and their cells' pairs
 pub record SizedBand (s : List ℕ) (view : View) (y : RowStyle) (rs : List Row) (plain : Bool) (n : ℕ) : Type 0 where
   pub text : 0 < length rs → Sized s (y .lines) (getD rs 0 noRow) plain (view .count) n
+  pub pairs : 0 < length rs → getD rs 0 noRow .limit ≡ 0
+      → length (closed (rowLines s (y .lines) (getD rs 0 noRow))) ≡ rowHeight s (getD rs 0 noRow) * n + pairsUpTo (getD rs 0 noRow .cells) view (view .count)
   pub rule : n ≡ length (ruleText view (y .rule)) + 1
   pub small : n ≤ longestLine + 1

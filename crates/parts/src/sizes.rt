@@ -20,8 +20,10 @@ use display_info::RowStyle;
 use formatting::row_size;
 use rules::MOST_COLUMNS;
 use table::records::Rows;
+use table::walk;
 
-// The bytes of the first of some rows and of the rule after it, n lines, of which the rule takes `size` bytes.
+// The bytes of the first of some rows and of the rule after it, n lines, of which the rule takes `size` bytes. A row without limit shows each pair
+// of its visible cells once, so that its lines needn't be measured.
 fn band_bytes(
     sheet: &[u8],
     columns: &[[usize; 6]; MOST_COLUMNS],
@@ -41,6 +43,11 @@ fn band_bytes(
     }
     if here.left == 0 {
         return 0;
+    }
+    let r = walk::row(sheet, here);
+    let cells = r.cells;
+    if r.limit == 0 {
+        return n * size + row::row_pairs(sheet, columns, p.count, cells);
     }
     let indicator = p.indicator;
     let lines = style.lines;

@@ -1,10 +1,12 @@
 use borrow.Author.Needs.{needs}
 use native.Mathlib.Omega.{arith}
 use Prim.Native.Nat.{_<_}
+use mathlib.Core.Path.{refl, sym, _∙_}
 use denote.Ref.{now}
+use Rattle.table.proofs.Walks.{cells-inside}
 use Rattle.row.specs.Packed.{viewOf}
 use Rattle.parts.proofs.Parts.{drawable}
-use Rattle.parts.proofs.Bands.{band-sized, bytes-none, bytes-plain, bytes-summed, bytes-most}
+use Rattle.parts.proofs.Bands.{band-sized, accepted-short, bytes-none, bytes-plain, bytes-pairs, bytes-summed, bytes-most}
 use Rattle.parts.proofs.sizes.band_bytes.Statement.{statement}
 use Rattle.parts.proofs.sizes.band_bytes.Tie as tie
 
@@ -25,9 +27,53 @@ band-bytes-spec =
     let a = s .args in
     bytes-none (now (a .sheet)) (viewOf (now (a .columns)) (a .p .count)) (a .style) (a .here) (a .p .plain) (a .size) (s .pre .0 .1 .1) (c .if2 .taken))
     (λ c κs.
-    let s = c .before .before .before .before .before .before in
+    let s = c .before .before .before .before in
     let a = s .args in
-    let some : 0 < a .here .left = omega (arith, c .before .before .if2 .left) in (
+    let some : 0 < a .here .left = omega (arith, c .if2 .left) in
+    (some, s .pre .0 .1 .0 .ends))
+    (λ c.
+    let s = c .before .before .before .before .before .before .before .before in
+    let a = s .args in
+    let some : 0 < a .here .left = omega (arith, c .before .before .before .before .if2 .left) in
+    let r = c .before .before .before .row .ensures in
+    omega (
+      arith,
+      bytes-pairs (now (a .sheet)) (viewOf (now (a .columns)) (a .p .count)) (a .style) (a .here) (a .p .plain) (a .size) (s .pre .0 .1 .1) some (sym (r .limit) ∙ c .if3 .taken) (a .n) _ (s .pre .1) refl,
+      bytes-most (now (a .sheet)) (viewOf (now (a .columns)) (a .p .count)) (a .style) (a .here) (a .p .plain) (a .size) (s .pre .0 .1 .1),
+    ))
+    (λ c κs.
+    let s = c .before .before .before .before .before .before .before .before in
+    let a = s .args in
+    let some : 0 < a .here .left = omega (arith, c .before .before .before .before .if2 .left) in
+    let r = c .before .before .before .row in
+    (
+      s .pre .0 .0 .rising,
+      (
+        cells-inside (now (a .sheet)) (a .here) (r .result) some (s .pre .0 .1 .0 .ends) (r .ensures),
+        accepted-short (now (a .sheet)) (s .pre .0 .0 .passes),
+      ),
+    ))
+    (λ c.
+    let s = c .before .before .before .before .before .before .before .before .before in
+    let a = s .args in
+    let some : 0 < a .here .left = omega (arith, c .before .before .before .before .before .if2 .left) in
+    let r = c .before .before .before .before .row .ensures in
+    omega (
+      arith,
+      bytes-pairs (now (a .sheet)) (viewOf (now (a .columns)) (a .p .count)) (a .style) (a .here) (a .p .plain) (a .size) (s .pre .0 .1 .1) some (sym (r .limit) ∙ c .before .if3 .taken) (a .n) _ (s .pre .1) (rw (r .cells) at (c .row-pairs .ensures .0)),
+      bytes-most (now (a .sheet)) (viewOf (now (a .columns)) (a .p .count)) (a .style) (a .here) (a .p .plain) (a .size) (s .pre .0 .1 .1),
+    ))
+    (λ c.
+    let s = c .before .before .before .before .before .before .before .before .before in
+    let a = s .args in
+    let some : 0 < a .here .left = omega (arith, c .before .before .before .before .before .if2 .left) in
+    let r = c .before .before .before .before .row .ensures in
+    bytes-pairs (now (a .sheet)) (viewOf (now (a .columns)) (a .p .count)) (a .style) (a .here) (a .p .plain) (a .size) (s .pre .0 .1 .1) some (sym (r .limit) ∙ c .before .if3 .taken) (a .n) _ (s .pre .1) (rw (r .cells) at (c .row-pairs .ensures .0)))
+    (λ c κs.
+    let s = c .before .before .before .before .before .before .before .before .before .before in
+    let a = s .args in
+    let some : 0 < a .here .left = omega (arith, c .before .before .before .before .before .before .if2 .left) in
+    (
       drawable (now (a .sheet)) (now (a .columns)) (a .p) (s .pre .0 .0) (a .here) (s .pre .0 .1 .0) some,
       (
         s .pre .0 .0 .marks,
@@ -36,16 +82,16 @@ band-bytes-spec =
     ))
     (λ c κs. search needs)
     (λ c.
-    let s = c .before .before .before .before .before .before .before .before in
+    let s = c .before .before .before .before .before .before .before .before .before .before .before .before in
     let a = s .args in
-    let some : 0 < a .here .left = omega (arith, c .before .before .before .before .if2 .left) in
+    let some : 0 < a .here .left = omega (arith, c .before .before .before .before .before .before .before .before .if2 .left) in
     omega (
       arith,
       bytes-summed (now (a .sheet)) (viewOf (now (a .columns)) (a .p .count)) (a .style) (a .here) (a .p .plain) (a .size) (s .pre .0 .1 .1) some _ _ (c .before .row-bytes .ensures) (c .where-drawn .ensures .0),
       bytes-most (now (a .sheet)) (viewOf (now (a .columns)) (a .p .count)) (a .style) (a .here) (a .p .plain) (a .size) (s .pre .0 .1 .1),
     ))
     (λ c.
-    let s = c .before .before .before .before .before .before .before .before in
+    let s = c .before .before .before .before .before .before .before .before .before .before .before .before in
     let a = s .args in
-    let some : 0 < a .here .left = omega (arith, c .before .before .before .before .if2 .left) in
+    let some : 0 < a .here .left = omega (arith, c .before .before .before .before .before .before .before .before .if2 .left) in
     bytes-summed (now (a .sheet)) (viewOf (now (a .columns)) (a .p .count)) (a .style) (a .here) (a .p .plain) (a .size) (s .pre .0 .1 .1) some _ _ (c .before .row-bytes .ensures) (c .where-drawn .ensures .0)))
