@@ -158,26 +158,26 @@ module _ (s : List ℕ) (all : Lines) where
   pairing-begins h = record { sum = omega arith; few = omega (arith, span-most s all h); ends = h }
 
   module _ (n : ℕ) (c : Lines) (P : Pairing s all n c) (some : 0 < c .left) (t : List ℕ) (e : t ≡ firstLine s c) (m : ℕ)
-    (f : m ≡ textWidth (slice 0 (length t) t)) where
-      width : m ≡ textWidth t
-      width = f ∙ ap textWidth (take-all (length t) t (omega arith))
+      (f : m ≡ textWidth (slice 0 (length t) t)) where
+    width : m ≡ textWidth t
+    width = f ∙ ap textWidth (take-all (length t) t (omega arith))
 
-      pub pairing-less : m ≤ length t
-      pairing-less = omega (arith, width, width-le t)
+    pub pairing-less : m ≤ length t
+    pairing-less = omega (arith, width, width-le t)
 
-      pub pairing-room : n + (length t - m) ≤ length s
-      unfolding span
-      pairing-room = omega (arith, P .few, ap span (lines-some s c some), ap length e)
+    pub pairing-room : n + (length t - m) ≤ length s
+    unfolding span
+    pairing-room = omega (arith, P .few, ap span (lines-some s c some), ap length e)
 
-      pub pairing-on : (k : Lines) → LinesNext s c k → Pairing s all (n + (length t - m)) k
-      unfolding span pairsOf
-      pairing-on k x =
-          let z = ap pairsOf (lines-some s c some) in
-          record {
-            sum = rw (x .lines) (omega (arith, P .sum, z, width, ap length e, ap textWidth e));
-            few = rw (x .lines) (omega (arith, P .few, ap span (lines-some s c some), ap length e));
-            ends = omega (arith, P .ends, x .ends);
-          }
+    pub pairing-on : (k : Lines) → LinesNext s c k → Pairing s all (n + (length t - m)) k
+    unfolding span pairsOf
+    pairing-on k x =
+        let z = ap pairsOf (lines-some s c some) in
+        record {
+          sum = rw (x .lines) (omega (arith, P .sum, z, width, ap length e, ap textWidth e));
+          few = rw (x .lines) (omega (arith, P .few, ap span (lines-some s c some), ap length e));
+          ends = omega (arith, P .ends, x .ends);
+        }
 
   pub pairing-done : (n : ℕ) (c : Lines) → Pairing s all n c → c .left ≤ 0 → (n ≡ pairsOf (linesIn s all)) × (n ≤ length s)
   unfolding pairsOf

@@ -9,11 +9,9 @@ use lib.Seq.{slice, take-all, drop-nil, drop-drop}
 use lib.Dec.{ltb, leb}
 use borrow.Author.Tests.{lt-ltb, le-leb, leb-true, leb-false}
 use Rattle.rules.specs.Text.{All, isSecond, textWidth, flat}
-use Rattle.rules.specs.Limits.{Printable}
 use Rattle.rules.specs.Wrap.{split, wrapLine, wrapLines}
 use Rattle.laws.proofs.Lists.{all-drop}
 use Rattle.laws.proofs.Text.{width-nil, width-le}
-use Rattle.laws.proofs.Texts.{text-begins}
 use Rattle.laws.proofs.Split.{wrap-short, wrap-long}
 use Rattle.rules.specs.Places.{parts}
 use Rattle.table.specs.Walk.{linesIn, linesEnd, firstLine, LinesNext}

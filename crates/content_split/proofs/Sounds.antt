@@ -1,11 +1,10 @@
 -- Where characters begin: a text is sound with a printable delimiter, and so is what follows a part of it. Assumes nothing.
-use Prim.Native.Nat.{ℕ, suc, _+_, _-_}
-use mathlib.Core.Path.{_≡_, refl, sym, ap, _∙_}
-use mathlib.Core.List.{List, []}
+use Prim.Native.Nat.{ℕ, _-_}
+use mathlib.Core.Path.{_≡_}
+use mathlib.Core.List.{List}
 use mathlib.Core.Bool.{false}
 use native.Mathlib.Omega.{arith}
-use lib.ListN.{drop, getD}
-use lib.Seq.{getD-drop}
+use lib.ListN.{getD}
 use Rattle.rules.specs.Text.{isSecond}
 use Rattle.rules.specs.Limits.{Printable, IsText}
 use Rattle.laws.proofs.Texts.{printable-first, text-after, text-begins}
@@ -22,17 +21,3 @@ sound-text d t n p h b = record {
 -- all of it
 pub sound-all : (d : ℕ) (t : List ℕ) → Printable d → IsText t → Sound d t 0
 sound-all d t p h = sound-text d t 0 p h (text-begins h)
-
--- what is sound from n on, by itself
-pub sound-drop : (d : ℕ) (T : List ℕ) (n : ℕ) → Sound d T n → Sound d (drop n T) 0
-sound-drop d T n o = record {
-  first = o .first;
-  begins = let q : n + 0 ≡ n = omega arith in ap isSecond (getD-drop n T 0 0 ∙ ap (λ k. getD T k 0) q) ∙ o .begins;
-  after = λ k l e.
-      let q : n + suc k ≡ suc (n + k) = omega arith in
-      ap isSecond (getD-drop n T (suc k) 0 ∙ ap (λ k. getD T k 0) q) ∙ o .after (n + k) (omega arith) (sym (getD-drop n T k 0) ∙ e);
-}
-
--- no text is sound
-pub sound-nil : (d : ℕ) → isSecond d ≡ false → Sound d [] 0
-sound-nil d h = record { first = h; begins = refl; after = λ k l e. refl }

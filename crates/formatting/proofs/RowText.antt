@@ -47,10 +47,6 @@ pub first-true : (a b : Bool) → (a && b) ≡ true → a ≡ true
 first-true true b e = refl
 first-true false b e = e
 
-pub second-true : (a b : Bool) → (a && b) ≡ true → b ≡ true
-second-true true b e = e
-second-true false b e = let z : _≡_ {A = ℕ} 0 1 = cc in absurd (omega arith)
-
 -- ---- a row entered
 
 module _ (s : List ℕ) (view : View) (r : Row) (W : Views (tableOf s) (contents (tableOf s)) view) where

@@ -14,7 +14,7 @@ ghost use Rattle.buffer.specs.Put.{over, putAt, byteIf};
 ghost use Rattle.cells.specs.Cell.{Inside};
 ghost use Rattle.formatting.specs.Area.{areaIn, marksShown, IndicatorIs, LineIn, ShownIs, shownText, After, columnPiece};
 ghost use Rattle.row.specs.Pending.{InSheet, Ready, following, anyFound};
-ghost use Rattle.formatting.specs.Line.{linePiece, lineBytes, ReadyAll, AfterAll};
+ghost use Rattle.formatting.specs.Line.{lineBytes, ReadyAll, AfterAll};
 ghost use Rattle.formatting.specs.Stand.{inLimit, lastOf};
 ghost use Rattle.row.specs.Packed.{viewOf, pendingsOf};
 ghost use Rattle.formatting.specs.Part.{PartIs};
@@ -463,7 +463,16 @@ pub fn draw_row(
         let room = page.len() - at;
         if room < most {
             let fits = fits_after_all(
-                sheet, columns, count, indicator, style, last, plain, size, &state, room,
+                sheet,
+                columns,
+                count,
+                indicator,
+                style,
+                last,
+                plain,
+                size,
+                &state,
+                room,
             );
             if !fits {
                 return Part {

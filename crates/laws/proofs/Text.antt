@@ -5,7 +5,6 @@ use mathlib.Core.List.{List, [], _∷_, _++_}
 use mathlib.Core.Bool.{Bool, true, false, not}
 use native.Mathlib.Omega.{arith}
 use lib.ListN.{length, getD, take, drop, length-append, take-append-drop}
-use lib.Seq.{slice, length-take-le}
 use Rattle.rules.specs.Text.{keep, isSecond, charactersIn, textWidth, bytesOf, firstOf, restOf, blank}
 use Rattle.rules.specs.Limits.{Plain}
 use Rattle.laws.proofs.Lists.{keep-append}
@@ -114,10 +113,6 @@ pub first-rest : (n : ℕ) (l : List ℕ) → firstOf n l ++ restOf n l ≡ l
 unfolding firstOf restOf
 first-rest n l = take-append-drop (bytesOf n l) l
 
--- and leaves the others
-pub width-rest : (n : ℕ) (l : List ℕ) → textWidth (restOf n l) ≡ textWidth l - n
-width-rest n l = omega (arith, width-first n l, width-append (firstOf n l) (restOf n l), ap textWidth (first-rest n l))
-
 -- a cut takes something off
 pub rest-shorter : (n : ℕ) (l : List ℕ) → 0 < n → 0 < textWidth l → length (restOf n l) < length l
 rest-shorter n l h k =
@@ -132,12 +127,6 @@ plain-append l m h =
 pub plain-take : (n : ℕ) (l : List ℕ) → Plain l → Plain (take n l)
 plain-take n l h = plain-append (take n l) (drop n l) (subst Plain (sym (take-append-drop n l)) h) .0
 
-pub plain-drop : (n : ℕ) (l : List ℕ) → Plain l → Plain (drop n l)
-plain-drop n l h = plain-append (take n l) (drop n l) (subst Plain (sym (take-append-drop n l)) h) .1
-
-pub plain-slice : (a e : ℕ) (l : List ℕ) → Plain l → Plain (slice a e l)
-plain-slice a e l h = plain-drop a (take e l) (plain-take e l h)
-
 -- the first columns of two texts, as many as the first text has: that text, where the second begins with a character
 pub bytes-append : (l m : List ℕ) → isSecond (getD m 0 0) ≡ false → bytesOf (textWidth l) (l ++ m) ≡ length l
 bytes-append [] [] h = rw width-nil (bytes-nil 0)
@@ -148,16 +137,6 @@ bytes-append (b ∷ l) m h = go (isSecond b) refl (bytes-append l m h)
     go true e ih = rw (width-second b l e, bytes-second (textWidth l) b (l ++ m) e) (ap suc ih)
     go false e ih = rw (width-cons b l e, bytes-suc (textWidth l) b (l ++ m) e) (ap suc ih)
 
--- a cut lies in the text
-pub bytes-le : (n : ℕ) (l : List ℕ) → bytesOf n l ≤ length l
-bytes-le n [] = omega (arith, bytes-nil n)
-bytes-le n (b ∷ l) = go n (isSecond b) refl (λ m. bytes-le m l)
-  where
-    go : (n : ℕ) (x : Bool) → isSecond b ≡ x → ((m : ℕ) → bytesOf m l ≤ length l) → bytesOf n (b ∷ l) ≤ suc (length l)
-    go n true e ih = omega (arith, bytes-second n b l e, ih n)
-    go zero false e ih = omega (arith, bytes-zero b l e)
-    go (suc n) false e ih = omega (arith, bytes-suc n b l e, ih n)
-
 -- a text that fits isn't cut
 pub first-all : (n : ℕ) (l : List ℕ) → textWidth l ≤ n → firstOf n l ≡ l
 first-all n [] h = first-nil n
@@ -167,10 +146,6 @@ first-all n (b ∷ l) h = go n (isSecond b) refl h (λ m. first-all m l)
     go n true e k ih = first-second n b l e ∙ ap (λ t. b ∷ t) (ih n (omega (arith, width-second b l e)))
     go zero false e k ih = absurd (omega (arith, width-cons b l e))
     go (suc n) false e k ih = first-suc n b l e ∙ ap (λ t. b ∷ t) (ih n (omega (arith, width-cons b l e)))
-
-pub bytes-all : (n : ℕ) (l : List ℕ) → textWidth l ≤ n → bytesOf n l ≡ length l
-unfolding firstOf
-bytes-all n l h = sym (length-take-le (bytesOf n l) l (bytes-le n l)) ∙ ap length (first-all n l h)
 
 -- where there is no pair, bytes are counted
 pub bytes-plain : (n : ℕ) (l : List ℕ) → Plain l → bytesOf n l ≡ min n (length l)

@@ -5,7 +5,7 @@ use mathlib.Core.Logic.{_≢_}
 use mathlib.Core.List.{List, [], _∷_, _++_}
 use mathlib.Core.Bool.{Bool, true, false}
 use native.Mathlib.Omega.{arith}
-use lib.ListN.{length, getD, drop}
+use lib.ListN.{length, getD}
 use lib.Dec.{eqb}
 use borrow.Author.Tests.{ne-eqb}
 use Rattle.rules.specs.Text.{keep, isSecond, charactersIn, textWidth, firstOf, restOf, All}
@@ -162,13 +162,3 @@ text-after (plain b l i h) (suc k) p = text-after h k p
 text-after (degree l h) zero p = absurd (omega arith)
 text-after (degree l h) (suc zero) p = absurd (omega arith)
 text-after (degree l h) (suc (suc k)) p = text-after h k p
-
--- a text from a character on
-pub text-drop : {l : List ℕ} → IsText l → (k : ℕ) → isSecond (getD l k 0) ≡ false → IsText (drop k l)
-text-drop nothing zero e = nothing
-text-drop nothing (suc k) e = nothing
-text-drop (plain b l i h) zero e = plain b l i h
-text-drop (plain b l i h) (suc k) e = text-drop h k e
-text-drop (degree l h) zero e = degree l h
-text-drop (degree l h) (suc zero) e = let z : _≡_ {A = ℕ} 0 1 = cc in absurd (omega arith)
-text-drop (degree l h) (suc (suc k)) e = text-drop h k e

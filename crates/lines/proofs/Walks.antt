@@ -1,14 +1,13 @@
 -- A page counted, sought and written part after part. Assumes nothing.
-use Prim.Native.Nat.{ℕ, _+_, _-_, _*_, _≤_, _<_}
+use Prim.Native.Nat.{ℕ, _+_, _-_, _≤_, _<_}
 use mathlib.Core.Path.{_≡_, refl, sym, ap, _∙_}
-use mathlib.Core.List.{List, [], _∷_, _++_, append-assoc}
+use mathlib.Core.List.{List, [], _++_, append-assoc}
 use mathlib.Core.Bool.{true, false, true≢false}
 use native.Mathlib.Omega.{arith}
 use lib.ListN.{length, take, drop, getD, length-append, length-drop, take-append-drop, List·getD-append}
 use lib.Seq.{getD-drop, drop-drop, take-all, take-at}
 use borrow.Author.Tests.{leb-false}
 use borrow.Rule.Slice.PartMut.{putMid}
-use Rattle.rules.specs.Text.{All}
 use Rattle.rules.specs.Page.{closed}
 use Rattle.laws.proofs.Sizes.{closed-append, closed-none}
 use Rattle.formatting.specs.Part.{PartIs}

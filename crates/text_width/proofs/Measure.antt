@@ -8,10 +8,10 @@ use native.Mathlib.Omega.{arith}
 use native.Mathlib.Numerals.{add-one}
 use borrow.Author.Tests.{eq-eqb, ne-eqb}
 use lib.ListN.{length, take, getD, take-append-drop, List·getD-eq-default}
-use lib.Seq.{slice, slice-empty, slice-cons, take-length, take-take, take-suc, drop-append-le, length-take-le, length-slice, take-append-seam, drop-append-seam}
+use lib.Seq.{slice, slice-empty, slice-cons, take-take, take-suc, drop-append-le, length-take-le, length-slice, take-append-seam, drop-append-seam}
 use Rattle.rules.specs.Text.{isSecond, textWidth, bytesOf, firstOf, restOf}
 use Rattle.rules.specs.Limits.{Plain}
-use Rattle.laws.proofs.Text.{width-append, width-nil, width-cons, width-second, width-le, bytes-append, bytes-all, plain-take}
+use Rattle.laws.proofs.Text.{width-append, width-nil, width-cons, width-second, width-le, bytes-append, plain-take}
 use Rattle.text_width.specs.Measure.{col, IsPlain, Reach, Reached}
 
 pub le-or-lt : (a b : ℕ) → (a ≤ b) ⊎ (b < a)
@@ -189,15 +189,3 @@ plain-reach b T from w e k p =
       whole = plain-whole T (from + w) (p e);
       end = λ h. absurd (omega arith);
     }
-
--- where columns of a whole text are reached
-pub reached-bytes : (T : List ℕ) (w z left : ℕ) → Reached T 0 w z left → z ≡ bytesOf w T
-unfolding col
-reached-bytes T w z zero r =
-    let k = cut-at T (reached-all T (omega arith) r) (length T) (r .within) (omega arith) in
-    let e : slice 0 (length T) T ≡ T = take-length T in
-    omega (arith, length-slice 0 z T (r .within), k, ap (bytesOf w) e)
-reached-bytes T w z (suc n) r =
-    let q = r .end (omega arith) in
-    let e : take z T ≡ T = ap (λ k. take k T) q ∙ take-length T in
-    q ∙ sym (bytes-all w T (omega (arith, r .columns, ap textWidth e, width-nil)))

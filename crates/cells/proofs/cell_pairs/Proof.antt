@@ -1,4 +1,3 @@
-use borrow.Author.Needs.{needs}
 use native.Mathlib.Omega.{arith}
 use mathlib.Core.Bool.{false≢true}
 use Rattle.cells.proofs.Counts.{Pairing, pairing-begins, pairing-less, pairing-room, pairing-on, pairing-done}

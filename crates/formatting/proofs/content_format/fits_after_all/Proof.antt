@@ -1,5 +1,4 @@
-use borrow.Author.Needs.{needs}
-use mathlib.Core.Path.{sym, ap, _∙_}
+use mathlib.Core.Path.{ap}
 use lib.Dec.{leb}
 use Rattle.formatting.proofs.RowText.{too-long}
 use Rattle.formatting.specs.RowText.{mostBytes}

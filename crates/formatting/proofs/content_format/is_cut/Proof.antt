@@ -1,6 +1,5 @@
-use borrow.Author.Needs.{needs}
 use mathlib.Core.Path.{sym, ap, _∙_}
-use mathlib.Core.Bool.{false, true, _&&_}
+use mathlib.Core.Bool.{_&&_}
 use borrow.Author.Tests.{not-true, not-false}
 use lib.Dec.{ltb}
 use lib.ListN.{length}

@@ -1,5 +1,4 @@
 use borrow.Author.Needs.{needs}
-use native.Mathlib.Omega.{arith}
 use mathlib.Core.Path.{sym, ap}
 use Rattle.formatting.specs.RowText.{mostBytes}
 use Rattle.formatting.proofs.content_format.most_bytes.Statement.{statement}

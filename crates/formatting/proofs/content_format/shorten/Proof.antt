@@ -1,8 +1,6 @@
-use borrow.Author.Needs.{needs}
 use native.Mathlib.Omega.{arith}
 use mathlib.Core.Bool.{false≢true}
 use denote.Ref.{now}
-use Rattle.laws.proofs.Text.{width-le}
 use Rattle.formatting.proofs.Area.{line-bytes, shorten-whole, shorten-plain, shorten-counted}
 use Rattle.formatting.proofs.content_format.shorten.Statement.{statement}
 use Rattle.formatting.proofs.content_format.shorten.Tie as tie

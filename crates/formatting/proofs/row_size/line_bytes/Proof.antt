@@ -1,6 +1,6 @@
 use borrow.Author.Needs.{needs}
 use native.Mathlib.Omega.{arith}
-use mathlib.Core.Path.{sym, _∙_}
+use mathlib.Core.Path.{_∙_}
 use denote.Ref.{now}
 use borrow.Author.Tests.{lt-ltb}
 use Rattle.table.specs.Walk.{firstRow}

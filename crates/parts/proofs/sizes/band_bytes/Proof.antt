@@ -45,8 +45,7 @@ band-bytes-spec =
     let s = c .before .before .before .before .before .before .before .before in
     let a = s .args in
     let some : 0 < a .here .left = omega (arith, c .before .before .before .before .if2 .left) in
-    let r = c .before .before .before .row in
-    (
+    let r = c .before .before .before .row in (
       s .pre .0 .0 .rising,
       (
         cells-inside (now (a .sheet)) (a .here) (r .result) some (s .pre .0 .1 .0 .ends) (r .ensures),
@@ -72,8 +71,7 @@ band-bytes-spec =
     (λ c κs.
     let s = c .before .before .before .before .before .before .before .before .before .before in
     let a = s .args in
-    let some : 0 < a .here .left = omega (arith, c .before .before .before .before .before .before .if2 .left) in
-    (
+    let some : 0 < a .here .left = omega (arith, c .before .before .before .before .before .before .if2 .left) in (
       drawable (now (a .sheet)) (now (a .columns)) (a .p) (s .pre .0 .0) (a .here) (s .pre .0 .1 .0) some,
       (
         s .pre .0 .0 .marks,

@@ -1,7 +1,5 @@
-use borrow.Author.Needs.{needs}
 use native.Mathlib.Omega.{arith}
 use mathlib.Core.Path.{sym, ap, _∙_}
-use mathlib.Core.List.{[]}
 use Prim.Native.Nat.{_+_}
 use denote.Ref.{now}
 use lib.ListN.{length}
