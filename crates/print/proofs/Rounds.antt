@@ -61,7 +61,7 @@ module _ (s : List ℕ) (cols : List (List ℕ)) (p : Page) (O : Opened s cols p
   some : longestLine + 1 ≤ length b → 0 < length (ahead s p c) → 0 < length (wholeLines (length b) (ahead s p c))
   unfolding linesOf
   some h k = go (ahead s p c) k (rw (S .lines) (all-drop (λ l. length l ≤ longestLine) (S .passed) (linesOf s p)
-      (framed-line-bound (tableOf s) (limits-of s (O .passes)) (rowsIn s (p .rows)))))
+      (framed-line-bound (tableOf s) (limits-of s (O .passes)) (rowsIn s (p .rows)) (O .rows-at .sound))))
     where
       go : (ls : List (List ℕ)) → 0 < length ls → All (λ l. length l ≤ longestLine) ls → 0 < length (wholeLines (length b) ls)
       go [] f g = absurd (omega arith)
