@@ -13,7 +13,6 @@ use Rattle.rules.specs.Limits.{Plain}
 use Rattle.rules.specs.Wrap.{shownIndicator, cutLine}
 use Rattle.rules.specs.Page.{before}
 use Rattle.laws.proofs.Text.{width-nil, width-append, width-le, width-first, first-all, bytes-plain, plain-take}
-use Rattle.laws.proofs.Sizes.{before-le}
 use Rattle.text_width.specs.Measure.{col, Reached}
 use Rattle.text_width.proofs.Measure.{col-slice, col-le, reached-all, reach-below, first-reach}
 use Rattle.table.specs.Walk.{firstLine}
@@ -48,11 +47,6 @@ pub area-total : (v : VisibleColumn) (a : ℕ) (text marks : List ℕ) (spare b 
     → length (areaIn v a (text ++ marks)) ≡ v .left + b + (length text + (length marks + (spare - b + v .right)))
 area-total v a text marks spare b e q =
     sym (ap length (area-is v a text marks spare b e q)) ∙ simp (length-append, length-replicate) (omega arith)
-
--- its bytes: the columns that the text leaves free, and the text's own
-pub area-size : (v : VisibleColumn) (a : ℕ) (l : List ℕ) → textWidth l ≤ v .width → length (areaIn v a l) ≡ v .left + (v .width - textWidth l + length l) + v .right
-unfolding areaIn
-area-size v a l h = simp (length-append, length-replicate) (omega (arith, before-le a (v .width - textWidth l)))
 
 -- the indicator's bytes, exit by exit
 pub marks-whole : (cut : Bool) (n w : ℕ) → cut ≡ true → n ≤ w → n ≡ marksShown cut n w
@@ -200,14 +194,6 @@ module _ (s : List ℕ) (w : ℕ) (t : Pending) (I : InSheet s w t) where
 
     pub shown-spare : w - m - r .columns ≡ w - textWidth (shownText s w (take (ind .count) (ind .characters)) cut t)
     shown-spare = omega (arith, shown-columns .0, shown-columns .1)
-
-    pub shown-size : (v : VisibleColumn) (a : ℕ) → w ≡ v .width
-        → v .left + (w - r .columns + (r .end - t .line .start)) + v .right
-        ≡ length (areaIn v a (shownText s w (take (ind .count) (ind .characters)) cut t))
-    shown-size v a f =
-        let l = shownText s w (take (ind .count) (ind .characters)) cut t in
-        let b = area-size v a l (omega (arith, f, shown-columns .0, shown-columns .1)) in
-        omega (arith, b, f, shown-columns .0, shown-columns .1, shown-bytes)
 
 -- whether a line is cut is told by the line after it
 pub piece-cut : (s : List ℕ) (v : VisibleColumn) (t : Pending) (ind : List ℕ) (last cut : Bool) → cut ≡ (last && ltb 0 (length (following s (v .width) t)))

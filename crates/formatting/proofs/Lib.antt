@@ -6,3 +6,4 @@ pub mod Heights
 pub mod Lent
 pub mod Parts
 pub mod RowText
+pub mod Shown

@@ -10,7 +10,6 @@ use native.Mathlib.Nat.{eq-or-lt-of-le}
 use lib.ListN.{length, set, length-set, length-append}
 use lib.Seq.{getD-set-same, getD-set-other}
 use Rattle.rules.specs.Sheet.{mostColumns}
-use Rattle.rules.specs.Limits.{longestLine}
 use Rattle.buffer.specs.Put.{over, putAt, build, byteIf, lead}
 use Rattle.buffer.proofs.Laws.{put-nil, put-one, over-put-zero, build-room, build-more, two}
 use Rattle.row.specs.Pending.{noPending, pendingAt, Ready, anyFound}
@@ -158,42 +157,3 @@ module _ (s : List ℕ) (view : View) (ind : List ℕ) (style : TextStyle) (ts�
       let w = D .passing .within in
       let e : i ≡ view .count = omega arith in
       rw e at D
-
--- ---- a line measured, column by column
-
--- the edges, the 0A and the columns before i take `size` bytes
-pub record Measuring (s : List ℕ) (view : View) (ind : List ℕ) (style : TextStyle) (ts : List Pending) (last : Bool) (size i : ℕ) : Type 0 where
-  pub within : i ≤ view .count
-  pub sum : size ≡ length (byteIf (style .opens) (style .left)) + length (byteIf (style .closes) (style .right)) + 1
-      + length (build (linePiece s view ind style ts last) i)
-
-module _ (s : List ℕ) (view : View) (ind : List ℕ) (style : TextStyle) (ts : List Pending) (last : Bool) where
-  pub measuring-begins : (a b n : ℕ) → a ≡ length (byteIf (style .opens) (style .left)) → b ≡ length (byteIf (style .closes) (style .right))
-      → n ≡ a + b + 1 → Measuring s view ind style ts last n 0
-  measuring-begins a b n e f g = record { within = omega arith; sum = omega (arith, e, f, g) }
-
-  module _ (size i : ℕ) (M : Measuring s view ind style ts last size i) where
-    -- a line that isn't too long leaves room for each of its columns
-    pub measuring-room : i < view .count → length (lineBytes s view ind style ts last) ≤ longestLine + 1
-        → size + (length (byteIf (lead i (style .joined)) (style .junction)) + length (columnPiece s (visibleAt view i) (pendingAt ts i) ind last))
-        ≤ longestLine + 1
-    unfolding linePiece
-    measuring-room h k =
-        let g = linePiece s view ind style ts last in
-        let a = length-append (byteIf (lead i (style .joined)) (style .junction)) (columnPiece s (visibleAt view i) (pendingAt ts i) ind last) in
-        omega (arith, a, M .sum, line-length s view ind style ts last, build-room g i (view .count) h)
-
-    pub measuring-on : i < view .count → (n : ℕ)
-        → n ≡ size + (length (byteIf (lead i (style .joined)) (style .junction)) + length (columnPiece s (visibleAt view i) (pendingAt ts i) ind last))
-        → Measuring s view ind style ts last n (i + 1)
-    unfolding linePiece
-    measuring-on h n e =
-        let g = linePiece s view ind style ts last in
-        let a = length-append (byteIf (lead i (style .joined)) (style .junction)) (columnPiece s (visibleAt view i) (pendingAt ts i) ind last) in
-        record { within = omega arith; sum = omega (arith, a, e, M .sum, ap length (build-more g i), length-append (build g i) (g i)) }
-
-    pub measuring-done : view .count ≤ i → size ≡ length (lineBytes s view ind style ts last)
-    measuring-done h =
-        let w = M .within in
-        let e : i ≡ view .count = omega arith in
-        omega (arith, rw e at (M .sum), line-length s view ind style ts last)

@@ -1,30 +1,31 @@
 -- Lines of a row drawn one after another. Assumes nothing.
-use Prim.Native.Nat.{ℕ, suc, _+_, _-_, _*_, _≤_, _<_}
+use Prim.Native.Nat.{ℕ, suc, _+_, _-_, _≤_, _<_}
 use mathlib.Core.Path.{_≡_, refl, sym, ap, subst, _∙_}
 use mathlib.Core.List.{List, [], _∷_, _++_, map}
-use mathlib.Core.Bool.{Bool, true, false, _&&_}
+use mathlib.Core.Bool.{Bool, true, false, not, _&&_}
 use native.Mathlib.Omega.{arith}
 use lib.ListN.{length, take, drop, getD, length-append, length-map, length-drop, take-append-drop}
 use lib.Seq.{take-suc, take-all, getD-drop, drop-cons}
-use borrow.Author.Tests.{ltb-true, ltb-false, lt-leb}
+use borrow.Author.Tests.{ltb-true, ltb-false, leb-true, leb-false}
 use lib.Dec.{leb}
 use borrow.Rule.Slice.PartMut.{putMid}
 use Rattle.rules.specs.Sheet.{Row}
 use Rattle.rules.specs.Widths.{visible, contents}
-use Rattle.rules.specs.Page.{areaAt, areas, closed}
-use Rattle.rules.specs.Limits.{mostLines, longestLine}
+use Rattle.rules.specs.Page.{areaAt, areas}
 use Rattle.laws.proofs.Areas.{length-areas, line-at}
 use Rattle.laws.proofs.Lists.{getD-map}
-use Rattle.laws.proofs.Sizes.{closed-one, closed-append}
 use Rattle.table.specs.Held.{tableOf}
 use Rattle.table.specs.declared.records.Indicator.{Indicator}
 use Rattle.buffer.specs.Put.{over}
 use Rattle.buffer.proofs.Laws.{lent, lent-same}
 use Rattle.row.specs.View.{View, Views}
+use Rattle.row.specs.Height.{addedUpTo}
 use Rattle.formatting.specs.Line.{lineBytes, AfterAll, ReadyAll}
 use Rattle.row.specs.Pending.{anyFound}
 use Rattle.formatting.specs.Part.{PartIs}
-use Rattle.formatting.specs.RowText.{styled, rowLines, rowHeight, Marks, Bounded, Sized, Measurable, StandsAt}
+use Rattle.formatting.specs.Area.{IndicatorIs}
+use Rattle.formatting.specs.Shown.{pairsShown}
+use Rattle.formatting.specs.RowText.{styled, rowLines, rowHeight, mostBytes, Marks, Sized, StandsAt}
 use Rattle.formatting.specs.Stand.{inLimit, lastOf}
 use Rattle.row.specs.Open.{OpenedRow}
 use Rattle.row.specs.declared.Pending.{Pending}
@@ -46,6 +47,15 @@ line-of s y r j h =
 pub first-true : (a b : Bool) → (a && b) ≡ true → a ≡ true
 first-true true b e = refl
 first-true false b e = e
+
+-- line j is pending, and its bytes are known, n being those of a plain line
+pub record Measured (s : List ℕ) (view : View) (r : Row) (j : ℕ) (i : Indicator) (y : TextStyle) (ts : List Pending) (last plain : Bool) (n : ℕ) : Type 0 where
+  pub ready : ReadyAll s view ts
+  pub indicator : IndicatorIs i
+  pub most : length (lineBytes s view (take (i .count) (i .characters)) y ts last) ≤ mostBytes plain n (view .count)
+  pub each : plain ≡ true → n ≡ length (lineBytes s view (take (i .count) (i .characters)) y ts last)
+  pub shown : length (lineBytes s view (take (i .count) (i .characters)) y ts last)
+      ≡ n + addedUpTo (pairsShown (take (i .count) (i .characters)) (r .limit) j 1) (r .cells) view (view .count)
 
 -- ---- a row entered
 
@@ -82,17 +92,17 @@ module _ (s : List ℕ) (view : View) (r : Row) (W : Views (tableOf s) (contents
       pub line-some : 0 < length (lineBytes s view (take (i .count) (i .characters)) y ts last)
       line-some = omega (arith, here-size)
 
-    -- it can be measured
+    -- it can be drawn, and its bytes are known
     pub stands-measurable : (i : Indicator) → Marks s i → (y : TextStyle) (limit : ℕ) → limit ≡ r .limit → (last : Bool) → last ≡ lastOf limit j
-        → (plain : Bool) (n : ℕ) → Sized s y r plain (view .count) n → Measurable s view i y ts last plain n
+        → (plain : Bool) (n : ℕ) → Sized s y r plain view n → Measured s view r j i y ts last plain n
     stands-measurable i M y limit el last ea plain n Z =
         let h = here-size i M y limit el last ea in
         record {
           ready = stands-drawn;
           indicator = M .indicator;
-          short = omega (arith, h, Z .bounded .short j stands-less);
           most = omega (arith, h, Z .most j stands-less);
           each = λ p. sym (h ∙ Z .each p j stands-less);
+          shown = h ∙ rw (M .are) (Z .shown j stands-less);
         }
 
     -- the row goes on
@@ -201,63 +211,21 @@ module _ (s : List ℕ) (view : View) (y : TextStyle) (r : Row) (first : ℕ) (W
         take-all (line - first) (drop first (rowLines s y r)) (omega (arith, lines-count s y r, length-drop first (rowLines s y r))) in
         rw all at (G .part)
 
--- ---- a row's lines measured
-
--- the lines before `line` take so many bytes, and line `line` is pending, if the row has it
-pub record Summing (s : List ℕ) (view : View) (y : TextStyle) (r : Row) (ts : List Pending) (more : Bool) (bytes line : ℕ) : Type 0 where
-  pub stands : StandsAt s view r line more ts
-  pub sum : bytes ≡ length (closed (take line (rowLines s y r)))
-  pub small : bytes ≤ line * (longestLine + 1)
-  pub within : line ≤ rowHeight s r
-
-module _ (s : List ℕ) (view : View) (y : TextStyle) (r : Row) (W : Views (tableOf s) (contents (tableOf s)) view) where
-  pub summing-begins : (ts : List Pending) (more : Bool) → StandsAt s view r 0 more ts → Summing s view y r ts more 0 0
-  unfolding closed
-  summing-begins ts more S = record { stands = S; sum = refl; small = omega arith; within = omega arith }
-
-  module _ (i : Indicator) (M : Marks s i) (D : Bounded s y r) (limit : ℕ) (el : limit ≡ r .limit) (ts : List Pending) (more : Bool) (bytes line : ℕ)
-      (G : Summing s view y r ts more bytes line) where
-    module _ (e : more ≡ true) (last : Bool) (ea : last ≡ lastOf limit line) where
-      below : line < rowHeight s r
-      below = stands-less s view r W line more ts (G .stands) e
-
-      -- the pending line
-      pub summing-here : length (lineBytes s view (take (i .count) (i .characters)) y ts last) ≡ length (getD (rowLines s y r) line []) + 1
-      summing-here = here-size s view r W line more ts (G .stands) e i M y limit el last ea
-
-      pub summing-short : length (lineBytes s view (take (i .count) (i .characters)) y ts last) ≤ longestLine + 1
-      summing-short = omega (arith, summing-here, D .short line below)
-
-      pub summing-few : line < mostLines
-      summing-few = omega (arith, below, D .few)
-
-      pub summing-room : (n : ℕ) → n ≡ length (lineBytes s view (take (i .count) (i .characters)) y ts last) → bytes + n ≤ mostLines * (longestLine + 1)
-      summing-room n q = omega (arith, G .small, q, summing-short, summing-few)
-
-      pub summing-on : (n : ℕ) → n ≡ length (lineBytes s view (take (i .count) (i .characters)) y ts last) → (us : List Pending) (found m : Bool)
-          → AfterAll s view ts us → found ≡ anyFound us (view .count) → m ≡ (inLimit limit (line + 1) && found)
-          → Summing s view y r us m (bytes + n) (line + 1)
-      summing-on n q us found m a f g =
-          let ls = rowLines s y r in
-          let k : line + 1 ≡ suc line = omega arith in
-          let t : take (line + 1) (rowLines s y r) ≡ take line (rowLines s y r) ++ (getD (rowLines s y r) line [] ∷ []) =
-          ap (λ j. take j (rowLines s y r)) k ∙ take-suc (rowLines s y r) line [] (omega (arith, below, lines-count s y r)) in
-          let c = ap (λ l. length (closed l)) t ∙ ap length (closed-append (take line (rowLines s y r)) (getD (rowLines s y r) line [] ∷ []))
-          ∙ length-append (closed (take line (rowLines s y r))) (closed (getD (rowLines s y r) line [] ∷ [])) in
-          let d = ap length (closed-one (getD (rowLines s y r) line [])) ∙ length-append (getD (rowLines s y r) line []) (10 ∷ []) in
-          record {
-            stands = stands-more s view r W line more ts (G .stands) e limit el us found m a f g;
-            sum = omega (arith, G .sum, q, summing-here, c, d);
-            small = omega (arith, G .small, q, summing-short);
-            within = omega (arith, below);
-          }
-
-    pub summing-done : more ≡ false → bytes ≡ length (closed (rowLines s y r))
-    summing-done e =
-        let h = ltb-false line (rowHeight s r) (sym (G .stands .has) ∙ e) in
-        G .sum ∙ ap (λ l. length (closed l)) (take-all line (rowLines s y r) (omega (arith, lines-count s y r)))
-
 -- ---- room
 
-pub too-long : (n m most room : ℕ) → n ≡ m → room < most → most ≡ n → false ≡ leb m room
-too-long n m most room e h f = sym (lt-leb m room (omega (arith, e, f)))
+-- what was found where the most doesn't fit: the line doesn't, or it does
+pub too-long : (plain : Bool) (size n l count room : ℕ) → room < mostBytes plain size count → (plain ≡ true → size ≡ l) → l ≡ n
+    → (not plain && leb n room) ≡ false → room < l
+too-long true size n l count room h e f g = omega (arith, e refl)
+too-long false size n l count room h e f g = omega (arith, leb-false n room g)
+
+pub short-enough : (plain : Bool) (n l room : ℕ) → l ≡ n → (not plain && leb n room) ≡ true → l ≤ room
+short-enough true n l room f g = let z : _≡_ {A = ℕ} 0 1 = cc in absurd (omega arith)
+short-enough false n l room f g = omega (arith, leb-true n room g)
+
+-- the two ways to find it
+pub plain-not : (plain b : Bool) → plain ≡ true → false ≡ (not plain && b)
+plain-not plain b e = rw e
+
+pub counted-so : (plain : Bool) (size n m room : ℕ) → plain ≡ false → n ≡ m → leb (size + n) room ≡ (not plain && leb (size + m) room)
+counted-so plain size n m room e f = rw (e, f)

@@ -163,6 +163,14 @@ area-in : (t : Table) (ws : List ℕ) (j a : ℕ) (l : List ℕ) → areaIn (sho
 unfolding areaIn area shownOf
 area-in t ws j a l = refl
 
+-- a pending line within the limit is shown as the document cuts it
+pub shown-at : (s : List ℕ) (v : VisibleColumn) (ls : List (List ℕ)) (j : ℕ) (t : Pending) → Stands s v ls j t → (ind : List ℕ) (h : ℕ) → inLimit h j ≡ true
+    → (b : Bool) → b ≡ (lastOf h j && ltb 0 (length (following s (v .width) t))) → shownText s (v .width) ind b t ≡ getD (cut (v .width) ind h ls) j []
+shown-at s v ls j t S ind h e b f =
+    ap (λ c. shownText s (v .width) ind c t) (f ∙ ap (λ c. lastOf h j && c) (stands-follows s v ls j t S))
+    ∙ text-shown s (v .width) ind (lastOf h j && ltb (j + 1) (length ls)) t (getD ls j []) (stands-line s v ls j t S)
+    ∙ sym (cut-at (v .width) ind h j ls e)
+
 module _ (s : List ℕ) (t : Table) (ws : List ℕ) (r : Row) (view : View) (W : Views t ws view) (j : ℕ) where
   -- a column's piece of line j is the document's area
   pub piece-area : (i : ℕ) (st : Pending) → i < view .count → StandsCell s t ws r (visibleAt view i) i j st → inLimit (r .limit) j ≡ true
@@ -173,13 +181,7 @@ module _ (s : List ℕ) (t : Table) (ws : List ℕ) (r : Row) (view : View) (W :
       let ls = wrapped t ws r (numberOf t i) in
       let x : v ≡ shownOf t ws (numberOf t i) = W .each i h in
       let w : v .width ≡ getD ws (numberOf t i) 0 = ap (λ (u : VisibleColumn). u .width) x ∙ shown-wide t ws (numberOf t i) in
-      let f = stands-follows s v ls j st (C .stands) in
-      let l = stands-line s v ls j st (C .stands) in
-      let y : shownText s (v .width) (t .indicator) (lastOf (r .limit) j && ltb 0 (length (following s (v .width) st))) st ≡ getD
-      (cut (v .width) (t .indicator) (r .limit) ls) j [] =
-      ap (λ b. shownText s (v .width) (t .indicator) (lastOf (r .limit) j && b) st) f
-      ∙ text-shown s (v .width) (t .indicator) (lastOf (r .limit) j && ltb (j + 1) (length ls)) st (getD ls j []) l
-      ∙ sym (cut-at (v .width) (t .indicator) (r .limit) j ls e) in
+      let y = shown-at s v ls j st (C .stands) (t .indicator) (r .limit) e _ refl in
       ap (areaIn v (st .alignment)) y
       ∙ rw (C .alignment, w)
       (ap (λ u. areaIn u (alignmentOf (columnAt t (numberOf t i)) (cellAt r (numberOf t i)))

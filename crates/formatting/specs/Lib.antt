@@ -3,3 +3,4 @@ pub mod Line
 pub mod Part
 pub mod Stand
 pub mod RowText
+pub mod Shown

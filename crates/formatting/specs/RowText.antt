@@ -16,10 +16,11 @@ use Rattle.table.specs.declared.records.Rows.{Rows}
 use Rattle.table.specs.declared.records.Indicator.{Indicator}
 use Rattle.buffer.specs.Put.{byteIf}
 use Rattle.row.specs.View.{View, Views}
+use Rattle.row.specs.Height.{addedUpTo}
 use Rattle.row.specs.Open.{CellKnown, Rising, UsableAll}
 use Rattle.row.specs.declared.Pending.{Pending}
 use Rattle.formatting.specs.Area.{IndicatorIs}
-use Rattle.formatting.specs.Line.{lineBytes, ReadyAll}
+use Rattle.formatting.specs.Shown.{pairsShown}
 use Rattle.formatting.specs.Stand.{StandsRow}
 use Rattle.formatting.specs.declared.content_format.TextStyle.{TextStyle}
 use Rattle.formatting.specs.declared.content_format.Entered.{Entered}
@@ -43,6 +44,7 @@ pub record Drawable (s : List ℕ) (view : View) (plain : Bool) (c : Rows) : Typ
   pub rising : Rising view
   pub usable : UsableAll view
   pub known : All (CellKnown plain) (firstRow s c .cells)
+  pub short : length s ≤ 32768
 
 -- the table's indicator
 pub record Marks (s : List ℕ) (i : Indicator) : Type 0 where
@@ -59,20 +61,14 @@ abbrev pub mostBytes : Bool → ℕ → ℕ → ℕ
 mostBytes true n count = n
 mostBytes false n count = n + 100 * count
 
--- and if it is said to be plain, each takes n bytes, its 0A included
-pub record Sized (s : List ℕ) (y : TextStyle) (r : Row) (plain : Bool) (count n : ℕ) : Type 0 where
+-- and each takes n bytes, its 0A included, and the pairs that it shows; if the row is said to be plain, it shows none
+pub record Sized (s : List ℕ) (y : TextStyle) (r : Row) (plain : Bool) (view : View) (n : ℕ) : Type 0 where
   pub bounded : Bounded s y r
   pub small : n ≤ longestLine + 1
   pub each : plain ≡ true → (k : ℕ) → k < rowHeight s r → length (getD (rowLines s y r) k []) + 1 ≡ n
-  pub most : (k : ℕ) → k < rowHeight s r → length (getD (rowLines s y r) k []) + 1 ≤ mostBytes plain n count
-
--- the line that is pending can be measured
-pub record Measurable (s : List ℕ) (view : View) (i : Indicator) (y : TextStyle) (ts : List Pending) (last plain : Bool) (n : ℕ) : Type 0 where
-  pub ready : ReadyAll s view ts
-  pub indicator : IndicatorIs i
-  pub short : length (lineBytes s view (take (i .count) (i .characters)) y ts last) ≤ longestLine + 1
-  pub most : length (lineBytes s view (take (i .count) (i .characters)) y ts last) ≤ mostBytes plain n (view .count)
-  pub each : plain ≡ true → n ≡ length (lineBytes s view (take (i .count) (i .characters)) y ts last)
+  pub most : (k : ℕ) → k < rowHeight s r → length (getD (rowLines s y r) k []) + 1 ≤ mostBytes plain n (view .count)
+  pub shown : (k : ℕ) → k < rowHeight s r
+      → length (getD (rowLines s y r) k []) + 1 ≡ n + addedUpTo (pairsShown (tableOf s .indicator) (r .limit) k 1) (r .cells) view (view .count)
 
 -- whether a row has line j, which is then pending
 pub record StandsAt (s : List ℕ) (view : View) (r : Row) (j : ℕ) (more : Bool) (ts : List Pending) : Type 0 where

@@ -1,10 +1,10 @@
 // The text lines of a row, drawn one after another. A cell's next wrapped line is found one line ahead, so that each is found once.
 ghost use mathlib.Core.Path.{_≡_};
 ghost use mathlib.Core.List.{_++_};
-ghost use mathlib.Core.Bool.{true, _&&_};
+ghost use mathlib.Core.Bool.{true, not, _&&_};
 ghost use Prim.Native.Nat.{_+_, _-_, _≤_, _<_};
 ghost use lib.ListN.{length, take, drop};
-ghost use lib.Dec.{leb, ltb};
+ghost use lib.Dec.{leb};
 ghost use Rattle.rules.specs.Limits.{mostLines, longestLine, Printable};
 ghost use Rattle.rules.specs.Text.{textWidth};
 ghost use Rattle.rules.specs.Sheet.{mostColumns};
@@ -13,12 +13,15 @@ ghost use Rattle.table.specs.Walk.{firstRow};
 ghost use Rattle.buffer.specs.Put.{over, putAt, byteIf};
 ghost use Rattle.cells.specs.Cell.{Inside};
 ghost use Rattle.formatting.specs.Area.{areaIn, marksShown, IndicatorIs, LineIn, ShownIs, shownText, After, columnPiece};
-ghost use Rattle.row.specs.Pending.{InSheet, Ready, following, anyFound};
+ghost use Rattle.row.specs.Height.{addedUpTo};
+ghost use Rattle.row.specs.Pending.{InSheet, Ready, anyFound};
 ghost use Rattle.formatting.specs.Line.{lineBytes, ReadyAll, AfterAll};
 ghost use Rattle.formatting.specs.Stand.{inLimit, lastOf};
 ghost use Rattle.row.specs.Packed.{viewOf, pendingsOf};
 ghost use Rattle.formatting.specs.Part.{PartIs};
-ghost use Rattle.formatting.specs.RowText.{Drawable, rowLines, EnteredIs, Measurable, mostBytes, Sized, Marks};
+ghost use Rattle.formatting.specs.RowText.{Drawable, rowLines, EnteredIs, mostBytes, Sized, Marks};
+ghost use Rattle.formatting.specs.Shown.{pairsShown};
+use crate::row_size;
 use cells::Next;
 use row::Pending;
 use row::VisibleColumn;
@@ -62,7 +65,7 @@ fn align_line(
 }
 
 // An indicator wider than the content is dropped.
-fn marks_shown(cut: bool, count: usize, width: usize) -> usize
+pub fn marks_shown(cut: bool, count: usize, width: usize) -> usize
     ensures { λ r. ⌜ (r ≡ marksShown cut count width) × ((r ≤ count) × (r ≤ width)) ⌝ }
 {
     if cut {
@@ -80,7 +83,7 @@ pub struct Shown {
 }
 
 // A cell's line shortened to `width` columns. A line with as many columns as bytes has no pair that a cut could fall into.
-fn shorten(text: &[u8], line: Next, width: usize) -> Shown
+pub fn shorten(text: &[u8], line: Next, width: usize) -> Shown
     requires { ⌜ LineIn (now text) line ⌝ }
     ensures { λ r. ⌜ ShownIs (now (text .entry)) line width r ⌝ }
 {
@@ -328,76 +331,6 @@ pub struct Part {
     pub whole: bool,
 }
 
-// Whether another line follows a cell's line, which is looked for only where the line is the last that the limit leaves.
-fn is_cut(sheet: &[u8], v: VisibleColumn, t: Pending, last: bool) -> bool
-    requires { ⌜ Ready (now sheet) v t ⌝ }
-    ensures { λ r. ⌜ r ≡ (last && ltb 0 (length (following (now (sheet .entry)) (v .width) t))) ⌝ }
-{
-    if !last {
-        return false;
-    }
-    let next = advance(sheet, v.width, t);
-    let line = next.line;
-    line.found
-}
-
-// The bytes of a column's area in a line: the second bytes of pairs come on top of its visible width.
-fn area_size(sheet: &[u8], v: VisibleColumn, t: Pending, indicator: Indicator, last: bool) -> usize
-    requires { ⌜ Ready (now sheet) v t × IndicatorIs indicator ⌝ }
-    requires { ⌜ length (columnPiece (now sheet) v t (take (indicator .count) (indicator .characters)) last) ≤ longestLine ⌝ }
-    ensures { λ r. ⌜ r ≡ length (columnPiece (now (sheet .entry)) v t (take (indicator .count) (indicator .characters)) last) ⌝ }
-{
-    let cut = is_cut(sheet, v, t, last);
-    let width = v.width;
-    let m = marks_shown(cut, indicator.count, width);
-    let line = t.line;
-    let cursor = line.cursor;
-    let lines = cursor.lines;
-    let text = cells::line_at(sheet, lines);
-    let shown = shorten(text, line, width - m);
-    v.left + (width - shown.columns + (shown.end - line.start)) + v.right
-}
-
-// The bytes of an edge.
-fn edge_size(drawn: bool, b: u8) -> usize
-    ensures { λ r. ⌜ r ≡ length (byteIf drawn b) ⌝ }
-{
-    if drawn { 1 } else { 0 }
-}
-
-// The bytes of the text line that is pending, its 0A included.
-pub fn line_size(
-    sheet: &[u8],
-    columns: &[[usize; 6]; MOST_COLUMNS],
-    count: usize,
-    indicator: Indicator,
-    style: TextStyle,
-    last: bool,
-    state: &[[usize; 10]; MOST_COLUMNS],
-) -> usize
-    requires { ⌜ ReadyAll (now sheet) (viewOf (now columns) count) (pendingsOf (now state)) × IndicatorIs indicator ⌝ }
-    requires { ⌜ length (lineBytes (now sheet) (viewOf (now columns) count) (take (indicator .count) (indicator .characters)) style (pendingsOf (now state)) last)
-        ≤ longestLine + 1 ⌝ }
-    ensures { λ r.
-        ⌜ r ≡ length (lineBytes (now (sheet .entry)) (viewOf (now (columns .entry)) count) (take (indicator .count) (indicator .characters)) style
-        (pendingsOf (now (state .entry))) last) ⌝ }
-{
-    let mut size = edge_size(style.opens, style.left) + edge_size(style.closes, style.right) + 1;
-    let mut i: usize = 0;
-    while i < count {
-        let y = columns[i];
-        let v = packed::column_from(y);
-        let x = state[i];
-        let t = packed::pending_from(x);
-        let joins = buffer::joins_before(i, style.joined);
-        let junction = edge_size(joins, style.junction);
-        let area = area_size(sheet, v, t, indicator, last);
-        size += junction + area;
-        i += 1;
-    }
-    size
-}
-
 // The most bytes that a text line takes: on a plain page `size`, on others up to 100 more for each column.
 fn most_bytes(plain: bool, size: usize, count: usize) -> usize
     requires { ⌜ (size ≤ longestLine + 1) × (count ≤ mostColumns) ⌝ }
@@ -409,28 +342,38 @@ fn most_bytes(plain: bool, size: usize, count: usize) -> usize
     size + 100 * count
 }
 
-// Whether the text line that is pending fits, where the most that a line takes wouldn't.
+// Whether line `line` of the first of some rows fits, where the most that a line takes wouldn't.
 fn fits_after_all(
     sheet: &[u8],
     columns: &[[usize; 6]; MOST_COLUMNS],
     count: usize,
     indicator: Indicator,
-    style: TextStyle,
-    last: bool,
+    here: Rows,
+    line: usize,
     plain: bool,
     size: usize,
-    state: &[[usize; 10]; MOST_COLUMNS],
     room: usize,
 ) -> bool
-    requires { ⌜ Measurable (now sheet) (viewOf (now columns) count) indicator style (pendingsOf (now state)) last plain size × (room < mostBytes plain size count) ⌝ }
+    requires { ⌜ Drawable (now sheet) (viewOf (now columns) count) plain here × (IndicatorIs indicator × ((line ≤ mostLines) × (size ≤ longestLine + 1))) ⌝ }
     ensures { λ r.
-        ⌜ r ≡ leb (length (lineBytes (now (sheet .entry)) (viewOf (now (columns .entry)) count) (take (indicator .count) (indicator .characters)) style
-        (pendingsOf (now (state .entry))) last)) room ⌝ }
+        ⌜ r ≡ (not plain && leb (size + addedUpTo
+        (pairsShown (take (indicator .count) (indicator .characters)) (firstRow (now (sheet .entry)) here .limit) line 1)
+        (firstRow (now (sheet .entry)) here .cells) (viewOf (now (columns .entry)) count) count) room) ⌝ }
 {
     if plain {
         return false;
     }
-    line_size(sheet, columns, count, indicator, style, last, state) <= room
+    let pairs = row_size::row_shown(
+        sheet,
+        columns,
+        count,
+        indicator,
+        here,
+        line,
+        line + 1,
+        plain,
+    );
+    size + pairs <= room
 }
 
 // The text lines of the first of some rows from its line `first` on, as many as the page has room for. On a plain page each takes `size` bytes, its
@@ -448,7 +391,7 @@ pub fn draw_row(
     size: usize,
 ) -> Part
     requires { ⌜ Drawable (now sheet) (viewOf (now columns) count) plain here × Marks (now sheet) indicator ⌝ }
-    requires { ⌜ Sized (now sheet) style (firstRow (now sheet) here) plain count size ⌝ }
+    requires { ⌜ Sized (now sheet) style (firstRow (now sheet) here) plain (viewOf (now columns) count) size ⌝ }
     ensures { λ r. ⌜ PartIs (drop first (rowLines (now (sheet .entry)) style (firstRow (now (sheet .entry)) here))) (now (page .entry)) (now (page .exit)) r ⌝ }
 {
     let mut state = [[0usize; 10]; MOST_COLUMNS];
@@ -467,11 +410,10 @@ pub fn draw_row(
                 columns,
                 count,
                 indicator,
-                style,
-                last,
+                here,
+                line,
                 plain,
                 size,
-                &state,
                 room,
             );
             if !fits {

@@ -1,96 +1,114 @@
-// The bytes of a row's text lines. Pairs make lines differ in length, so each is measured, by the columns as they are drawn; none is drawn.
+// The pairs that lines of a row show, which is what they have more than columns. A cell is walked by itself: it is compiled apart from what draws, which
+// stays short.
 ghost use mathlib.Core.Path.{_≡_};
-ghost use mathlib.Core.List.{[]};
-ghost use Prim.Native.Nat.{_+_, _<_};
-ghost use lib.ListN.{length, getD};
-ghost use Rattle.rules.specs.Page.{closed};
-ghost use Rattle.table.specs.Walk.{firstRow};
-ghost use Rattle.row.specs.Pending.{anyFound};
-ghost use Rattle.row.specs.Packed.{viewOf, pendingsOf};
-ghost use Rattle.formatting.specs.Line.{ReadyAll, AfterAll};
-ghost use Rattle.formatting.specs.RowText.{Drawable, Marks, Bounded, rowLines, rowHeight};
+ghost use Prim.Native.Nat.{_+_, _-_, _*_, _≤_, _<_};
+ghost use lib.ListN.{length, take};
+ghost use Rattle.rules.specs.Text.{All, textWidth};
+ghost use Rattle.rules.specs.Limits.{mostLines, Printable};
+ghost use Rattle.table.specs.Walk.{cellsIn, cellsEnd, firstCell, firstRow};
+ghost use Rattle.row.specs.Height.{addedUpTo};
+ghost use Rattle.row.specs.Open.{CellKnown};
+ghost use Rattle.row.specs.Packed.{viewOf};
+ghost use Rattle.row.specs.Pending.{Ready};
+ghost use Rattle.formatting.specs.Area.{IndicatorIs, shownText};
+ghost use Rattle.formatting.specs.RowText.{Drawable};
+ghost use Rattle.formatting.specs.Shown.{pairsShown};
 use crate::content_format;
-use crate::content_format::TextStyle;
+use row::Pending;
+use row::VisibleColumn;
 use row::packed;
 use rules::MOST_COLUMNS;
+use table::records::Cells;
 use table::records::Indicator;
 use table::records::Rows;
+use table::walk;
 
-// Each cell's next line in the place of the one that is pending; whether a cell has one.
-fn pass_line(
+// The pairs of a cell's line as it is shown.
+fn shown_pairs(sheet: &[u8], v: VisibleColumn, t: Pending, indicator: Indicator, cut: bool) -> usize
+    requires { ⌜ Ready (now sheet) v t × (IndicatorIs indicator × (length (now sheet) ≤ 32768)) ⌝ }
+    ensures { λ r.
+        ⌜ (r ≡ length (shownText (now (sheet .entry)) (v .width) (take (indicator .count) (indicator .characters)) cut t)
+        - textWidth (shownText (now (sheet .entry)) (v .width) (take (indicator .count) (indicator .characters)) cut t))
+        × (r ≤ 32768) ⌝ }
+{
+    let width = v.width;
+    let m = content_format::marks_shown(cut, indicator.count, width);
+    let line = t.line;
+    let cursor = line.cursor;
+    let lines = cursor.lines;
+    let text = cells::line_at(sheet, lines);
+    let shown = content_format::shorten(text, line, width - m);
+    shown.end - line.start - shown.columns
+}
+
+// The pairs that the first of some cells shows from line `first` up to line `end`.
+fn cell_shown(
+    sheet: &[u8],
+    cells: Cells,
+    v: VisibleColumn,
+    indicator: Indicator,
+    limit: usize,
+    first: usize,
+    end: usize,
+    plain: bool,
+) -> usize
+    requires { ⌜ ((0 < v .width) × Printable (v .delimiter)) × (IndicatorIs indicator × (length (now sheet) ≤ 32768)) ⌝ }
+    requires { ⌜ (cellsEnd (now sheet) cells ≤ length (now sheet)) × All (CellKnown plain) (cellsIn (now sheet) cells) ⌝ }
+    requires { ⌜ (first ≤ end) × (end ≤ mostLines + 1) ⌝ }
+    ensures { λ r.
+        ⌜ (r ≡ pairsShown (take (indicator .count) (indicator .characters)) limit first (end - first) (firstCell (now (sheet .entry)) cells) v)
+        × (r ≤ 32768 * (mostLines + 1)) ⌝ }
+{
+    let mut t = row::open_cell(sheet, cells, v, first, plain);
+    let mut n: usize = 0;
+    let mut j = first;
+    while j < end {
+        let line = t.line;
+        if !content_format::has_line(limit, j, line.found) {
+            return n;
+        }
+        let u = content_format::advance(sheet, v.width, t);
+        let next = u.line;
+        let cut = numbers::both(content_format::is_last(limit, j), next.found);
+        n += shown_pairs(sheet, v, t, indicator, cut);
+        t = u;
+        j += 1;
+    }
+    n
+}
+
+// The pairs that the first of some rows shows from line `first` up to line `end`.
+pub fn row_shown(
     sheet: &[u8],
     columns: &[[usize; 6]; MOST_COLUMNS],
     count: usize,
-    state: &mut [[usize; 10]; MOST_COLUMNS],
-) -> bool
-    requires { ⌜ ReadyAll (now sheet) (viewOf (now columns) count) (pendingsOf (now state)) ⌝ }
+    indicator: Indicator,
+    here: Rows,
+    first: usize,
+    end: usize,
+    plain: bool,
+) -> usize
+    requires { ⌜ Drawable (now sheet) (viewOf (now columns) count) plain here × (IndicatorIs indicator × (length (now sheet) ≤ 32768)) ⌝ }
+    requires { ⌜ (first ≤ end) × (end ≤ mostLines + 1) ⌝ }
     ensures { λ r.
-        ⌜ AfterAll (now (sheet .entry)) (viewOf (now (columns .entry)) count) (pendingsOf (now (state .entry))) (pendingsOf (now (state .exit)))
-        × (r ≡ anyFound (pendingsOf (now (state .exit))) count) ⌝ }
+        ⌜ (r ≡ addedUpTo (pairsShown (take (indicator .count) (indicator .characters)) (firstRow (now (sheet .entry)) here .limit) first (end - first))
+        (firstRow (now (sheet .entry)) here .cells) (viewOf (now (columns .entry)) count) count) × (r ≤ (32768 * (mostLines + 1)) * count) ⌝ }
 {
-    let mut more = false;
+    let r = walk::row(sheet, here);
+    let limit = r.limit;
+    let mut left = r.cells;
+    let mut passed: usize = 0;
+    let mut sum: usize = 0;
     let mut i: usize = 0;
     while i < count {
         let y = columns[i];
         let v = packed::column_from(y);
-        let x = state[i];
-        let t = packed::pending_from(x);
-        let u = content_format::advance(sheet, v.width, t);
-        let line = u.line;
-        more = numbers::either(more, line.found);
-        let z = packed::repack_pending(x, u);
-        state[i] = z;
+        let number = v.number;
+        left = walk::skip_cells(sheet, left, number - passed);
+        passed = number;
+        let more = cell_shown(sheet, left, v, indicator, limit, first, end, plain);
+        sum += more;
         i += 1;
     }
-    more
-}
-
-// The bytes of the text lines of the first of some rows, their 0As included.
-pub fn row_bytes(
-    sheet: &[u8],
-    columns: &[[usize; 6]; MOST_COLUMNS],
-    count: usize,
-    indicator: Indicator,
-    style: TextStyle,
-    here: Rows,
-    plain: bool,
-) -> usize
-    requires { ⌜ Drawable (now sheet) (viewOf (now columns) count) plain here × (Marks (now sheet) indicator × Bounded (now sheet) style (firstRow (now sheet) here)) ⌝ }
-    ensures { λ r. ⌜ r ≡ length (closed (rowLines (now (sheet .entry)) style (firstRow (now (sheet .entry)) here))) ⌝ }
-{
-    let mut state = [[0usize; 10]; MOST_COLUMNS];
-    let entered = content_format::enter_row(sheet, columns, count, here, 0, plain, &mut state);
-    let limit = entered.limit;
-    let mut more = entered.more;
-    let mut bytes: usize = 0;
-    let mut line: usize = 0;
-    while more {
-        let last = content_format::is_last(limit, line);
-        bytes += content_format::line_size(sheet, columns, count, indicator, style, last, &state);
-        let found = pass_line(sheet, columns, count, &mut state);
-        line += 1;
-        more = content_format::has_line(limit, line, found);
-    }
-    bytes
-}
-
-// The bytes of line n of the first of some rows, its 0A included.
-pub fn line_bytes(
-    sheet: &[u8],
-    columns: &[[usize; 6]; MOST_COLUMNS],
-    count: usize,
-    indicator: Indicator,
-    style: TextStyle,
-    here: Rows,
-    n: usize,
-    plain: bool,
-) -> usize
-    requires { ⌜ Drawable (now sheet) (viewOf (now columns) count) plain here × (Marks (now sheet) indicator × Bounded (now sheet) style (firstRow (now sheet) here)) ⌝ }
-    requires { ⌜ n < rowHeight (now sheet) (firstRow (now sheet) here) ⌝ }
-    ensures { λ r. ⌜ r ≡ length (getD (rowLines (now (sheet .entry)) style (firstRow (now (sheet .entry)) here)) n []) + 1 ⌝ }
-{
-    let mut state = [[0usize; 10]; MOST_COLUMNS];
-    let entered = content_format::enter_row(sheet, columns, count, here, n, plain, &mut state);
-    let last = content_format::is_last(entered.limit, n);
-    content_format::line_size(sheet, columns, count, indicator, style, last, &state)
+    sum
 }

@@ -1,4 +1,4 @@
--- How many bytes a row without height limit has: nothing of it is cut, so each pair of its visible cells is shown once. Assumes nothing.
+-- How many bytes a row and its lines have: their columns, and the pairs that they show. Assumes nothing.
 use Prim.Native.Nat.{ℕ, zero, suc, _+_, _-_, _*_, _≤_, _<_}
 use mathlib.Core.Path.{_≡_, refl, sym, ap, _∙_}
 use mathlib.Core.List.{List, [], _∷_, map}
@@ -49,7 +49,7 @@ sum-swap f [] js = sym (sum-none (λ j. 0) (λ j. refl) js)
 sum-swap f (k ∷ ks) js = omega (arith, sum-swap f ks js, sum-add (f k) (λ j. sum (map (λ i. f i j) ks)) js)
 
 -- none is above the greatest
-all-greatest : (f : ℕ → ℕ) (xs : List ℕ) → All (λ x. f x ≤ greatest (map f xs)) xs
+pub all-greatest : (f : ℕ → ℕ) (xs : List ℕ) → All (λ x. f x ≤ greatest (map f xs)) xs
 unfolding greatest
 all-greatest f [] = tt
 all-greatest f (x ∷ xs) = (
@@ -71,11 +71,11 @@ pairs-wrapped w d some delimiter ls =
     pairs-seconds (wrapLines w d ls) ∙ ap length (kept-lines (λ b. not (isSecond b)) d (rw delimiter) w some ls) ∙ sym (pairs-seconds ls)
 
 -- those of line k, none below the last
-abbrev pairsAt : List (List ℕ) → ℕ → ℕ
+abbrev pub pairsAt : List (List ℕ) → ℕ → ℕ
 pairsAt ls k = length (getD ls k []) - textWidth (getD ls k [])
 
 -- all of them, in as many lines as there are or more
-pairs-once : (ls : List (List ℕ)) (n : ℕ) → length ls ≤ n → sum (map (pairsAt ls) (upFrom 0 n)) ≡ pairsOf ls
+pub pairs-once : (ls : List (List ℕ)) (n : ℕ) → length ls ≤ n → sum (map (pairsAt ls) (upFrom 0 n)) ≡ pairsOf ls
 unfolding sum upFrom pairsOf
 pairs-once [] n h = sum-none (pairsAt []) (λ k. omega arith) (upFrom 0 n)
 pairs-once (l ∷ ls) zero h = absurd (omega arith)
@@ -106,13 +106,13 @@ module _ (t : Table) (ws : List ℕ) (r : Row) where
   area-pairs k (j ∷ js) = omega (arith, length-areaAt t ws r k j, width-le (getD (cellLines t ws r j) k []), area-pairs k js)
 
   -- line k
-  line-bytes : (i k : ℕ) → length (textLine (t .style) i (map (areaAt t ws r k) (visible t)))
+  pub line-bytes : (i k : ℕ) → length (textLine (t .style) i (map (areaAt t ws r k) (visible t)))
       ≡ lineLength t ws + sum (map (λ j. pairsAt (cellLines t ws r j) k) (visible t))
   unfolding lineLength visibleWidths
   line-bytes i k = omega (arith, text-bytes t ws r i k, area-pairs k (visible t))
 
   -- a row's lines: the columns of each, its 0A, and the pairs of the visible cells' lines
-  row-shown : (i : ℕ) → length (closed (rowText t ws i r))
+  pub row-shown : (i : ℕ) → length (closed (rowText t ws i r))
       ≡ height t ws r * (lineLength t ws + 1) + sum (map (λ j. pairsOf (cellLines t ws r j)) (visible t))
   unfolding rowText areas height
   row-shown i =

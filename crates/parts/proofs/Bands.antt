@@ -19,15 +19,14 @@ use Rattle.laws.proofs.Counts.{height-bound, framed-count, framed-byte-bound}
 use Rattle.laws.proofs.Fitting.{fitting-few}
 use Rattle.laws.proofs.Lists.{all-append, all-getD, all-places}
 use Rattle.laws.proofs.Sizes.{closed-one, closed-append, closed-sized, closed-most}
-use Rattle.table.specs.Held.{IsAccepted, tableOf}
-use Rattle.table.proofs.Held.{held}
-use Rattle.laws.proofs.Accepted.{accepted}
+use Rattle.table.specs.Held.{tableOf}
 use Rattle.table.specs.Walk.{rowsIn, cellsIn, firstRow, RowIs}
 use Rattle.table.specs.declared.records.Rows.{Rows}
 use Rattle.table.proofs.Walks.{rows-number}
 use Rattle.table.specs.declared.records.Row as records
 use Rattle.buffer.specs.Put.{over}
-use Rattle.row.specs.Height.{heightUpTo, pairsUpTo, limited}
+use Rattle.row.specs.Height.{heightUpTo, addedUpTo, pairsHeld, limited}
+use Rattle.formatting.specs.Shown.{pairsShown}
 use Rattle.row.specs.View.{View}
 use Rattle.row.specs.Packed.{viewOf}
 use Rattle.formatting.specs.Part.{PartIs}
@@ -141,7 +140,7 @@ band-empty s view y here first b e = go (rowsIn s here) (rows-number s here)
     go (r ∷ rs) f = absurd (omega arith)
 
 pub band-sized : (s : List ℕ) (view : View) (y : RowStyle) (here : Rows) (plain : Bool) (n : ℕ) → SizedBand s view y (rowsIn s here) plain n
-    → 0 < here .left → Sized s (y .lines) (firstRow s here) plain (view .count) n
+    → 0 < here .left → Sized s (y .lines) (firstRow s here) plain view n
 band-sized s view y here plain n B h = B .text (omega (arith, rows-number s here))
 
 -- ---- its bytes
@@ -178,7 +177,7 @@ module _ (s : List ℕ) (view : View) (y : RowStyle) (here : Rows) (plain : Bool
   unfolding bandLines
   bytes-plain e n h = rw h (sym (closed-sized size (bandLines s view y (rowsIn s here)) (go (rowsIn s here) (B .text))))
     where
-      go : (rs : List Row) → (0 < length rs → Sized s (y .lines) (getD rs 0 noRow) plain (view .count) size) → All (λ l. length l + 1 ≡ size) (bandLines s view y rs)
+      go : (rs : List Row) → (0 < length rs → Sized s (y .lines) (getD rs 0 noRow) plain view size) → All (λ l. length l + 1 ≡ size) (bandLines s view y rs)
       go [] Z = tt
       go (r ∷ rs) Z =
           let z = Z (omega arith) in
@@ -206,24 +205,47 @@ module _ (s : List ℕ) (view : View) (y : RowStyle) (here : Rows) (plain : Bool
         ∙ length-append (closed (rowLines s (y .lines) (firstRow s here))) (closed (cond (y .ruled) (ruleText view (y .rule) ∷ []) [])) in
         omega (arith, c, e, f, rule-bytes)
 
-    -- without a limit as many as plain lines would take, and its cells' pairs
-    pub bytes-pairs : firstRow s here .limit ≡ 0 → (n q : ℕ) → n ≡ length (bandLines s view y (rowsIn s here))
-        → q ≡ pairsUpTo (firstRow s here .cells) view (view .count) → n * size + q ≡ length (closed (bandLines s view y (rowsIn s here)))
-    bytes-pairs u n q f g =
-        let r = firstRow s here in
+    -- as many as plain lines would take, and its text lines' pairs
+    bytes-and : (n q : ℕ) → n ≡ length (bandLines s view y (rowsIn s here))
+        → length (closed (rowLines s (y .lines) (firstRow s here))) ≡ rowHeight s (firstRow s here) * size + q
+        → n * size + q ≡ length (closed (bandLines s view y (rowsIn s here)))
+    bytes-and n q f z =
         let d = ap length rows-band ∙ length-append (rowLines s (y .lines) (firstRow s here)) (cond (y .ruled) (ruleText view (y .rule) ∷ []) []) in
-        let z = B .pairs (omega (arith, rows-number s here)) u in
         omega (
           arith,
           bytes-summed (length (closed (rowLines s (y .lines) (firstRow s here)))) (cond (y .ruled) size 0) refl refl,
           z,
-          g,
           lines-of (y .ruled) (rowHeight s (firstRow s here)) n (omega (arith, f, d, lines-count s (y .lines) (firstRow s here))),
         )
       where
         lines-of : (b : Bool) (h n : ℕ) → n ≡ h + length (cond b (ruleText view (y .rule) ∷ []) []) → n * size ≡ h * size + cond b size 0
         lines-of true h n e = let k : n ≡ suc h = omega arith in rw k (suc-mul h size ∙ omega arith)
         lines-of false h n e = let k : n ≡ h = omega arith in rw k (omega arith)
+
+    -- without a limit those that its cells hold
+    pub bytes-held : firstRow s here .limit ≡ 0 → (n q : ℕ) → n ≡ length (bandLines s view y (rowsIn s here))
+        → q ≡ addedUpTo pairsHeld (firstRow s here .cells) view (view .count) → n * size + q ≡ length (closed (bandLines s view y (rowsIn s here)))
+    bytes-held u n q f g = bytes-and n q f (rw g (B .held (omega (arith, rows-number s here)) u))
+
+    band-height : rowHeight s (firstRow s here) ≤ length (bandLines s view y (rowsIn s here))
+    band-height =
+        let d = ap length rows-band ∙ length-append (rowLines s (y .lines) (firstRow s here)) (cond (y .ruled) (ruleText view (y .rule) ∷ []) []) in
+        omega (arith, d, lines-count s (y .lines) (firstRow s here))
+
+    -- else those that its lines show
+    pub bytes-shown : (n q : ℕ) → n ≡ length (bandLines s view y (rowsIn s here))
+        → q ≡ addedUpTo (pairsShown (tableOf s .indicator) (firstRow s here .limit) 0 n) (firstRow s here .cells) view (view .count)
+        → n * size + q ≡ length (closed (bandLines s view y (rowsIn s here)))
+    bytes-shown n q f g = bytes-and n q f (rw g (B .shown (omega (arith, rows-number s here)) n (omega (arith, f, band-height))))
+
+    pub bytes-few : length (bandLines s view y (rowsIn s here)) ≤ mostLines + 1
+    bytes-few =
+        let d = ap length rows-band ∙ length-append (rowLines s (y .lines) (firstRow s here)) (cond (y .ruled) (ruleText view (y .rule) ∷ []) []) in
+        omega (arith, d, lines-count s (y .lines) (firstRow s here), B .text (omega (arith, rows-number s here)) .bounded .few, one (y .ruled))
+      where
+        one : (b : Bool) → length (cond b (ruleText view (y .rule) ∷ []) []) ≤ 1
+        one true = omega arith
+        one false = omega arith
 
     -- they aren't too many
     pub text-most : length (closed (rowLines s (y .lines) (firstRow s here))) ≤ mostLines * (longestLine + 1)
@@ -253,6 +275,11 @@ module _ (s : List ℕ) (view : View) (y : RowStyle) (here : Rows) (plain : Bool
         ap (λ l. getD l n []) rows-band
         ∙ List·getD-append (rowLines s (y .lines) (firstRow s here)) (cond (y .ruled) (ruleText view (y .rule) ∷ []) []) [] n
         (omega (arith, lines-count s (y .lines) (firstRow s here)))
+
+    pub line-shown : (n q : ℕ) → n < rowHeight s (firstRow s here)
+        → q ≡ addedUpTo (pairsShown (tableOf s .indicator) (firstRow s here .limit) n 1) (firstRow s here .cells) view (view .count)
+        → size + q ≡ length (getD (bandLines s view y (rowsIn s here)) n []) + 1
+    line-shown n q h g = omega (arith, g, ap length (line-text n h), B .text (omega (arith, rows-number s here)) .shown n h)
 
     pub line-rule : (n : ℕ) → rowHeight s (firstRow s here) ≤ n → n < length (bandLines s view y (rowsIn s here))
         → size ≡ length (getD (bandLines s view y (rowsIn s here)) n []) + 1
@@ -304,10 +331,6 @@ bytes-most s view y here plain size B = by (ltb 0 (here .left)) refl
     by : (b : Bool) → ltb 0 (here .left) ≡ b → length (closed (bandLines s view y (rowsIn s here))) ≤ (mostLines + 1) * (longestLine + 1)
     by true e = band-most s view y here plain size B (ltb-true 0 (here .left) e)
     by false e = omega (arith, bytes-none s view y here plain size B (omega (arith, ltb-false 0 (here .left) e)))
-
--- an accepted sheet isn't long
-pub accepted-short : (s : List ℕ) → IsAccepted s → length s ≤ 32768
-accepted-short s h = let r = held s h in accepted s (tableOf s) (r .end) (r .reads) .short
 
 -- a band that has a line has a row
 pub band-there : (s : List ℕ) (view : View) (y : RowStyle) (here : Rows) (n : ℕ) → n < length (bandLines s view y (rowsIn s here)) → 0 < here .left

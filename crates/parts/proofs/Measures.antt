@@ -6,19 +6,21 @@ use mathlib.Core.Bool.{cond}
 use native.Mathlib.Omega.{arith}
 use native.Mathlib.Numerals.{add-one}
 use lib.ListN.{length, getD}
-use Rattle.rules.specs.Text.{sum, upFrom, oneIf}
-use Rattle.rules.specs.Sheet.{Row, Table, cellAt, noCell}
+use Rattle.rules.specs.Text.{sum, greatest, upFrom, oneIf}
+use Rattle.rules.specs.Sheet.{Cell, Row, Table, cellAt, noCell}
 use Rattle.rules.specs.Style.{anyLeft, anyRight, anyJunction, bordersOf}
 use Rattle.rules.specs.Widths.{visible, borders}
-use Rattle.rules.specs.Page.{visibleWidth, visibleWidths, lineLength, borderLength}
+use Rattle.rules.specs.Page.{visibleWidth, visibleWidths, wrapped, cellLines, height, lineLength, borderLength}
 use Rattle.laws.proofs.Cases.{oneIf-cond}
 use Rattle.laws.proofs.Counts.{line-length-bound, border-length-bound}
-use Rattle.laws.proofs.Lists.{upFrom-last, map-append}
-use Rattle.laws.proofs.RowBytes.{pairsOf}
+use Rattle.laws.proofs.Lists.{all-getD, upFrom-last, map-append}
+use Rattle.laws.proofs.RowBytes.{pairsOf, pairsAt, all-greatest}
 use Rattle.table.specs.Held.{tableOf}
 use Rattle.row.specs.View.{View, visibleAt, Views, shownOf, numberOf}
-use Rattle.row.specs.Height.{pairsUpTo}
+use Rattle.row.specs.Height.{addedUpTo, pairsHeld}
 use Rattle.row.specs.Packed.{columnFrom, viewOf}
+use Rattle.formatting.specs.Shown.{shownIn, keptLines, pairsShown}
+use Rattle.formatting.proofs.Shown.{shown-one, shown-all}
 use Rattle.borders.specs.Rule.{NarrowAll, ruleStyleOf}
 use Rattle.row.specs.declared.VisibleColumn.{VisibleColumn}
 use Rattle.row.proofs.Lent.{column-at}
@@ -107,25 +109,51 @@ lengths-are s cols p O a b i j n ea eb ei ej en =
 
 -- ---- pairs
 
--- the visible cells' pairs, by the columns' numbers
 module _ (t : Table) (ws : List ℕ) (view : View) (W : Views t ws view) (r : Row) where
-  cell-pairs : ℕ → ℕ
-  cell-pairs i = pairsOf (cellAt r (numberOf t i) .lines)
+  -- what is counted in the visible columns' cells, by the columns' numbers
+  module _ (f : Cell → VisibleColumn → ℕ) (g : ℕ → ℕ)
+      (same : (i : ℕ) → i < view .count → f (getD (r .cells) (visibleAt view i .number) noCell) (visibleAt view i) ≡ g (numberOf t i)) where
+    numbered : ℕ → ℕ
+    numbered i = g (numberOf t i)
 
-  pairs-at : (i : ℕ) → i < view .count → pairsOf (getD (r .cells) (visibleAt view i .number) noCell .lines) ≡ cell-pairs i
-  unfolding cell-pairs shownOf
-  pairs-at i h = ap (λ (v : VisibleColumn). pairsOf (getD (r .cells) (v .number) noCell .lines)) (W .each i h)
+    added-up-to : (n : ℕ) → n ≤ view .count → addedUpTo f (r .cells) view n ≡ sum (map numbered (upFrom 0 n))
+    unfolding addedUpTo numbered
+    added-up-to zero h = sym (no-sum numbered)
+    added-up-to (suc n) h =
+        let z : 0 + n ≡ n = omega arith in
+        let e : map numbered (upFrom 0 (suc n)) ≡ map numbered (upFrom 0 n) ++ (numbered n ∷ []) = ap (map numbered)
+        (upFrom-last 0 n ∙ ap (λ m. upFrom 0 n ++ (m ∷ [])) z) ∙ map-append numbered (upFrom 0 n) (n ∷ []) in
+        omega (arith, added-up-to n (omega arith), same n (omega arith), ap sum e, sum-snoc (map numbered (upFrom 0 n)) (numbered n))
 
-  pairs-up-to : (n : ℕ) → n ≤ view .count → pairsUpTo (r .cells) view n ≡ sum (map cell-pairs (upFrom 0 n))
-  unfolding pairsUpTo
-  pairs-up-to zero h = sym (no-sum cell-pairs)
-  pairs-up-to (suc n) h =
-      let z : 0 + n ≡ n = omega arith in
-      let e : map cell-pairs (upFrom 0 (suc n)) ≡ map cell-pairs (upFrom 0 n) ++ (cell-pairs n ∷ []) = ap (map cell-pairs)
-      (upFrom-last 0 n ∙ ap (λ m. upFrom 0 n ++ (m ∷ [])) z) ∙ map-append cell-pairs (upFrom 0 n) (n ∷ []) in
-      omega (arith, pairs-up-to n (omega arith), pairs-at n (omega arith), ap sum e, sum-snoc (map cell-pairs (upFrom 0 n)) (cell-pairs n))
+    added-sum : addedUpTo f (r .cells) view (view .count) ≡ sum (map g (visible t))
+    unfolding numbered
+    added-sum = added-up-to (view .count) (omega arith) ∙ sym (ap sum (map-numbered g 0 (visible t) ∙ ap
+        (λ n. map numbered (upFrom 0 n)) (sym (W .count))))
 
-  pub pairs-sum : pairsUpTo (r .cells) view (view .count) ≡ sum (map (λ j. pairsOf (cellAt r j .lines)) (visible t))
-  unfolding cell-pairs
-  pairs-sum = pairs-up-to (view .count) (omega arith) ∙ sym (ap sum (map-numbered (λ j. pairsOf (cellAt r j .lines)) 0 (visible t) ∙ ap
-      (λ n. map cell-pairs (upFrom 0 n)) (sym (W .count))))
+  -- the pairs that visible cells hold
+  pub held-sum : addedUpTo pairsHeld (r .cells) view (view .count) ≡ sum (map (λ j. pairsOf (cellAt r j .lines)) (visible t))
+  unfolding shownOf
+  held-sum = added-sum pairsHeld (λ j. pairsOf (cellAt r j .lines))
+      (λ i h. ap (λ (v : VisibleColumn). pairsOf (getD (r .cells) (v .number) noCell .lines)) (W .each i h))
+
+  kept-is : (i : ℕ) → i < view .count
+      → keptLines (t .indicator) (r .limit) (getD (r .cells) (visibleAt view i .number) noCell) (visibleAt view i) ≡ cellLines t ws r (numberOf t i)
+  unfolding shownOf wrapped cellLines
+  kept-is i h = rw (W .each i h)
+
+  -- those that they show in line k
+  pub line-sum : (k : ℕ) → addedUpTo (pairsShown (t .indicator) (r .limit) k 1) (r .cells) view (view .count)
+      ≡ sum (map (λ j. pairsAt (cellLines t ws r j) k) (visible t))
+  line-sum k = added-sum (pairsShown (t .indicator) (r .limit) k 1) (λ j. pairsAt (cellLines t ws r j) k)
+      (λ i h. shown-one (keptLines (t .indicator) (r .limit) (getD (r .cells) (visibleAt view i .number) noCell) (visibleAt view i)) k
+      ∙ ap (λ ls. pairsAt ls k) (kept-is i h))
+
+  -- and in all lines
+  pub shown-sum : (n : ℕ) → height t ws r ≤ n → addedUpTo (pairsShown (t .indicator) (r .limit) 0 n) (r .cells) view (view .count)
+      ≡ sum (map (λ j. pairsOf (cellLines t ws r j)) (visible t))
+  unfolding height
+  shown-sum n h = added-sum (pairsShown (t .indicator) (r .limit) 0 n) (λ j. pairsOf (cellLines t ws r j))
+      (λ i k.
+      let few = all-getD (λ j. length (cellLines t ws r j) ≤ greatest (map (λ j. length (cellLines t ws r j)) (visible t))) (visible t) i 0
+      (omega (arith, W .count)) (all-greatest (λ j. length (cellLines t ws r j)) (visible t)) in
+      ap (λ ls. shownIn ls 0 n) (kept-is i k) ∙ shown-all (cellLines t ws r (numberOf t i)) n (omega arith))

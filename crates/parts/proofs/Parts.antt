@@ -16,19 +16,22 @@ use Rattle.rules.specs.Style.{topBorder, headerLines, headerRule, contentLines,
 use Rattle.rules.specs.Widths.{visible}
 use Rattle.rules.specs.Page.{areas, areaAt, textLine, rowText, visibleWidths, borderLength, closed, ruled, shown, headed, ruledRows, ruledMore, framed}
 use Rattle.laws.proofs.Areas.{length-areas, line-at, visible-some}
-use Rattle.laws.proofs.RowBytes.{row-bytes}
+use Rattle.laws.proofs.RowBytes.{line-bytes, row-shown, row-bytes}
 use Rattle.laws.proofs.Counts.{height-bound, text-line-bound, text-line-most}
 use Rattle.laws.proofs.Lines.{plain-row, rule-length, border-length}
 use Rattle.laws.proofs.Lists.{all-drop, all-getD, all-left, all-right, getD-map}
-use Rattle.table.specs.Held.{tableOf}
+use Rattle.table.specs.Held.{IsAccepted, tableOf}
+use Rattle.table.proofs.Held.{held}
+use Rattle.laws.proofs.Accepted.{accepted}
 use Rattle.table.specs.Walk.{rowsIn, firstRow, RowsNext}
 use Rattle.table.specs.declared.records.Rows.{Rows}
 use Rattle.table.proofs.Walks.{rows-number}
 use Rattle.row.specs.Packed.{viewOf}
 use Rattle.cells.specs.Cell.{TextIs}
 use Rattle.row.specs.Open.{CellKnown}
-use Rattle.row.specs.Height.{pairsUpTo}
-use Rattle.parts.proofs.Measures.{pairs-sum}
+use Rattle.row.specs.Height.{addedUpTo, pairsHeld}
+use Rattle.formatting.specs.Shown.{pairsShown}
+use Rattle.parts.proofs.Measures.{held-sum, line-sum, shown-sum}
 use Rattle.formatting.specs.RowText.{styled, rowLines, rowHeight, mostBytes, Sized, Drawable}
 use Rattle.borders.specs.Rule.{ruleText, ruleStyleOf}
 use Rattle.formatting.specs.Stand.{textStyleOf}
@@ -90,6 +93,10 @@ cells-known plain (x ∷ xs) a h = (
 )
 
 -- the first of some rows can be drawn
+-- an accepted sheet isn't too long
+pub accepted-short : (s : List ℕ) → IsAccepted s → length s ≤ 32768
+accepted-short s h = let r = held s h in accepted s (tableOf s) (r .end) (r .reads) .short
+
 pub drawable : (s : List ℕ) (cols : List (List ℕ)) (p : Page) → Opened s cols p → (c : Rows) → RowsAt s c → 0 < c .left
     → Drawable s (viewOf cols (p .count)) (p .plain) c
 drawable s cols p O c A h = record {
@@ -99,6 +106,7 @@ drawable s cols p O c A h = record {
   rising = O .rising;
   usable = O .usable;
   known = cells-known (p .plain) (firstRow s c .cells) (first-limits s c A h .each) (λ e. first-has PlainRow s c A h (O .plain e));
+  short = accepted-short s (O .passes);
 }
 
 pub row-height-few : (s : List ℕ) (c : Rows) → RowsAt s c → 0 < c .left → rowHeight s (firstRow s c) ≤ 6448
@@ -362,7 +370,7 @@ module _ (s : List ℕ) (cols : List (List ℕ)) (p : Page) (O : Opened s cols p
         )
 
     text-sized : (k : ℕ) (here : Rows) → RowsAt s here → 0 < here .left
-        → Sized s (textStyleOf (tableOf s .style) k) (firstRow s here) (p .plain) (p .count) (l .line + 1)
+        → Sized s (textStyleOf (tableOf s .style) k) (firstRow s here) (p .plain) (viewOf cols (p .count)) (l .line + 1)
     text-sized k here A h =
         let T = limits-of s (O .passes) in
         let r = firstRow s here in
@@ -375,6 +383,14 @@ module _ (s : List ℕ) (cols : List (List ℕ)) (p : Page) (O : Opened s cols p
           small = omega (arith, L .line-small);
           each = plain-each k here A h;
           most = λ j i. most-of (p .plain) refl j i;
+          shown = λ j i.
+              omega (
+                arith,
+                ap length (text-at k r j i),
+                line-bytes (tableOf s) (widthsIn s) r k j,
+                line-sum (tableOf s) (widthsIn s) (viewOf cols (p .count)) (O .views) r j,
+                L .line,
+              );
         }
       where
         most-of : (b : Bool) → p .plain ≡ b → (j : ℕ) → j < rowHeight s (firstRow s here)
@@ -387,13 +403,23 @@ module _ (s : List ℕ) (cols : List (List ℕ)) (p : Page) (O : Opened s cols p
 
     text-pairs : (k : ℕ) (here : Rows) → RowsAt s here → 0 < here .left → firstRow s here .limit ≡ 0
         → length (closed (rowLines s (textStyleOf (tableOf s .style) k) (firstRow s here)))
-        ≡ rowHeight s (firstRow s here) * (l .line + 1) + pairsUpTo (firstRow s here .cells) (viewOf cols (p .count)) (p .count)
+        ≡ rowHeight s (firstRow s here) * (l .line + 1) + addedUpTo pairsHeld (firstRow s here .cells) (viewOf cols (p .count)) (p .count)
     text-pairs k here A h u =
         let t = tableOf s in
         let r = firstRow s here in
         let e = row-bytes t (limits-of s (O .passes)) (widthsIn s) (visible-some t) r (first-limits s here A h .each) u k in
         ap (λ ls. length (closed ls)) (text-styled s k r) ∙ e
-        ∙ rw (← pairs-sum t (widthsIn s) (viewOf cols (p .count)) (O .views) r, ← L .line)
+        ∙ rw (← held-sum t (widthsIn s) (viewOf cols (p .count)) (O .views) r, ← L .line)
+
+    text-shown : (k : ℕ) (here : Rows) (n : ℕ) → rowHeight s (firstRow s here) ≤ n
+        → length (closed (rowLines s (textStyleOf (tableOf s .style) k) (firstRow s here)))
+        ≡ rowHeight s (firstRow s here) * (l .line + 1)
+        + addedUpTo (pairsShown (tableOf s .indicator) (firstRow s here .limit) 0 n) (firstRow s here .cells) (viewOf cols (p .count)) (p .count)
+    text-shown k here n h =
+        let t = tableOf s in
+        let r = firstRow s here in
+        ap (λ ls. length (closed ls)) (text-styled s k r) ∙ row-shown t (widthsIn s) r k
+        ∙ rw (← shown-sum t (widthsIn s) (viewOf cols (p .count)) (O .views) r n h, ← L .line)
 
     rule-sized : (k : ℕ) → l .line + 1 ≡ length (ruleText (viewOf cols (p .count))
         (ruleStyleOf (tableOf s .style) (anyJunction (tableOf s .style)) k)) + 1
@@ -424,7 +450,8 @@ module _ (s : List ℕ) (cols : List (List ℕ)) (p : Page) (O : Opened s cols p
     unfolding stylesOf
     header-sized = rw (O .styles) (record {
       text = λ h. text-sized headerLines (p .header) (O .header-at) (omega (arith, rows-number s (p .header)));
-      pairs = λ h. text-pairs headerLines (p .header) (O .header-at) (omega (arith, rows-number s (p .header)));
+      held = λ h. text-pairs headerLines (p .header) (O .header-at) (omega (arith, rows-number s (p .header)));
+      shown = λ h. text-shown headerLines (p .header);
       rule = rule-sized headerRule;
       small = omega (arith, L .line-small);
     })
@@ -434,7 +461,8 @@ module _ (s : List ℕ) (cols : List (List ℕ)) (p : Page) (O : Opened s cols p
     unfolding stylesOf
     body-sized here y A e = rw (e, O .styles) (record {
       text = λ h. text-sized contentLines here A (omega (arith, rows-number s here));
-      pairs = λ h. text-pairs contentLines here A (omega (arith, rows-number s here));
+      held = λ h. text-pairs contentLines here A (omega (arith, rows-number s here));
+      shown = λ h. text-shown contentLines here;
       rule = rule-sized rowRule;
       small = omega (arith, L .line-small);
     })

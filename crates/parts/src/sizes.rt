@@ -1,4 +1,4 @@
-// The bytes of a part's lines. On a plain page they follow from their number; otherwise text lines differ in length, and are measured.
+// The bytes of a part's lines. On a plain page they follow from their number; otherwise the pairs that text lines show come on top.
 ghost use mathlib.Core.Path.{_≡_};
 ghost use mathlib.Core.List.{[]};
 ghost use Prim.Native.Nat.{_+_, _<_};
@@ -12,7 +12,6 @@ ghost use Rattle.parts.specs.Lengths.{LengthsAre};
 ghost use Rattle.parts.specs.Band.{bandLines, SizedBand};
 use crate::cursor::Cursor;
 use crate::cursor::Stage;
-use crate::lengths;
 use crate::lengths::Lengths;
 use crate::part;
 use display_info::Page;
@@ -22,8 +21,8 @@ use rules::MOST_COLUMNS;
 use table::records::Rows;
 use table::walk;
 
-// The bytes of the first of some rows and of the rule after it, n lines, of which the rule takes `size` bytes. A row without limit shows each pair
-// of its visible cells once, so that its lines needn't be measured.
+// The bytes of the first of some rows and of the rule after it, n lines of `size` bytes and the pairs that they show. A row without limit shows
+// each pair of its visible cells once, so that it needn't be wrapped.
 fn band_bytes(
     sheet: &[u8],
     columns: &[[usize; 6]; MOST_COLUMNS],
@@ -50,9 +49,7 @@ fn band_bytes(
         return n * size + row::row_pairs(sheet, columns, p.count, cells);
     }
     let indicator = p.indicator;
-    let lines = style.lines;
-    let text = row_size::row_bytes(sheet, columns, p.count, indicator, lines, here, p.plain);
-    text + lengths::where_drawn(style.ruled, size)
+    n * size + row_size::row_shown(sheet, columns, p.count, indicator, here, 0, n, p.plain)
 }
 
 // The bytes of the part that the cursor stands before, which has n lines.
@@ -112,8 +109,17 @@ fn band_line(
     }
     if n < part::row_lines(sheet, columns, p.count, here, p.plain) {
         let indicator = p.indicator;
-        let lines = style.lines;
-        return row_size::line_bytes(sheet, columns, p.count, indicator, lines, here, n, p.plain);
+        let pairs = row_size::row_shown(
+            sheet,
+            columns,
+            p.count,
+            indicator,
+            here,
+            n,
+            n + 1,
+            p.plain,
+        );
+        return size + pairs;
     }
     size
 }

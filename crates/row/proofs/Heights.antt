@@ -3,6 +3,7 @@ use Prim.Native.Nat.{ℕ, _+_, _-_, _*_, _≤_, _<_, max}
 use mathlib.Core.Path.{_≡_, refl, sym, ap, _∙_}
 use mathlib.Core.List.{List}
 use native.Mathlib.Omega.{arith}
+use native.Mathlib.Nat.{mul-suc}
 use native.Mathlib.Numerals.{add-one}
 use lib.ListN.{length, drop}
 use Rattle.rules.specs.Text.{orElse}
@@ -15,7 +16,7 @@ use Rattle.table.specs.declared.records.Cells.{Cells}
 use Rattle.table.specs.declared.records.Cell as records
 use Rattle.row.specs.View.{View, visibleAt}
 use Rattle.row.specs.Open.{Rising}
-use Rattle.row.specs.Height.{cellHeight, heightUpTo, pairsUpTo}
+use Rattle.row.specs.Height.{cellHeight, heightUpTo, addedUpTo}
 use Rattle.row.specs.declared.VisibleColumn.{VisibleColumn}
 use Rattle.row.proofs.Open.{blank-line, no-cells, Passing, passing-begins, passing-on, cell-here}
 
@@ -66,32 +67,35 @@ pub pairs-missing : (s : List ℕ) (c : Cells) → c .left ≡ 0 → (0 ≡ pair
 unfolding pairsOf
 pairs-missing s c h = (rw (no-cells s c h) (omega (arith, width-nil)), omega arith)
 
--- the columns before i are counted
-pub record Adding (s : List ℕ) (view : View) (xs : List Cell) (left : Cells) (passed sum i : ℕ) : Type 0 where
+-- the columns before i are counted, none of them by more than `most`
+pub record Adding (f : Cell → VisibleColumn → ℕ) (most : ℕ) (s : List ℕ) (view : View) (xs : List Cell) (left : Cells) (passed sum i : ℕ) : Type 0 where
   pub passing : Passing s view xs left passed i
-  pub total : sum ≡ pairsUpTo xs view i
-  pub small : sum ≤ i * 32768
+  pub total : sum ≡ addedUpTo f xs view i
+  pub small : sum ≤ most * i
 
-pub adding-begins : (s : List ℕ) (view : View) (c : Cells) → cellsEnd s c ≤ length s → Adding s view (cellsIn s c) c 0 0 0
-unfolding pairsUpTo
-adding-begins s view c h = record { passing = passing-begins s view c h; total = refl; small = omega arith }
+module _ (f : Cell → VisibleColumn → ℕ) (most : ℕ) (s : List ℕ) (view : View) where
+  pub adding-begins : (c : Cells) → cellsEnd s c ≤ length s → Adding f most s view (cellsIn s c) c 0 0 0
+  unfolding addedUpTo
+  adding-begins c h = record { passing = passing-begins s view c h; total = refl; small = omega arith }
 
-pub adding-on : (s : List ℕ) (view : View) → Rising view → length s ≤ 32768 → (xs : List Cell) (left : Cells) (passed sum i : ℕ)
-    → Adding s view xs left passed sum i → i < view .count
-    → (next : Cells) (n : ℕ) → cellsIn s next ≡ drop (visibleAt view i .number - passed) (cellsIn s left) → cellsEnd s next ≡ cellsEnd s left
-    → (n ≡ pairsOf (firstCell s next .lines)) × (n ≤ length s) → Adding s view xs next (visibleAt view i .number) (sum + n) (i + 1)
-unfolding pairsUpTo
-adding-on s view R k xs left passed sum i A h next n e f o =
-    let d = cell-here s view xs left passed i (A .passing) h next e in
-    record {
-      passing = passing-on s view xs left passed i (A .passing) h next e R f;
-      total = rw (add-one i) (omega (arith, A .total, o .0, ap (λ (x : Cell). pairsOf (x .lines)) d));
-      small = omega (arith, A .small, o .1);
-    }
+  module _ (xs : List Cell) (left : Cells) (passed sum i : ℕ) (A : Adding f most s view xs left passed sum i) where
+    pub adding-on : Rising view → i < view .count → (next : Cells) (n : ℕ) → cellsIn s next ≡ drop (visibleAt view i .number - passed) (cellsIn s left)
+        → cellsEnd s next ≡ cellsEnd s left → (n ≡ f (firstCell s next) (visibleAt view i)) × (n ≤ most)
+        → Adding f most s view xs next (visibleAt view i .number) (sum + n) (i + 1)
+    unfolding addedUpTo
+    adding-on R h next n e k o =
+        let d = cell-here s view xs left passed i (A .passing) h next e in
+        record {
+          passing = passing-on s view xs left passed i (A .passing) h next e R k;
+          total = rw (add-one i) (omega (arith, A .total, o .0, ap (λ (x : Cell). f x (visibleAt view i)) d));
+          small = more-room most i (omega (arith, A .small, o .1));
+        }
+      where
+        more-room : (m i : ℕ) → sum + n ≤ m * i + m → sum + n ≤ m * (i + 1)
+        more-room m i h = rw (add-one i, mul-suc m i) (omega arith)
 
-pub adding-done : (s : List ℕ) (view : View) (xs : List Cell) (left : Cells) (passed sum i : ℕ) → Adding s view xs left passed sum i → view .count ≤ i
-    → (sum ≡ pairsUpTo xs view (view .count)) × (sum ≤ view .count * 32768)
-adding-done s view xs left passed sum i A h =
-    let w = A .passing .within in
-    let e : i ≡ view .count = omega arith in
-    (rw e at (A .total), rw e at (A .small))
+    pub adding-done : view .count ≤ i → (sum ≡ addedUpTo f xs view (view .count)) × (sum ≤ most * view .count)
+    adding-done h =
+        let w = A .passing .within in
+        let e : i ≡ view .count = omega arith in
+        (rw e at (A .total), rw e at (A .small))

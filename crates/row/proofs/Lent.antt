@@ -20,7 +20,6 @@ use Rattle.row.specs.declared.VisibleColumn.{VisibleColumn}
 use Rattle.row.specs.declared.Pending.{Pending}
 use Rattle.row.proofs.Open.{Passing, Opening, cells-known, opening-on}
 use Rattle.row.proofs.Heights.{Measuring, measuring-on, Adding, adding-on}
-use Rattle.laws.proofs.RowBytes.{pairsOf}
 
 -- ---- one column, one line
 
@@ -136,10 +135,10 @@ module _ (s : List ℕ) (cols : List (List ℕ)) (n : ℕ) (R : Rising (viewOf c
   here-i : v ≡ visibleAt (viewOf cols n) i
   here-i = e ∙ sym (column-at cols n i)
 
-  module _ (sum : ℕ) (A : Adding s (viewOf cols n) xs left passed sum i) where
+  module _ (f : Cell → VisibleColumn → ℕ) (most sum : ℕ) (A : Adding f most s (viewOf cols n) xs left passed sum i) where
     pub add-order : passed ≤ v .number
     add-order = rw here-i (A .passing .order i (omega arith) h)
 
-    pub add-on : length s ≤ 32768 → (next : Cells) (k : ℕ) → cellsIn s next ≡ drop (v .number - passed) (cellsIn s left) → cellsEnd s next ≡ cellsEnd s left
-        → (k ≡ pairsOf (firstCell s next .lines)) × (k ≤ length s) → Adding s (viewOf cols n) xs next (v .number) (sum + k) (i + 1)
-    add-on w next k a b o = rw here-i (adding-on s (viewOf cols n) R w xs left passed sum i A h next k (rw here-i at a) b o)
+    pub add-on : (next : Cells) (k : ℕ) → cellsIn s next ≡ drop (v .number - passed) (cellsIn s left) → cellsEnd s next ≡ cellsEnd s left
+        → (k ≡ f (firstCell s next) v) × (k ≤ most) → Adding f most s (viewOf cols n) xs next (v .number) (sum + k) (i + 1)
+    add-on next k a b o = rw here-i (adding-on f most s (viewOf cols n) xs left passed sum i A R h next k (rw here-i at a) b (rw here-i at o))

@@ -18,10 +18,14 @@ unfoldable pub heightUpTo : List Cell → View → ℕ → ℕ
 heightUpTo xs view zero = 0
 heightUpTo xs view (suc n) = max (heightUpTo xs view n) (cellHeight (getD xs (visibleAt view n .number) noCell) (visibleAt view n))
 
--- the pairs of the cells in the first n visible columns
-unfoldable pub pairsUpTo : List Cell → View → ℕ → ℕ
-pairsUpTo xs view zero = 0
-pairsUpTo xs view (suc n) = pairsUpTo xs view n + pairsOf (getD xs (visibleAt view n .number) noCell .lines)
+-- what f counts in the cells of the first n visible columns, added up
+unfoldable pub addedUpTo : (Cell → VisibleColumn → ℕ) → List Cell → View → ℕ → ℕ
+addedUpTo f xs view zero = 0
+addedUpTo f xs view (suc n) = addedUpTo f xs view n + f (getD xs (visibleAt view n .number) noCell) (visibleAt view n)
+
+-- the pairs that the cell x holds
+abbrev pub pairsHeld : Cell → VisibleColumn → ℕ
+pairsHeld x v = pairsOf (x .lines)
 
 -- the lines that a limit leaves, 0 being none
 unfoldable pub limited : ℕ → ℕ → ℕ

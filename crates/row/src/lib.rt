@@ -9,7 +9,7 @@ ghost use Rattle.rules.specs.Sheet.{mostColumns};
 ghost use Rattle.rules.specs.Limits.{Printable};
 ghost use Rattle.table.specs.Walk.{cellsIn, cellsEnd, firstCell};
 ghost use Rattle.laws.proofs.RowBytes.{pairsOf};
-ghost use Rattle.row.specs.Height.{cellHeight, heightUpTo, pairsUpTo};
+ghost use Rattle.row.specs.Height.{cellHeight, heightUpTo, addedUpTo, pairsHeld};
 ghost use Rattle.row.specs.Pending.{anyFound};
 ghost use Rattle.row.specs.Open.{CellKnown, OpenedAt, OpenedRow, Rising, UsableAll, missing};
 ghost use Rattle.row.specs.Packed.{viewOf, pendingsOf};
@@ -62,7 +62,7 @@ fn missing_cell(v: VisibleColumn, n: usize) -> Pending
 }
 
 // The first of the cells at its line n.
-fn open_cell(sheet: &[u8], cells: Cells, v: VisibleColumn, n: usize, plain: bool) -> Pending
+pub fn open_cell(sheet: &[u8], cells: Cells, v: VisibleColumn, n: usize, plain: bool) -> Pending
     requires { ⌜ (0 < v .width) × Printable (v .delimiter) ⌝ }
     requires { ⌜ (cellsEnd (now sheet) cells ≤ length (now sheet)) × All (CellKnown plain) (cellsIn (now sheet) cells) ⌝ }
     ensures { λ r. ⌜ OpenedAt (now (sheet .entry)) (firstCell (now (sheet .entry)) cells) v n r ⌝ }
@@ -184,7 +184,7 @@ pub fn row_pairs(
     from: Cells,
 ) -> usize
     requires { ⌜ Rising (viewOf (now columns) count) × ((cellsEnd (now sheet) from ≤ length (now sheet)) × (length (now sheet) ≤ 32768)) ⌝ }
-    ensures { λ r. ⌜ (r ≡ pairsUpTo (cellsIn (now (sheet .entry)) from) (viewOf (now (columns .entry)) count) count) × (r ≤ count * 32768) ⌝ }
+    ensures { λ r. ⌜ (r ≡ addedUpTo pairsHeld (cellsIn (now (sheet .entry)) from) (viewOf (now (columns .entry)) count) count) × (r ≤ 32768 * count) ⌝ }
 {
     let mut left = from;
     let mut passed: usize = 0;
