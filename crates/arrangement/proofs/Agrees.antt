@@ -32,7 +32,7 @@ pub record Agrees (l : Layout) (t : Table) (s : State) (u : doc.State) : Type 0 
   pub fits : s .decided < 2 ^ setWidth
   pub widths : take (l .count) (s .widths) ≡ u .widths
   pub past : (j : ℕ) → l .count ≤ j → getD (s .widths) j 0 ≡ 0
-  pub noted : (j : ℕ) → j < l .count → decided l j s ≡ not (isUndecided u j)
+  pub noted : (j : ℕ) → j < l .count → decided (column l j) j s ≡ not (isUndecided u j)
   pub seen : s .visible ≡ length (doc.visible t)
   pub counted : doc.undecided u + ones (s .decided) ≡ length (doc.visible t)
   pub remaining : s .remaining ≡ u .remaining
@@ -48,7 +48,7 @@ zeros-set (zero ∷ ws) (suc i) (suc v) h e p = omega (arith, zeros-set ws i (su
 zeros-set (suc x ∷ ws) (suc i) (suc v) h e p = omega (arith, zeros-set ws i (suc v) (le-of-suc-le-suc h) e p)
 
 -- a column that is undecided is shown
-pub undecided-shown : (l : Layout) (i : ℕ) (s : State) → decided l i s ≡ false → isHidden (column l i) ≡ false
+pub undecided-shown : (l : Layout) (i : ℕ) (s : State) → decided (column l i) i s ≡ false → isHidden (column l i) ≡ false
 undecided-shown l i s e = go (isHidden (column l i)) e
   where
     go : (b : Bool) → choose b true (eqb (bit (s .decided) i) 1) ≡ false → b ≡ false
@@ -66,21 +66,21 @@ module _ (l : Layout) (t : Table) (d : Describes l t) where
     pub width-as : (j : ℕ) → j < l .count → getD (s .widths) j 0 ≡ getD (u .widths) j 0
     width-as j h = sym (getD-take (l .count) (s .widths) j 0 h) ∙ ap (λ (ws : List ℕ). getD ws j 0) (a .widths)
 
-    module _ (i w : ℕ) (h : i < l .count) (o : decided l i s ≡ false) where
+    module _ (i w : ℕ) (h : i < l .count) (o : decided (column l i) i s ≡ false) where
       z : bit (s .decided) i ≡ 0
-      z = open-bit l i s o
+      z = open-bit (column l i) i s o
 
       was : getD (u .widths) i 0 ≡ 0
       was = eqb-true (getD (u .widths) i 0) 0 (not-false (isUndecided u i) (sym (a .noted i h) ∙ o))
 
-      now-noted : decided l i (fixed s i w) ≡ not (isUndecided (fix i w u) i)
+      now-noted : decided (column l i) i (fixed s i w) ≡ not (isUndecided (fix i w u) i)
       unfolding fix
       now-noted =
           let k = length-as in
           let n : eqb (lifted w) 0 ≡ false = ne-eqb (lifted w) 0 (omega arith) in
           rw (undecided-shown l i s o, bit-same i (s .decided) z, getD-set-same (u .widths) i (lifted w) 0 (omega arith), n)
 
-      still-noted : (j : ℕ) → j < l .count → (j ≡ i → ⊥) → decided l j (fixed s i w) ≡ not (isUndecided (fix i w u) j)
+      still-noted : (j : ℕ) → j < l .count → (j ≡ i → ⊥) → decided (column l j) j (fixed s i w) ≡ not (isUndecided (fix i w u) j)
       unfolding fix
       still-noted j k n = rw (bit-other i j (s .decided) z n, getD-set-other (u .widths) i j (lifted w) 0 n) (a .noted j k)
 
@@ -93,14 +93,14 @@ module _ (l : Layout) (t : Table) (d : Describes l t) where
             fits = add-lt setWidth (s .decided) i (omega (arith, d .few)) (a .fits) z;
             widths = take-set-lt (l .count) (s .widths) i (lifted w) h ∙ ap (λ (ws : List ℕ). set ws i (lifted w)) (a .widths);
             past = λ j k. getD-set-other (s .widths) i j (lifted w) 0 (λ e. omega arith) ∙ a .past j k;
-            noted = λ j k. by-place (λ (x : ℕ). x < l .count → decided l x (fixed s i w) ≡ not (isUndecided (fix i w u) x)) j i (λ q. now-noted)
+            noted = λ j k. by-place (λ (x : ℕ). x < l .count → decided (column l x) x (fixed s i w) ≡ not (isUndecided (fix i w u) x)) j i (λ q. now-noted)
                 (λ n q. still-noted j q n) k;
             seen = a .seen;
             counted = omega (arith, a .counted, count-add i (s .decided) z, zeros-set (u .widths) i (lifted w) (omega (arith, length-as)) was (omega arith));
             remaining = ap (λ (n : ℕ). n - w) (a .remaining);
           }
 
-    visit-go : (i : ℕ) → i < l .count → (b c : Bool) (o : Option ℕ) → decided l i s ≡ b → b ≡ not c
+    visit-go : (i : ℕ) → i < l .count → (b c : Bool) (o : Option ℕ) → decided (column l i) i s ≡ b → b ≡ not c
         → Agrees l t (choose b s (taking s i o)) (elim c as (λ x. doc.State) [ true ↦ fixAt i o u | false ↦ u ])
     unfolding fixAt
     visit-go i h true true o e n = absurd (unlike true refl n)
@@ -115,7 +115,7 @@ module _ (l : Layout) (t : Table) (d : Describes l t) where
   unfolding step visit
   visit-agrees rule r same i h s u a =
       let e : rule l i s ≡ r i (doc.average u) = same i s h (a .seen) ∙ ap (r i) (average-as s u a) in
-      rw e (visit-go s u a i h (decided l i s) (isUndecided u i) (r i (doc.average u)) refl (a .noted i h))
+      rw e (visit-go s u a i h (decided (column l i) i s) (isUndecided u i) (r i (doc.average u)) refl (a .noted i h))
 
   pass-below : (rule : Rule) (r : doc.Rule) → SameRule l t d rule r → (s : State) (u : doc.State) → Agrees l t s u → (n : ℕ) → n ≤ l .count
       → Agrees l t (inOrder (step rule l) n s) (doc.pass r n u)

@@ -85,7 +85,7 @@ module _ (l : Layout) (t : Table) (d : Describes l t) where
     unspent : s .remaining ≡ 0
     done : (j : ℕ) → j < i → getD (s .widths) j 0 ≡ doc.first t j
     todo : (j : ℕ) → i ≤ j → getD (s .widths) j 0 ≡ 0
-    known : (j : ℕ) → j < i → decided l j s ≡ not (eqb (doc.first t j) 0)
+    known : (j : ℕ) → j < i → decided (column l j) j s ≡ not (eqb (doc.first t j) 0)
     out : (j : ℕ) → i ≤ j → bit (s .decided) j ≡ 0
     counted : zeros (map (doc.first t) (upFrom 0 i)) + ones (s .decided) ≡ length (keep (shown t) (upFrom 0 i))
 
@@ -100,10 +100,10 @@ module _ (l : Layout) (t : Table) (d : Describes l t) where
     set-todo v j k = getD-set-other (s .widths) i j v 0 (λ e. omega arith) ∙ b .todo j (omega arith)
 
     -- the others are decided as they were
-    now-known : (u : State) → decided l i u ≡ not (eqb (doc.first t i) 0) → ((j : ℕ) → j < i → decided l j u ≡ decided l j s) → (j : ℕ) → j < suc i
-        → decided l j u ≡ not (eqb (doc.first t j) 0)
+    now-known : (u : State) → decided (column l i) i u ≡ not (eqb (doc.first t i) 0) → ((j : ℕ) → j < i → decided (column l j) j u ≡ decided (column l j) j s) → (j : ℕ) → j < suc i
+        → decided (column l j) j u ≡ not (eqb (doc.first t j) 0)
     now-known u e f j k =
-        by-place (λ (x : ℕ). x < suc i → decided l x u ≡ not (eqb (doc.first t x) 0)) j i
+        by-place (λ (x : ℕ). x < suc i → decided (column l x) x u ≡ not (eqb (doc.first t x) 0)) j i
         (λ q. e) (λ n q. f j (omega arith) ∙ b .known j (omega arith)) k
 
     hide-begun : isHidden (columnAt t i) ≡ true → Begun (suc i) (hide l i s)
@@ -123,7 +123,7 @@ module _ (l : Layout) (t : Table) (d : Describes l t) where
           counted = omega (arith, b .counted, zeros-some (doc.first t) i (omega arith), ap length (keep-no (shown t) i (ap not e)));
         }
 
-    open-visible : isHidden (columnAt t i) ≡ false → decided l i s ≡ false
+    open-visible : isHidden (columnAt t i) ≡ false → decided (column l i) i s ≡ false
     open-visible e = rw (hidden-as l t d i h, e, b .out i (omega arith))
 
     length-shown : isHidden (columnAt t i) ≡ false → length (keep (shown t) (upFrom 0 (suc i))) ≡ length (keep (shown t) (upFrom 0 i)) + 1
@@ -174,7 +174,7 @@ module _ (l : Layout) (t : Table) (d : Describes l t) where
     evaluated-begun = go (isHidden (columnAt t i)) refl
       where
         go : (x : Bool) → isHidden (columnAt t i) ≡ x
-            → Begun (suc i) (choose (isHidden (column l i)) (hide l i s) (choose (decided l i s) s (taking s i (first l i s))))
+            → Begun (suc i) (choose (isHidden (column l i)) (hide l i s) (choose (decided (column l i) i s) s (taking s i (first l i s))))
         go true e = rw (hidden-as l t d i h, e) (hide-begun e)
         go false e = let o = open-visible e in rw (o, hidden-as l t d i h, e) (taking-begun (first l i s) e (sym (first-as l t d i s h (b .seen) e)))
 
@@ -242,7 +242,7 @@ module _ (l : Layout) (t : Table) (d : Describes l t) where
         go true y e q = rw (hidden-as l t d i h, e, taken-hidden t i e) (omega arith)
         go false true e q = rw (hidden-as l t d i h, e, q, taken-shown t i e, b .done i h, d .column i h)
         go false false e q =
-            let k : decided l i s ≡ false = rw (hidden-as l t d i h, e) q in
+            let k : decided (column l i) i s ≡ false = rw (hidden-as l t d i h, e) q in
             let z : doc.first t i ≡ 0 = eqb-true (doc.first t i) 0 (not-false (eqb (doc.first t i) 0) (sym (b .known i h) ∙ k)) in
             rw (hidden-as l t d i h, e, q, taken-shown t i e, z, d .column i h) (omega arith)
 

@@ -192,7 +192,7 @@ module _ (l : Layout) (t : Table) (d : Describes l t) where
     record Given (i : ℕ) (x : Sharing) : Type 0 where
       widths : x .state .widths ≡ placed sharedAt i (s .widths)
       given : x .given ≡ zeros (take i (u .widths))
-      ahead : (j : ℕ) → i ≤ j → j < l .count → decided l j (x .state) ≡ decided l j s
+      ahead : (j : ℕ) → i ≤ j → j < l .count → decided (column l j) j (x .state) ≡ decided (column l j) j s
 
     module _ (i : ℕ) (x : Sharing) (h : i < l .count) (g : Given i x) where
       -- what was noted of column i
@@ -215,11 +215,11 @@ module _ (l : Layout) (t : Table) (d : Describes l t) where
           }
 
       given-open : (v : ℕ) → v ≡ doc.share amount (doc.undecided u) (zeros (take i (u .widths))) → 1 ≤ v → getD (u .widths) i 0 ≡ 0
-          → decided l i (x .state) ≡ false
+          → decided (column l i) i (x .state) ≡ false
           → Given (suc i) (record { state = fixed (x .state) i v; given = x .given + 1 })
       unfolding placed sharedAt
       given-open v p q z o =
-          let b = open-bit l i (x .state) o in
+          let b = open-bit (column l i) i (x .state) o in
           let e : lifted v ≡ sharedAt i (getD (x .state .widths) i 0) = omega arith ∙ p ∙ rw (here ∙ z) in
           record {
             widths = ap (λ (v : ℕ). set (x .state .widths) i v) e ∙ ap (λ (ws : List ℕ). set ws i (sharedAt i (getD ws i 0))) (g .widths);
@@ -229,9 +229,9 @@ module _ (l : Layout) (t : Table) (d : Describes l t) where
 
       sharing-given : 1 ≤ doc.undecided u → Given (suc i) (sharing l (max (s .remaining) (undecided s)) (undecided s) i x)
       unfolding sharing amount
-      sharing-given m = go (decided l i (x .state)) refl
+      sharing-given m = go (decided (column l i) i (x .state)) refl
         where
-          told : decided l i (x .state) ≡ not (isUndecided u i)
+          told : decided (column l i) i (x .state) ≡ not (isUndecided u i)
           told = g .ahead i (omega arith) h ∙ a .noted i h
 
           c : max (s .remaining) (undecided s) ≡ amount
@@ -240,7 +240,7 @@ module _ (l : Layout) (t : Table) (d : Describes l t) where
           p : share (max (s .remaining) (undecided s)) (undecided s) (x .given) ≡ doc.share amount (doc.undecided u) (zeros (take i (u .widths)))
           p = share-as (max (s .remaining) (undecided s)) (undecided s) (x .given) ∙ rw (c, parts-as, g .given)
 
-          go : (b : Bool) → decided l i (x .state) ≡ b
+          go : (b : Bool) → decided (column l i) i (x .state) ≡ b
               → Given (suc i) (choose b x (record {
                 state = fixed (x .state) i (share (max (s .remaining) (undecided s)) (undecided s) (x .given));
                 given = x .given + 1;

@@ -10,7 +10,7 @@ use lib.Count.{ones, ones-le}
 use borrow.Author.Tests.{eqb-false}
 use Rattle.constraint.specs.declared.Layout.{Layout}
 use Rattle.constraint.specs.declared.State.{State}
-use Rattle.constraint.specs.Widths.{choose, inOrder, average, decided, taking, Rule, step, pass, setWidth}
+use Rattle.constraint.specs.Widths.{choose, inOrder, column, average, decided, taking, Rule, step, pass, setWidth}
 use Rattle.constraint.proofs.Bits.{add-lt, count-add}
 use Rattle.constraint.proofs.Laws.{open-bit}
 use Rattle.arrangement.specs.Arrange.{again, repeated, fitRule, fitPass}
@@ -45,17 +45,17 @@ grew-trans s t u a b =
     }
 
 module _ (t : Layout) (i : ℕ) (s : State) (hi : i < setWidth) (l : s .decided < 2 ^ setWidth) where
-  step-cases : (b : Bool) (o : Option ℕ) → decided t i s ≡ b → Grew s (choose b s (taking s i o))
+  step-cases : (b : Bool) (o : Option ℕ) → decided (column t i) i s ≡ b → Grew s (choose b s (taking s i o))
   step-cases true o e = grew-none s l
   step-cases false none e = grew-none s l
   step-cases false (some w) e =
-      let z = open-bit t i s e in
+      let z = open-bit (column t i) i s e in
       let n = count-add i (s .decided) z in
       record { small = add-lt setWidth (s .decided) i hi l z; more = omega (arith, n); same = λ h. absurd (omega (arith, n)) }
 
   step-grew : (rule : Rule) → Grew s (step rule t i s)
   unfolding step
-  step-grew rule = step-cases (decided t i s) (rule t i s) refl
+  step-grew rule = step-cases (decided (column t i) i s) (rule t i s) refl
 
 module _ (t : Layout) (fits : t .count ≤ mostColumns) (s : State) (l : s .decided < 2 ^ setWidth) where
   pub pass-grew : (rule : Rule) → Grew s (pass rule t s)

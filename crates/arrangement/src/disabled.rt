@@ -32,10 +32,10 @@ fn untargeted_step(t: Layout, i: usize, s: State) -> State
     requires { ⌜ i < mostColumns ⌝ }
     ensures { λ r. ⌜ r ≡ step untargeted t i s ⌝ }
 {
-    if constraint::is_decided(t, i, s) {
+    let c = t.columns[i];
+    if constraint::is_decided(c, i, s) {
         return s;
     }
-    let c = t.columns[i];
     let n = ContentWidth(t.longest[i]);
     constraint::take(
         s,

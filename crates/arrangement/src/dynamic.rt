@@ -74,10 +74,10 @@ fn lower_step(t: Layout, i: usize, s: State, a: u16) -> State
     requires { ⌜ (i < mostColumns) × (a ≡ average s) ⌝ }
     ensures { λ r. ⌜ r ≡ step lowerRule t i s ⌝ }
 {
-    if constraint::is_decided(t, i, s) {
+    let c = t.columns[i];
+    if constraint::is_decided(c, i, s) {
         return s;
     }
-    let c = t.columns[i];
     constraint::take(s, i, raised_offer(a, c, constraint::min(t, c, s.visible)))
 }
 
@@ -141,10 +141,10 @@ fn fit_step(t: Layout, i: usize, s: State, a: u16) -> State
     requires { ⌜ (i < mostColumns) × (a ≡ average s) ⌝ }
     ensures { λ r. ⌜ r ≡ step fitRule t i s ⌝ }
 {
-    if constraint::is_decided(t, i, s) {
+    let c = t.columns[i];
+    if constraint::is_decided(c, i, s) {
         return s;
     }
-    let c = t.columns[i];
     let n = ContentWidth(t.longest[i]);
     constraint::take(
         s,
@@ -209,10 +209,10 @@ fn split_step(sheet: &[u8], t: Layout, i: usize, s: State, a: u16) -> State
     requires { ⌜ IsAccepted (now sheet) × Describes t (tableOf (now sheet)) × (i < t .count) × (a ≡ average s) ⌝ }
     ensures { λ r. ⌜ r ≡ step (splitRule (longestPart (tableOf (now (sheet .entry))))) t i s ⌝ }
 {
-    if constraint::is_decided(t, i, s) {
+    let c = t.columns[i];
+    if constraint::is_decided(c, i, s) {
         return s;
     }
-    let c = t.columns[i];
     let n = after_split::longest_line_after_split(sheet, c, i, a);
     constraint::take(s, i, split_offer(a, ContentWidth(n)))
 }

@@ -6,6 +6,7 @@ use native.Mathlib.Omega.{arith}
 use native.Mathlib.Numerals.{add-one}
 use native.Mathlib.Nat.{mul-le-mul-left}
 use lib.Dec.{eqb}
+use Rattle.rules.specs.declared.Column.{Column}
 use Rattle.constraint.specs.declared.Layout.{Layout}
 use Rattle.constraint.specs.declared.State.{State}
 use Rattle.constraint.specs.declared.Offer.{Offer}
@@ -50,23 +51,24 @@ pub percent-fits : (room p : ℕ) → p ≤ 100 → room * p ≤ room * 100
 percent-fits room p h = mul-le-mul-left room h
 
 -- an undecided column is not in the set
-module _ (t : Layout) (i : ℕ) (s : State) where
+module _ (c : Column) (i : ℕ) (s : State) where
   open-go : (b : Bool) → choose b true (eqb (bit (s .decided) i) 1) ≡ false → bit (s .decided) i ≡ 0
   open-go true h = let z : _≡_ {A = ℕ} 0 1 = cc in omega arith
   open-go false h = bit-zero (s .decided) i h
 
-  pub open-bit : decided t i s ≡ false → bit (s .decided) i ≡ 0
-  open-bit h = open-go (isHidden (column t i)) h
+  pub open-bit : decided c i s ≡ false → bit (s .decided) i ≡ 0
+  open-bit h = open-go (isHidden c) h
 
-  pub open-by : (r : Bool) → r ≡ decided t i s → r ≡ false → bit (s .decided) i ≡ 0
+  pub open-by : (r : Bool) → r ≡ decided c i s → r ≡ false → bit (s .decided) i ≡ 0
   open-by r e h = open-bit (sym e ∙ h)
 
-  -- a step's two ways out
-  pub step-decided : (rule : Rule) (r : Bool) → r ≡ decided t i s → r ≡ true → s ≡ step rule t i s
+-- a step's two ways out
+module _ (t : Layout) (i : ℕ) (s : State) where
+  pub step-decided : (rule : Rule) (r : Bool) → r ≡ decided (column t i) i s → r ≡ true → s ≡ step rule t i s
   unfolding step
-  step-decided rule r e h = let q : decided t i s ≡ true = sym e ∙ h in rw q
+  step-decided rule r e h = let q : decided (column t i) i s ≡ true = sym e ∙ h in rw q
 
-  pub step-open : (rule : Rule) (r : Bool) (o : Offer) (u : State) → r ≡ decided t i s → r ≡ false
+  pub step-open : (rule : Rule) (r : Bool) (o : Offer) (u : State) → r ≡ decided (column t i) i s → r ≡ false
       → offered o ≡ rule t i s → u ≡ taking s i (offered o) → u ≡ step rule t i s
   unfolding step
-  step-open rule r o u e h p q = let z : decided t i s ≡ false = sym e ∙ h in q ∙ ap (taking s i) p ∙ sym (rw z)
+  step-open rule r o u e h p q = let z : decided (column t i) i s ≡ false = sym e ∙ h in q ∙ ap (taking s i) p ∙ sym (rw z)

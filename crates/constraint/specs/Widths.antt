@@ -87,9 +87,9 @@ setWidth = 16
 abbrev pub bit : ℕ → ℕ → ℕ
 bit s i = s / 2 ^ i % 2
 
--- column i is hidden, or its width is found
-abbrev pub decided : Layout → ℕ → State → Bool
-decided t i s = choose (isHidden (column t i)) true (eqb (bit (s .decided) i) 1)
+-- a column, which has number i, is hidden or its width is found
+abbrev pub decided : Column → ℕ → State → Bool
+decided c i s = choose (isHidden c) true (eqb (bit (s .decided) i) 1)
 
 -- column i is fixed: the width offered is taken off what remains, before 0 becomes 1
 abbrev pub fixed : State → ℕ → ℕ → State
@@ -106,7 +106,7 @@ Rule = Layout → ℕ → State → Option ℕ
 
 -- an offer is made to the undecided ones
 unfoldable pub step : Rule → Layout → ℕ → State → State
-step rule t i s = choose (decided t i s) s (taking s i (rule t i s))
+step rule t i s = choose (decided (column t i) i s) s (taking s i (rule t i s))
 
 -- the columns in order
 abbrev pub pass : Rule → Layout → State → State

@@ -189,11 +189,11 @@ pub fn is_in(s: u16, i: usize) -> bool
 }
 
 // A hidden column is decided from the start, though it is never in the set.
-pub fn is_decided(t: Layout, i: usize, s: State) -> bool
+pub fn is_decided(c: Column, i: usize, s: State) -> bool
     requires { ⌜ i < mostColumns ⌝ }
-    ensures { λ r. ⌜ r ≡ decided t i s ⌝ }
+    ensures { λ r. ⌜ r ≡ decided c i s ⌝ }
 {
-    if is_hidden(t.columns[i]) {
+    if is_hidden(c) {
         return true;
     }
     is_in(s.decided, i)

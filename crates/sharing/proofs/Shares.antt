@@ -30,15 +30,15 @@ module _ (n parts k : ℕ) where
   share-rest l = (ap part (sym (le-ltb k (n % parts) l)), div-le-self n parts)
 
 module _ (t : Layout) (n parts i : ℕ) (x : Sharing) (r : Bool) where
-  pub sharing-decided : r ≡ decided t i (x .state) → r ≡ true → x ≡ sharing t n parts i x
+  pub sharing-decided : r ≡ decided (column t i) i (x .state) → r ≡ true → x ≡ sharing t n parts i x
   unfolding sharing
-  sharing-decided e h = if-true (decided t i (x .state)) r x _ x e h refl
+  sharing-decided e h = if-true (decided (column t i) i (x .state)) r x _ x e h refl
 
-  pub sharing-open : (k : ℕ) (u : State) → r ≡ decided t i (x .state) → r ≡ false → k ≡ share n parts (x .given) → u ≡ fixed (x .state) i k
+  pub sharing-open : (k : ℕ) (u : State) → r ≡ decided (column t i) i (x .state) → r ≡ false → k ≡ share n parts (x .given) → u ≡ fixed (x .state) i k
       → _≡_ {A = Sharing} (record { state = u; given = x .given + 1 }) (sharing t n parts i x)
   unfolding sharing
   sharing-open k u e h p q =
-      if-false (decided t i (x .state)) r x _ _ e h
+      if-false (decided (column t i) i (x .state)) r x _ _ e h
       (ap (λ (z : State). record { state = z; given = x .given + 1 }) (q ∙ ap (fixed (x .state) i) p))
 
   pub widening-hidden : r ≡ isHidden (column t i) → r ≡ true → x ≡ widening t n parts i x
@@ -60,7 +60,7 @@ given-go false x y i h l = omega arith
 module _ (t : Layout) (n parts i : ℕ) (x y : Sharing) (l : x .given ≤ i) where
   pub sharing-given : y ≡ sharing t n parts i x → y .given ≤ i + 1
   unfolding sharing
-  sharing-given e = subst (λ (z : Sharing). z .given ≤ i + 1) (sym e) (given-go (decided t i (x .state)) x _ i (omega arith) l)
+  sharing-given e = subst (λ (z : Sharing). z .given ≤ i + 1) (sym e) (given-go (decided (column t i) i (x .state)) x _ i (omega arith) l)
 
   pub widening-given : y ≡ widening t n parts i x → y .given ≤ i + 1
   unfolding widening

@@ -16,7 +16,7 @@ share n parts k = choose (ltb k (n % parts)) (n / parts + 1) (n / parts)
 -- 4. Undecided columns share n
 unfoldable pub sharing : Layout → ℕ → ℕ → ℕ → Sharing → Sharing
 sharing t n parts i x =
-    choose (decided t i (x .state)) x
+    choose (decided (column t i) i (x .state)) x
     (record { state = fixed (x .state) i (share n parts (x .given)); given = x .given + 1 })
 
 abbrev pub undecided : State → ℕ

@@ -39,7 +39,8 @@ fn share_step(t: Layout, n: u16, parts: u16, i: usize, x: Sharing) -> Sharing
     ensures { λ r. ⌜ r ≡ sharing t n parts i x ⌝ }
 {
     let s = x.state;
-    if constraint::is_decided(t, i, s) {
+    let c = t.columns[i];
+    if constraint::is_decided(c, i, s) {
         return x;
     }
     let k = x.given;

@@ -7,8 +7,6 @@ pub is-decided-spec : {M : Type 1} → statement M
 is-decided-spec =
     tie.close
     (tie.spec
-    (λ c. search needs)
-    (λ c. search needs)
     (λ c κs. search needs)
     (λ c. search (needs, cases))
     (λ c κs. search needs)

@@ -9,6 +9,8 @@ pub share-step-spec : {M : Type 1} → statement M
 share-step-spec =
     tie.close
     (tie.spec
+    (λ c. search needs)
+    (λ c. search needs)
     (λ c κs. search needs)
     (λ c. search (needs, sharing-decided))
     (λ c κs. search needs)

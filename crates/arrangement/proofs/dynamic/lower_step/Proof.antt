@@ -9,10 +9,10 @@ pub lower-step-spec : {M : Type 1} → statement M
 lower-step-spec =
     tie.close
     (tie.spec
+    (λ c. search needs)
+    (λ c. search needs)
     (λ c κs. search needs)
     (λ c. search (needs, step-decided))
-    (λ c. search needs)
-    (λ c. search needs)
     (λ c κs. search needs)
     (λ c κs. search needs)
     (λ c κs. (omega arith, search (needs, open-by)))

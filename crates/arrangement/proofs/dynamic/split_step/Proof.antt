@@ -9,10 +9,10 @@ pub split-step-spec : {M : Type 1} → statement M
 split-step-spec =
     tie.close
     (tie.spec
+    (λ c. search needs)
+    (λ c. search needs)
     (λ c κs. search needs)
     (λ c. search (needs, step-decided))
-    (λ c. search needs)
-    (λ c. search needs)
     (λ c κs. let b = c .before .before .before .before in
     (b .pre .0, b .pre .1 .column (b .args .i) (b .pre .2)))
     (λ c κs. search needs)
