@@ -125,7 +125,7 @@ module _ (s : List ℕ) (w d : ℕ) where
 module _ (s : List ℕ) (w d : ℕ) (plain : Bool) where
   -- the cell lines' first line is found in the first of them, where that comes to the lines ls
   found-first : (c : Lines) → linesEnd s c ≤ length s → All (TextIs plain) (linesIn s c) → (ls : List (List ℕ)) (a e n : ℕ)
-      → Head w d (firstLine s c) ls a e n → FirstOf s w d (ls ++ wrapLines w d (drop 1 (linesIn s c))) (taken (firstLine s c) c plain (Line a e n))
+      → Head w d (firstLine s c) ls a e n → FirstOf s w d plain (ls ++ wrapLines w d (drop 1 (linesIn s c))) (taken (firstLine s c) c plain (Line a e n))
   unfolding rest
   found-first c h k ls a e n l =
       let o = l .onward in
@@ -135,13 +135,14 @@ module _ (s : List ℕ) (w d : ℕ) (plain : Bool) where
         others = rw (l .wraps);
         found = rw (l .wraps) (sym (some-line (length (split w d (drop n (firstLine s c)) ++ wrapLines w d (drop 1 (linesIn s c))))));
         inside = record { ends = h; from = i; begins = l .begins; texts = k };
+        same = refl;
         order = l .order;
         within = omega arith;
         columns = refl;
         fits = l .fits;
       }
 
-  pub blank-first : (c : Lines) → 0 < w → linesEnd s c ≤ length s → c .left ≤ 0 → FirstOf s w d [] (noLine c plain)
+  pub blank-first : (c : Lines) → 0 < w → linesEnd s c ≤ length s → c .left ≤ 0 → FirstOf s w d plain [] (noLine c plain)
   blank-first c pos h z =
       let none = lines-none s c z in
       record {
@@ -149,6 +150,7 @@ module _ (s : List ℕ) (w d : ℕ) (plain : Bool) where
         others = sym (rest-none s w d (record { lines = c; from = 0; plain = plain }) pos z);
         found = refl;
         inside = record { ends = h; from = omega arith; begins = rw none refl; texts = rw none tt };
+        same = refl;
         order = omega arith;
         within = omega arith;
         columns = sym width-nil;
@@ -157,7 +159,7 @@ module _ (s : List ℕ) (w d : ℕ) (plain : Bool) where
 
   pub taken-found : (c : Lines) → linesEnd s c ≤ length s → All (TextIs plain) (linesIn s c) → (ls : List (List ℕ)) (p : Part) (r : Next)
       → HeadIs w d (firstLine s c) ls p → r ≡ taken (firstLine s c) c plain p → r .found ≡ true
-      → FirstOf s w d (ls ++ wrapLines w d (drop 1 (linesIn s c))) r
+      → FirstOf s w d plain (ls ++ wrapLines w d (drop 1 (linesIn s c))) r
   taken-found c h k ls (Line a e n) r l q f = rw q (found-first c h k ls a e n l)
   taken-found c h k ls Nothing r l q f = absurd (false≢true (sym (ap (λ (x : Next). x .found) q) ∙ f))
 
@@ -190,7 +192,7 @@ module _ (s : List ℕ) (w d : ℕ) (plain : Bool) (pos : 0 < w) (all : Lines) w
       taken-here : r ≡ taken (firstLine s c) c plain p
       taken-here = subst (λ (x : List ℕ). r ≡ taken x c plain p) e q
 
-      pub seeking-found : r .found ≡ true → FirstOf s w d (wrapLines w d (linesIn s all)) r
+      pub seeking-found : r .found ≡ true → FirstOf s w d plain (wrapLines w d (linesIn s all)) r
       seeking-found f =
           rw (seeking-here some)
           (taken-found s w d plain c (S .ends) (S .texts) (wrapLine w d (firstLine s c)) p r head-here taken-here f)
@@ -204,13 +206,13 @@ module _ (s : List ℕ) (w d : ℕ) (plain : Bool) (pos : 0 < w) (all : Lines) w
         texts = texts-next plain s c k n (S .texts);
       }
 
-    pub seeking-done : c .left ≤ 0 → (r : Next) → r ≡ noLine c plain → FirstOf s w d (wrapLines w d (linesIn s all)) r
+    pub seeking-done : c .left ≤ 0 → (r : Next) → r ≡ noLine c plain → FirstOf s w d plain (wrapLines w d (linesIn s all)) r
     seeking-done h r q = rw (S .same, lines-none s c h, wrap-none w d, q) (blank-first s w d plain c pos (S .ends) h)
 
 -- ---- the next line of a cell
 
 module _ (s : List ℕ) (w d : ℕ) (pos : 0 < w) (c : CellCursor) (I : Inside s c) where
-  pub next-ended : c .lines .left ≡ 0 → (r : Next) → r ≡ noLine (c .lines) (c .plain) → FirstOf s w d (rest s w d c) r
+  pub next-ended : c .lines .left ≡ 0 → (r : Next) → r ≡ noLine (c .lines) (c .plain) → FirstOf s w d (c .plain) (rest s w d c) r
   next-ended h r q =
       rw (rest-none s w d c pos (omega arith), q) (blank-first s w d (c .plain) (c .lines) pos (I .ends) (omega arith))
 
@@ -226,7 +228,7 @@ module _ (s : List ℕ) (w d : ℕ) (pos : 0 < w) (c : CellCursor) (I : Inside s
     taken-at : r ≡ taken (firstLine s (c .lines)) (c .lines) (c .plain) p
     taken-at = subst (λ (x : List ℕ). r ≡ taken x (c .lines) (c .plain) p) e q
 
-    pub next-found : r .found ≡ true → FirstOf s w d (rest s w d c) r
+    pub next-found : r .found ≡ true → FirstOf s w d (c .plain) (rest s w d c) r
     next-found f = rw rest-is (taken-found s w d (c .plain) (c .lines) (I .ends) (I .texts) _ p r head-at taken-at f)
 
     pub next-further : r .found ≡ false → (k : Lines) → LinesNext s (c .lines) k → rest s w d c ≡ wrapLines w d (linesIn s k)
@@ -250,20 +252,23 @@ pub record Moving (s : List ℕ) (w d n : ℕ) (t : Next) (j : ℕ) (r : Next) :
 
 module _ (s : List ℕ) (w d n : ℕ) (t : Next) where
   pub moving-begins : Inside s (t .cursor) → Moving s w d n t 0 t
-  moving-begins I = record { within = omega arith; inside = I; lines = λ ls F. F }
+  moving-begins I = record { within = omega arith; inside = I; lines = λ plain ls F. F }
 
   module _ (j : ℕ) (r : Next) (M : Moving s w d n t j r) where
-    pub moving-on : j < n → (q : Next) → FirstOf s w d (rest s w d (r .cursor)) q → Moving s w d n t (j + 1) q
+    pub moving-on : j < n → (q : Next) → FirstOf s w d (r .cursor .plain) (rest s w d (r .cursor)) q → Moving s w d n t (j + 1) q
     moving-on h q N = record {
       within = omega arith;
       inside = N .inside;
-      lines = λ ls F. subst (λ (xs : List (List ℕ)). FirstOf s w d xs q) (sym (M .lines ls F .others) ∙ drop-drop 1 j ls) N;
+      lines = λ plain ls F.
+          let G = M .lines plain ls F in
+          subst (λ (xs : List (List ℕ)). FirstOf s w d plain xs q) (sym (G .others) ∙ drop-drop 1 j ls)
+          (subst (λ (b : Bool). FirstOf s w d b (rest s w d (r .cursor)) q) (G .same) N);
     }
 
     -- past a cell's last line nothing comes, however many lines further on
     pub moving-ended : r .found ≡ false → Further s w d n t r
-    moving-ended e ls F =
-        let G = M .lines ls F in
+    moving-ended e plain ls F =
+        let G = M .lines plain ls F in
         let k = M .within in
         let z : drop j ls ≡ [] = none-found (drop j ls) (sym (G .found) ∙ e) in
         let y : drop n ls ≡ drop j ls = split-drop j n k ls ∙ ap (drop (n - j)) z ∙ drop-nil (n - j) ∙ sym z in

@@ -64,12 +64,13 @@ taken t c plain (Line a e n) =
     record { found = true; start = a; end = e; columns = textWidth (slice a e t); cursor = record { lines = c; from = n; plain = plain } }
 taken t c plain Nothing = noLine c plain
 
--- r is the first of the lines ls, a blank one where there is none, and the cursor has the others before it
-pub record FirstOf (s : List ℕ) (w d : ℕ) (ls : List (List ℕ)) (r : Next) : Type 0 where
+-- r is the first of the lines ls, a blank one where there is none, and the cursor has the others before it, plain as is said
+pub record FirstOf (s : List ℕ) (w d : ℕ) (plain : Bool) (ls : List (List ℕ)) (r : Next) : Type 0 where
   pub first : getD ls 0 [] ≡ textOf s (r .cursor) (r .start) (r .end)
   pub others : drop 1 ls ≡ rest s w d (r .cursor)
   pub found : r .found ≡ ltb 0 (length ls)
   pub inside : Inside s (r .cursor)
+  pub same : r .cursor .plain ≡ plain
   pub order : r .start ≤ r .end
   pub within : r .end ≤ length (firstLine s (r .cursor .lines))
   pub columns : r .columns ≡ textWidth (textOf s (r .cursor) (r .start) (r .end))
@@ -77,4 +78,4 @@ pub record FirstOf (s : List ℕ) (w d : ℕ) (ls : List (List ℕ)) (r : Next) 
 
 -- wherever t is the first of some lines, r is the first of those n lines further on
 abbrev pub Further : List ℕ → ℕ → ℕ → ℕ → Next → Next → Type 0
-Further s w d n t r = (ls : List (List ℕ)) → FirstOf s w d ls t → FirstOf s w d (drop n ls) r
+Further s w d n t r = (plain : Bool) (ls : List (List ℕ)) → FirstOf s w d plain ls t → FirstOf s w d plain (drop n ls) r

@@ -128,7 +128,7 @@ fn first_part(text: &[u8], width: usize, delimiter: u8, plain: bool) -> Part
 pub fn first_line(sheet: &[u8], lines: Lines, width: usize, delimiter: u8, plain: bool) -> Next
     requires { ⌜ (linesEnd (now sheet) lines ≤ length (now sheet)) × All (TextIs plain) (linesIn (now sheet) lines) ⌝ }
     requires { ⌜ (0 < width) × Printable delimiter ⌝ }
-    ensures { λ r. ⌜ FirstOf (now (sheet .entry)) width delimiter (wrapLines width delimiter (linesIn (now (sheet .entry)) lines)) r ⌝ }
+    ensures { λ r. ⌜ FirstOf (now (sheet .entry)) width delimiter plain (wrapLines width delimiter (linesIn (now (sheet .entry)) lines)) r ⌝ }
 {
     let mut c = lines;
     while 0 < c.left {
@@ -146,7 +146,7 @@ pub fn first_line(sheet: &[u8], lines: Lines, width: usize, delimiter: u8, plain
 // The next wrapped line of a cell.
 pub fn next_line(sheet: &[u8], c: CellCursor, width: usize, delimiter: u8) -> Next
     requires { ⌜ Inside (now sheet) c × ((0 < width) × Printable delimiter) ⌝ }
-    ensures { λ r. ⌜ FirstOf (now (sheet .entry)) width delimiter (rest (now (sheet .entry)) width delimiter c) r ⌝ }
+    ensures { λ r. ⌜ FirstOf (now (sheet .entry)) width delimiter (c .plain) (rest (now (sheet .entry)) width delimiter c) r ⌝ }
 {
     let lines = c.lines;
     if lines.left == 0 {

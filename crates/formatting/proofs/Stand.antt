@@ -66,7 +66,7 @@ module _ (s : List ℕ) (v : VisibleColumn) (ls : List (List ℕ)) (j : ℕ) (t 
 
   -- the next line
   pub stands-on : (r : Pending) → After s (v .width) t r → Stands s v ls (j + 1) r
-  stands-on r a = stands-next s v ls (j + 1) (t .delimiter) (following s (v .width) t) r (S .ready .wide) (S .ready .delimiter) (by (t .line .found) refl) (a .line)
+  stands-on r a = stands-next s v ls (j + 1) (t .delimiter) _ (following s (v .width) t) r (S .ready .wide) (S .ready .delimiter) (by (t .line .found) refl) (a .line)
       (a .delimiter)
     where
       by : (b : Bool) → t .line .found ≡ b → following s (v .width) t ≡ drop (j + 1) ls

@@ -52,7 +52,7 @@ shownText s w ind false t = pendingText s t
 
 -- the next line of the same cell
 pub record After (s : List ℕ) (w : ℕ) (t r : Pending) : Type 0 where
-  pub line : FirstOf s w (t .delimiter) (following s w t) (r .line)
+  pub line : FirstOf s w (t .delimiter) (t .line .cursor .plain) (following s w t) (r .line)
   pub delimiter : r .delimiter ≡ t .delimiter
   pub alignment : r .alignment ≡ t .alignment
 

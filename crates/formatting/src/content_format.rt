@@ -224,20 +224,21 @@ fn write_line(
     indicator: Indicator,
     style: TextStyle,
     last: bool,
-    state: &mut [[usize; 10]; MOST_COLUMNS],
+    plain: bool,
+    state: &mut [[usize; 9]; MOST_COLUMNS],
 ) -> Lined
-    requires { ⌜ ReadyAll (now sheet) (viewOf (now columns) count) (pendingsOf (now state)) × IndicatorIs indicator ⌝ }
-    requires { ⌜ length (lineBytes (now sheet) (viewOf (now columns) count) (take (indicator .count) (indicator .characters)) style (pendingsOf (now state)) last)
+    requires { ⌜ ReadyAll (now sheet) (viewOf (now columns) count) (pendingsOf plain (now state)) × IndicatorIs indicator ⌝ }
+    requires { ⌜ length (lineBytes (now sheet) (viewOf (now columns) count) (take (indicator .count) (indicator .characters)) style (pendingsOf plain (now state)) last)
         ≤ length (now page) ⌝ }
     ensures { λ r.
         ⌜ r .written ≡ length (lineBytes (now (sheet .entry)) (viewOf (now (columns .entry)) count) (take (indicator .count) (indicator .characters)) style
-        (pendingsOf (now (state .entry))) last) ⌝ }
+        (pendingsOf plain (now (state .entry))) last) ⌝ }
     ensures { λ r.
-        ⌜ AfterAll (now (sheet .entry)) (viewOf (now (columns .entry)) count) (pendingsOf (now (state .entry))) (pendingsOf (now (state .exit)))
-        × (r .more ≡ anyFound (pendingsOf (now (state .exit))) count) ⌝ }
+        ⌜ AfterAll (now (sheet .entry)) (viewOf (now (columns .entry)) count) (pendingsOf plain (now (state .entry))) (pendingsOf plain (now (state .exit)))
+        × (r .more ≡ anyFound (pendingsOf plain (now (state .exit))) count) ⌝ }
     ensures { λ _.
         ⌜ now (page .exit) ≡ over (lineBytes (now (sheet .entry)) (viewOf (now (columns .entry)) count) (take (indicator .count) (indicator .characters))
-        style (pendingsOf (now (state .entry))) last) (now (page .entry)) ⌝ }
+        style (pendingsOf plain (now (state .entry))) last) (now (page .entry)) ⌝ }
 {
     let mut more = false;
     let mut at = buffer::draw_edge(page, 0, style.opens, style.left);
@@ -246,7 +247,7 @@ fn write_line(
         let y = columns[i];
         let v = packed::column_from(y);
         let x = state[i];
-        let t = packed::pending_from(x);
+        let t = packed::pending_from(x, plain);
         let joins = buffer::joins_before(i, style.joined);
         let d = draw_column(
             page,
@@ -310,10 +311,10 @@ pub fn enter_row(
     here: Rows,
     n: usize,
     plain: bool,
-    state: &mut [[usize; 10]; MOST_COLUMNS],
+    state: &mut [[usize; 9]; MOST_COLUMNS],
 ) -> Entered
     requires { ⌜ Drawable (now sheet) (viewOf (now columns) count) plain here × (length (now state) ≡ mostColumns) ⌝ }
-    ensures { λ r. ⌜ EnteredIs (now (sheet .entry)) (viewOf (now (columns .entry)) count) (firstRow (now (sheet .entry)) here) n r (pendingsOf (now (state .exit))) ⌝ }
+    ensures { λ r. ⌜ EnteredIs (now (sheet .entry)) (viewOf (now (columns .entry)) count) (firstRow (now (sheet .entry)) here) n r (pendingsOf plain (now (state .exit))) ⌝ }
 {
     let r = walk::row(sheet, here);
     let cells = r.cells;
@@ -394,7 +395,7 @@ pub fn draw_row(
     requires { ⌜ Sized (now sheet) style (firstRow (now sheet) here) plain (viewOf (now columns) count) size ⌝ }
     ensures { λ r. ⌜ PartIs (drop first (rowLines (now (sheet .entry)) style (firstRow (now (sheet .entry)) here))) (now (page .entry)) (now (page .exit)) r ⌝ }
 {
-    let mut state = [[0usize; 10]; MOST_COLUMNS];
+    let mut state = [[0usize; 9]; MOST_COLUMNS];
     let entered = enter_row(sheet, columns, count, here, first, plain, &mut state);
     let limit = entered.limit;
     let most = most_bytes(plain, size, count);
@@ -432,6 +433,7 @@ pub fn draw_row(
             indicator,
             style,
             last,
+            plain,
             &mut state,
         );
         at += l.written;

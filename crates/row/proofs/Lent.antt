@@ -4,9 +4,10 @@ use mathlib.Core.Path.{_≡_, refl, sym, ap, _∙_}
 use mathlib.Core.List.{List, [], _∷_, map}
 use mathlib.Core.Bool.{Bool, _||_}
 use native.Mathlib.Omega.{arith}
-use lib.ListN.{length, drop, set, getD, length-map}
+use lib.ListN.{length, drop, set, getD, length-map, List·getD-map}
 use lib.Dec.{eqb}
 use Rattle.rules.specs.Text.{All}
+use Rattle.laws.proofs.Lists.{getD-map}
 use Rattle.rules.specs.Limits.{Printable}
 use Rattle.rules.specs.Sheet.{Cell}
 use Rattle.table.specs.Walk.{cellsIn, cellsEnd, firstCell}
@@ -33,41 +34,35 @@ pub column-packed : (v : VisibleColumn) (d a : ℕ) → (d ≡ v .delimiter) × 
 unfolding columnFrom
 column-packed v d a e f = rw (← e .1, ← f .1, e .0, f .0)
 
-pub pending-is : (x : List ℕ) (f p : Bool) (d a : ℕ) → f ≡ eqb (getD x 0 0) 1 → p ≡ eqb (getD x 7 0) 1 → d ≡ getD x 8 0 % 256 → a ≡ getD x 9 0 % 256
+pub pending-is : (plain : Bool) (x : List ℕ) (f : Bool) (d a : ℕ) → f ≡ eqb (getD x 0 0) 1 → d ≡ getD x 7 0 % 256 → a ≡ getD x 8 0 % 256
     → record {
       line = record {
         found = f;
         start = getD x 1 0;
         end = getD x 2 0;
         columns = getD x 3 0;
-        cursor = record { lines = record { at = getD x 4 0; left = getD x 5 0 }; from = getD x 6 0; plain = p };
+        cursor = record { lines = record { at = getD x 4 0; left = getD x 5 0 }; from = getD x 6 0; plain = plain };
       };
       delimiter = d;
       alignment = a;
-    } ≡ pendingFrom x
+    } ≡ pendingFrom plain x
 unfolding pendingFrom
-pending-is x f p d a g i e h = rw (g, i, e, h)
+pending-is plain x f d a g e h = rw (g, e, h)
 
-pub pending-packed : (t : Pending) (f p d a : ℕ) → t .line .found ≡ eqb f 1 → t .line .cursor .plain ≡ eqb p 1 → (d ≡ t .delimiter) × (d ≡ d % 256)
-    → (a ≡ t .alignment) × (a ≡ a % 256)
-    → t ≡ pendingFrom (f ∷ t .line .start ∷ t .line .end ∷ t .line .columns ∷ t .line .cursor .lines .at ∷ t .line .cursor .lines .left
-    ∷ t .line .cursor .from ∷ p ∷ d ∷ a ∷ [])
+pub pending-packed : (t : Pending) (f d a : ℕ) → t .line .found ≡ eqb f 1 → (d ≡ t .delimiter) × (d ≡ d % 256) → (a ≡ t .alignment) × (a ≡ a % 256)
+    → t ≡ pendingFrom (t .line .cursor .plain) (f ∷ t .line .start ∷ t .line .end ∷ t .line .columns ∷ t .line .cursor .lines .at
+    ∷ t .line .cursor .lines .left ∷ t .line .cursor .from ∷ d ∷ a ∷ [])
 unfolding pendingFrom
-pending-packed t f p d a g i e h = rw (← g, ← i, ← e .1, ← h .1, e .0, h .0)
+pending-packed t f d a g e h = rw (← g, ← e .1, ← h .1, e .0, h .0)
 
-pub pending-repacked : (x : List ℕ) (t : Pending) (f p : ℕ) → t .line .found ≡ eqb f 1 → t .line .cursor .plain ≡ eqb p 1
-    → (t .delimiter ≡ pendingFrom x .delimiter) × (t .alignment ≡ pendingFrom x .alignment)
-    → t ≡ pendingFrom (f ∷ t .line .start ∷ t .line .end ∷ t .line .columns ∷ t .line .cursor .lines .at ∷ t .line .cursor .lines .left
-    ∷ t .line .cursor .from ∷ p ∷ getD x 8 0 ∷ getD x 9 0 ∷ [])
+pub pending-repacked : (x : List ℕ) (t : Pending) (f : ℕ) → t .line .found ≡ eqb f 1
+    → (t .delimiter ≡ pendingFrom (t .line .cursor .plain) x .delimiter) × (t .alignment ≡ pendingFrom (t .line .cursor .plain) x .alignment)
+    → t ≡ pendingFrom (t .line .cursor .plain) (f ∷ t .line .start ∷ t .line .end ∷ t .line .columns ∷ t .line .cursor .lines .at
+    ∷ t .line .cursor .lines .left ∷ t .line .cursor .from ∷ getD x 7 0 ∷ getD x 8 0 ∷ [])
 unfolding pendingFrom
-pending-repacked x t f p g i e = rw (← g, ← i, ← e .0, ← e .1)
+pending-repacked x t f g e = rw (← g, ← e .0, ← e .1)
 
 -- ---- lists of them
-
-getD-each : {A B : Type 0} (f : A → B) (l : List A) (i : ℕ) (d : A) → getD (map f l) i (f d) ≡ f (getD l i d)
-getD-each f [] i d = refl
-getD-each f (x ∷ xs) zero d = refl
-getD-each f (x ∷ xs) (suc i) d = getD-each f xs i d
 
 pub set-each : {A B : Type 0} (f : A → B) (l : List A) (i : ℕ) (v : A) → map f (set l i v) ≡ set (map f l) i (f v)
 set-each f [] i v = refl
@@ -78,21 +73,20 @@ no-column : noColumn ≡ columnFrom []
 unfolding columnFrom
 no-column = refl
 
-no-pending : noPending ≡ pendingFrom []
-unfolding pendingFrom
-no-pending = refl
-
 pub column-at : (cols : List (List ℕ)) (n i : ℕ) → visibleAt (viewOf cols n) i ≡ columnFrom (getD cols i [])
-column-at cols n i = ap (λ (d : VisibleColumn). getD (map columnFrom cols) i d) no-column ∙ getD-each columnFrom cols i []
+column-at cols n i = ap (λ (d : VisibleColumn). getD (map columnFrom cols) i d) no-column ∙ List·getD-map columnFrom cols i []
 
-pub pending-at : (st : List (List ℕ)) (i : ℕ) → pendingAt (pendingsOf st) i ≡ pendingFrom (getD st i [])
-pending-at st i = ap (λ (d : Pending). getD (pendingsOf st) i d) no-pending ∙ getD-each pendingFrom st i []
+module _ (plain : Bool) (st : List (List ℕ)) where
+  pub pendings-length : length (pendingsOf plain st) ≡ length st
+  pendings-length = length-map st (pendingFrom plain)
 
-pub pendings-set : (st : List (List ℕ)) (i : ℕ) (z : List ℕ) (u : Pending) → u ≡ pendingFrom z → pendingsOf (set st i z) ≡ set (pendingsOf st) i u
-pendings-set st i z u e = set-each pendingFrom st i z ∙ ap (λ (w : Pending). set (pendingsOf st) i w) (sym e)
+  pub pending-at : (i : ℕ) → i < length (pendingsOf plain st) → pendingAt (pendingsOf plain st) i ≡ pendingFrom plain (getD st i [])
+  pending-at i h = getD-map (pendingFrom plain) st i [] noPending (omega (arith, pendings-length))
 
-pub pendings-length : (st : List (List ℕ)) → length (pendingsOf st) ≡ length st
-pendings-length st = length-map st pendingFrom
+  pub pendings-set : (i : ℕ) (z : List ℕ) (u : Pending) → u .line .cursor .plain ≡ plain → u ≡ pendingFrom (u .line .cursor .plain) z
+      → pendingsOf plain (set st i z) ≡ set (pendingsOf plain st) i u
+  pendings-set i z u p e =
+      set-each (pendingFrom plain) st i z ∙ ap (λ (w : Pending). set (pendingsOf plain st) i w) (sym (e ∙ ap (λ b. pendingFrom b z) p))
 
 -- ---- the loops: what they have read is the column and the line that their invariants speak of
 
@@ -110,17 +104,18 @@ module _ (s : List ℕ) (cols : List (List ℕ)) (n : ℕ) (R : Rising (viewOf c
       → (next : Cells) → cellsIn s next ≡ drop (v .number - passed) (cellsIn s left) → All (CellKnown plain) (cellsIn s next)
   known-here plain k P next a = cells-known s (viewOf cols n) xs left passed i P h next (rw at-i at a) plain k
 
-  module _ (st : List (List ℕ)) (more : Bool) (k : ℕ) (O : Opening s (viewOf cols n) xs k (pendingsOf st) left passed more i) where
+  module _ (plain : Bool) (st : List (List ℕ)) (more : Bool) (k : ℕ)
+      (O : Opening s (viewOf cols n) xs k (pendingsOf plain st) left passed more i) where
     pub open-order : passed ≤ v .number
     open-order = rw at-i (O .passing .order i (omega arith) h)
 
     pub open-on : (next : Cells) (t : Pending) (m : Bool) (z : List ℕ) → cellsIn s next ≡ drop (v .number - passed) (cellsIn s left) → cellsEnd s next
         ≡ cellsEnd s left
-        → OpenedAt s (firstCell s next) v k t → m ≡ (more || t .line .found) → t ≡ pendingFrom z
-        → Opening s (viewOf cols n) xs k (pendingsOf (set st i z)) next (v .number) m (i + 1)
+        → OpenedAt s (firstCell s next) v k t × (t .line .cursor .plain ≡ plain) → m ≡ (more || t .line .found)
+        → t ≡ pendingFrom (t .line .cursor .plain) z → Opening s (viewOf cols n) xs k (pendingsOf plain (set st i z)) next (v .number) m (i + 1)
     open-on next t m z a b o x y =
-        rw (pendings-set st i z t y, at-i)
-        (opening-on s (viewOf cols n) R xs k (pendingsOf st) left passed more i O h next t m (rw at-i at a) b (rw at-i at o) x)
+        rw (pendings-set plain st i z t (o .1) y, at-i)
+        (opening-on s (viewOf cols n) R xs k (pendingsOf plain st) left passed more i O h next t m (rw at-i at a) b (rw at-i at (o .0)) x)
 
   module _ (most : ℕ) (M : Measuring s (viewOf cols n) xs left passed most i) where
     pub tall-order : passed ≤ v .number

@@ -65,13 +65,13 @@ module _ (plain : Bool) (s : List ℕ) (c : Cells) (x : records.Cell) (X : CellI
   delimiter-here v d p e = rw (e, X .delimiter) (or-printable (firstCell s c .delimiter) (v .delimiter) (K .delimiter) p)
 
 -- a missing cell
-pub opened-missing : (s : List ℕ) (c : Cells) (v : VisibleColumn) (n : ℕ) → 0 < v .width → Printable (v .delimiter) → c .left ≡ 0
-    → OpenedAt s (firstCell s c) v n (missing v n)
+pub opened-missing : (s : List ℕ) (c : Cells) (v : VisibleColumn) (n : ℕ) (plain : Bool) → 0 < v .width → Printable (v .delimiter)
+    → c .left ≡ 0 → OpenedAt s (firstCell s c) v n (missing v n plain)
 unfolding remaining linesEnd past linesIn parts
-opened-missing s c v n wide prints h =
+opened-missing s c v n plain wide prints h =
     let w = v .width in
     let d = v .delimiter in
-    let f : rest s w d (missing v n .line .cursor) ≡ [] = rest-none s w d (missing v n .line .cursor) wide (omega arith) in
+    let f : rest s w d (missing v n plain .line .cursor) ≡ [] = rest-none s w d (missing v n plain .line .cursor) wide (omega arith) in
     rw (no-cells s c h)
     (record {
       stands = record {
@@ -95,20 +95,24 @@ opened-missing s c v n wide prints h =
     })
 
 -- a cell at its line n
-pub opened-cell : (s : List ℕ) (c : Cells) (x : records.Cell) → CellIs s c x → (v : VisibleColumn) (n : ℕ) → 0 < v .width → (first : Next) (r : Pending)
+pub opened-cell : (s : List ℕ) (c : Cells) (x : records.Cell) → CellIs s c x → (v : VisibleColumn) (n : ℕ) (plain : Bool) → 0 < v .width
+    → (first : Next) (r : Pending)
     → Printable (r .delimiter)
     → r .delimiter ≡ orElse (x .delimiter) (v .delimiter) → r .alignment ≡ orElse (x .alignment) (v .alignment)
-    → FirstOf s (v .width) (r .delimiter) (wrapLines (v .width) (r .delimiter) (linesIn s (x .lines))) first
-    → Further s (v .width) (r .delimiter) n first (r .line) → OpenedAt s (firstCell s c) v n r
-opened-cell s c x X v n wide first r prints e f g m =
+    → FirstOf s (v .width) (r .delimiter) plain (wrapLines (v .width) (r .delimiter) (linesIn s (x .lines))) first
+    → Further s (v .width) (r .delimiter) n first (r .line) → OpenedAt s (firstCell s c) v n r × (r .line .cursor .plain ≡ plain)
+opened-cell s c x X v n plain wide first r prints e f g m =
     let y : r .delimiter ≡ orElse (firstCell s c .delimiter) (v .delimiter) = e ∙ ap (λ n. orElse n (v .delimiter)) (X .delimiter) in
     let z : r .alignment ≡ orElse (firstCell s c .alignment) (v .alignment) = f ∙ ap (λ n. orElse n (v .alignment)) (X .alignment) in
     let ls = wrapLines (v .width) (r .delimiter) (firstCell s c .lines) in
-    record {
-      stands = rw (← y) (stands-next s v ls n (r .delimiter) (drop n ls) r wide prints refl (m ls (rw (X .lines) at g)) refl);
-      delimiter = y;
-      alignment = z;
-    }
+    let l = m plain ls (rw (X .lines) at g) in (
+      record {
+        stands = rw (← y) (stands-next s v ls n (r .delimiter) plain (drop n ls) r wide prints refl l refl);
+        delimiter = y;
+        alignment = z;
+      },
+      l .same,
+    )
 
 -- ---- a row's cells, column by column
 

@@ -2,7 +2,7 @@
 use Prim.Native.Nat.{ℕ, zero, suc, _≤_, _<_}
 use mathlib.Core.Path.{_≡_, refl, sym, _∙_}
 use mathlib.Core.List.{List, [], _∷_}
-use mathlib.Core.Bool.{true, false}
+use mathlib.Core.Bool.{Bool, true, false}
 use native.Mathlib.Omega.{arith}
 use lib.ListN.{length, set, drop}
 use lib.Seq.{getD-set-other}
@@ -14,10 +14,10 @@ use Rattle.row.specs.declared.VisibleColumn.{VisibleColumn}
 use Rattle.row.specs.declared.Pending.{Pending}
 
 -- the first of some lines is pending, those being a cell's from j on
-pub stands-next : (s : List ℕ) (v : VisibleColumn) (ls : List (List ℕ)) (j d : ℕ) (next : List (List ℕ)) (r : Pending)
-    → 0 < v .width → Printable d → next ≡ drop j ls → FirstOf s (v .width) d next (r .line) → r .delimiter ≡ d → Stands s v ls j r
+pub stands-next : (s : List ℕ) (v : VisibleColumn) (ls : List (List ℕ)) (j d : ℕ) (plain : Bool) (next : List (List ℕ)) (r : Pending)
+    → 0 < v .width → Printable d → next ≡ drop j ls → FirstOf s (v .width) d plain next (r .line) → r .delimiter ≡ d → Stands s v ls j r
 unfolding remaining
-stands-next s v ls j d next r wide prints e a f = go next refl
+stands-next s v ls j d plain next r wide prints e a f = go next refl
   where
     ready : Ready s v r
     ready = record {

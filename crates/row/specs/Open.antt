@@ -21,14 +21,14 @@ pub record CellKnown (plain : Bool) (x : Cell) : Type 0 where
   pub texts : All (TextIs plain) (x .lines)
 
 -- a missing cell, one blank line, at its line n
-abbrev pub missing : VisibleColumn → ℕ → Pending
-missing v n = record {
+abbrev pub missing : VisibleColumn → ℕ → Bool → Pending
+missing v n plain = record {
   line = record {
     found = eqb n 0;
     start = 0;
     end = 0;
     columns = 0;
-    cursor = record { lines = record { at = 0; left = 0 }; from = 0; plain = true };
+    cursor = record { lines = record { at = 0; left = 0 }; from = 0; plain = plain };
   };
   delimiter = v .delimiter;
   alignment = v .alignment;

@@ -1,6 +1,7 @@
 -- Visible columns and pending lines as lists of numbers. Assumes nothing.
 use Prim.Native.Nat.{ℕ, _%_}
 use mathlib.Core.List.{List, map}
+use mathlib.Core.Bool.{Bool}
 use lib.ListN.{getD}
 use lib.Dec.{eqb}
 use Rattle.row.specs.View.{View}
@@ -18,22 +19,22 @@ columnFrom x = record {
   alignment = getD x 5 0 % 256;
 }
 
--- a pending line of ten numbers
-unfoldable pub pendingFrom : List ℕ → Pending
-pendingFrom x = record {
+-- a pending line of nine numbers, in a row that is plain or not
+unfoldable pub pendingFrom : Bool → List ℕ → Pending
+pendingFrom plain x = record {
   line = record {
     found = eqb (getD x 0 0) 1;
     start = getD x 1 0;
     end = getD x 2 0;
     columns = getD x 3 0;
-    cursor = record { lines = record { at = getD x 4 0; left = getD x 5 0 }; from = getD x 6 0; plain = eqb (getD x 7 0) 1 };
+    cursor = record { lines = record { at = getD x 4 0; left = getD x 5 0 }; from = getD x 6 0; plain = plain };
   };
-  delimiter = getD x 8 0 % 256;
-  alignment = getD x 9 0 % 256;
+  delimiter = getD x 7 0 % 256;
+  alignment = getD x 8 0 % 256;
 }
 
 abbrev pub viewOf : List (List ℕ) → ℕ → View
 viewOf columns n = record { count = n; columns = map columnFrom columns }
 
-abbrev pub pendingsOf : List (List ℕ) → List Pending
-pendingsOf state = map pendingFrom state
+abbrev pub pendingsOf : Bool → List (List ℕ) → List Pending
+pendingsOf plain state = map (pendingFrom plain) state

@@ -38,14 +38,14 @@ pub struct Pending {
 }
 
 // A missing cell at its line n. It is one blank line, which is no part of the sheet.
-fn missing_cell(v: VisibleColumn, n: usize) -> Pending
-    ensures { λ r. ⌜ r ≡ missing v n ⌝ }
+fn missing_cell(v: VisibleColumn, n: usize, plain: bool) -> Pending
+    ensures { λ r. ⌜ r ≡ missing v n plain ⌝ }
 {
     let lines = Lines { at: 0, left: 0 };
     let cursor = CellCursor {
         lines,
         from: 0,
-        plain: true,
+        plain,
     };
     let line = Next {
         found: n == 0,
@@ -65,10 +65,10 @@ fn missing_cell(v: VisibleColumn, n: usize) -> Pending
 pub fn open_cell(sheet: &[u8], cells: Cells, v: VisibleColumn, n: usize, plain: bool) -> Pending
     requires { ⌜ (0 < v .width) × Printable (v .delimiter) ⌝ }
     requires { ⌜ (cellsEnd (now sheet) cells ≤ length (now sheet)) × All (CellKnown plain) (cellsIn (now sheet) cells) ⌝ }
-    ensures { λ r. ⌜ OpenedAt (now (sheet .entry)) (firstCell (now (sheet .entry)) cells) v n r ⌝ }
+    ensures { λ r. ⌜ OpenedAt (now (sheet .entry)) (firstCell (now (sheet .entry)) cells) v n r × (r .line .cursor .plain ≡ plain) ⌝ }
 {
     if cells.left == 0 {
-        return missing_cell(v, n);
+        return missing_cell(v, n, plain);
     }
     let x = walk::cell(sheet, cells);
     let lines = x.lines;
@@ -91,13 +91,13 @@ pub fn format_row(
     cells: Cells,
     n: usize,
     plain: bool,
-    state: &mut [[usize; 10]; MOST_COLUMNS],
+    state: &mut [[usize; 9]; MOST_COLUMNS],
 ) -> bool
     requires { ⌜ Rising (viewOf (now columns) count) × (UsableAll (viewOf (now columns) count) × (length (now state) ≡ mostColumns)) ⌝ }
     requires { ⌜ (cellsEnd (now sheet) cells ≤ length (now sheet)) × All (CellKnown plain) (cellsIn (now sheet) cells) ⌝ }
     ensures { λ r.
-        ⌜ OpenedRow (now (sheet .entry)) (cellsIn (now (sheet .entry)) cells) (viewOf (now (columns .entry)) count) n (pendingsOf (now (state .exit)))
-        × (r ≡ anyFound (pendingsOf (now (state .exit))) count) ⌝ }
+        ⌜ OpenedRow (now (sheet .entry)) (cellsIn (now (sheet .entry)) cells) (viewOf (now (columns .entry)) count) n (pendingsOf plain (now (state .exit)))
+        × (r ≡ anyFound (pendingsOf plain (now (state .exit))) count) ⌝ }
 {
     let mut left = cells;
     let mut passed: usize = 0;

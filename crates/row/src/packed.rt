@@ -50,9 +50,10 @@ pub fn pack_column(v: VisibleColumn) -> [usize; 6]
     [v.number, v.width, v.left, v.right, d, a]
 }
 
-// Whether there is a line, its start, end and columns, the cell lines' place and count, where to go on, whether they are plain, delimiter, alignment.
-pub fn pending_from(x: [usize; 10]) -> Pending
-    ensures { λ r. ⌜ r ≡ pendingFrom x ⌝ }
+// Whether there is a line, its start, end and columns, the cell lines' place and count, where to go on, delimiter, alignment. Whether they are plain
+// is the same for all cells of a row, and isn't kept for each.
+pub fn pending_from(x: [usize; 9], plain: bool) -> Pending
+    ensures { λ r. ⌜ r ≡ pendingFrom plain x ⌝ }
 {
     let lines = Lines {
         at: x[4],
@@ -61,7 +62,7 @@ pub fn pending_from(x: [usize; 10]) -> Pending
     let cursor = CellCursor {
         lines,
         from: x[6],
-        plain: x[7] == 1,
+        plain,
     };
     let line = Next {
         found: x[0] == 1,
@@ -72,19 +73,18 @@ pub fn pending_from(x: [usize; 10]) -> Pending
     };
     Pending {
         line,
-        delimiter: code(x[8]),
-        alignment: code(x[9]),
+        delimiter: code(x[7]),
+        alignment: code(x[8]),
     }
 }
 
-pub fn pack_pending(t: Pending) -> [usize; 10]
-    ensures { λ r. ⌜ t ≡ pendingFrom r ⌝ }
+pub fn pack_pending(t: Pending) -> [usize; 9]
+    ensures { λ r. ⌜ t ≡ pendingFrom (t .line .cursor .plain) r ⌝ }
 {
     let line = t.line;
     let c = line.cursor;
     let lines = c.lines;
     let f = bit(line.found);
-    let p = bit(c.plain);
     let d = number(t.delimiter);
     let a = number(t.alignment);
     [
@@ -95,22 +95,20 @@ pub fn pack_pending(t: Pending) -> [usize; 10]
         lines.at,
         lines.left,
         c.from,
-        p,
         d,
         a,
     ]
 }
 
 // The entry x with another line of its cell. Delimiter and alignment stay, so that they needn't be stored again.
-pub fn repack_pending(x: [usize; 10], t: Pending) -> [usize; 10]
-    requires { ⌜ (t .delimiter ≡ pendingFrom x .delimiter) × (t .alignment ≡ pendingFrom x .alignment) ⌝ }
-    ensures { λ r. ⌜ t ≡ pendingFrom r ⌝ }
+pub fn repack_pending(x: [usize; 9], t: Pending) -> [usize; 9]
+    requires { ⌜ (t .delimiter ≡ pendingFrom (t .line .cursor .plain) x .delimiter) × (t .alignment ≡ pendingFrom (t .line .cursor .plain) x .alignment) ⌝ }
+    ensures { λ r. ⌜ t ≡ pendingFrom (t .line .cursor .plain) r ⌝ }
 {
     let line = t.line;
     let c = line.cursor;
     let lines = c.lines;
     let f = bit(line.found);
-    let p = bit(c.plain);
     [
         f,
         line.start,
@@ -119,8 +117,7 @@ pub fn repack_pending(x: [usize; 10], t: Pending) -> [usize; 10]
         lines.at,
         lines.left,
         c.from,
-        p,
+        x[7],
         x[8],
-        x[9],
     ]
 }

@@ -29,6 +29,6 @@ enter-row-spec =
     record {
       limit = r .ensures .limit;
       stands = enters (now (a .sheet)) (viewOf (now (a .columns)) (a .count)) (firstRow (now (a .sheet)) (a .here)) (D .views) (a .n)
-          (pendingsOf (f .last .1 .1 .1 .1 .1 .1 .0)) (f .result) (c .has-line .result) _ (rw (r .ensures .cells) at (f .ensures .0)) (f .ensures .1)
+          (pendingsOf (a .plain) (f .last .1 .1 .1 .1 .1 .1 .0)) (f .result) (c .has-line .result) _ (rw (r .ensures .cells) at (f .ensures .0)) (f .ensures .1)
           (r .ensures .limit) (c .has-line .ensures);
     }))

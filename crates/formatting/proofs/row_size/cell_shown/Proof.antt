@@ -31,7 +31,7 @@ cell-shown-spec =
     (λ c κs. search needs)
     (λ c.
     let l = c .before .before .before .before .loop in
-    let o = c .before .before .before .before .before .open-cell .ensures in
+    let o = c .before .before .before .before .before .open-cell .ensures .0 in
     let s = c .before .before .before .before .before .before .before in
     let G = l .inv _ (o .stands) in (
       showing-ends _ _ _ _ _ _ _ _ _ _ G (sym (not-true _ (c .if1 .taken)) ∙ c .before .has-line .ensures),
@@ -39,7 +39,7 @@ cell-shown-spec =
     ))
     (λ c κs.
     let l = c .before .before .before .before .loop in
-    let o = c .before .before .before .before .before .open-cell .ensures in
+    let o = c .before .before .before .before .before .open-cell .ensures .0 in
     let G = l .inv _ (o .stands) in
     (G .stands .ready .inside, (G .stands .ready .wide, G .stands .ready .delimiter)))
     (λ c κs.
@@ -48,13 +48,13 @@ cell-shown-spec =
     (λ c κs. search needs)
     (λ c κs.
     let l = c .before .before .before .before .before .before .before .before .loop in
-    let o = c .before .before .before .before .before .before .before .before .before .open-cell .ensures in
+    let o = c .before .before .before .before .before .before .before .before .before .open-cell .ensures .0 in
     let s = c .before .before .before .before .before .before .before .before .before .before .before in
     let G = l .inv _ (o .stands) in
     (G .stands .ready, s .pre .0 .1))
     (λ c.
     let l = c .before .before .before .before .before .before .before .before .before .loop in
-    let o = c .before .before .before .before .before .before .before .before .before .before .open-cell .ensures in
+    let o = c .before .before .before .before .before .before .before .before .before .before .open-cell .ensures .0 in
     let s = c .before .before .before .before .before .before .before .before .before .before .before .before in
     let G = l .inv _ (o .stands) in
     omega (arith, G .small, G .within, G .onward, s .pre .1 .1 .1, c .shown-pairs .ensures .1))
@@ -71,7 +71,7 @@ cell-shown-spec =
     (c .before .both .ensures ∙ ap (λ b. b && c .before .before .before .before .advance .result .line .found) (c .before .before .is-last .ensures)) _ (c .shown-pairs .ensures))
     (λ c.
     let l = c .before .loop in
-    let o = c .before .before .open-cell .ensures in
+    let o = c .before .before .open-cell .ensures .0 in
     let s = c .before .before .before .before in
     let G = l .inv _ (o .stands) in
     (showing-done _ _ _ _ _ _ _ _ _ _ G (c .loop-test .left), omega (arith, G .small, G .within, G .onward, s .pre .1 .1 .1))))

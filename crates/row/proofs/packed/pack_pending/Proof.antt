@@ -10,10 +10,7 @@ pack-pending-spec =
     (λ c κs. search needs)
     (λ c κs. search needs)
     (λ c κs. search needs)
-    (λ c κs. search needs)
     (λ c.
     let n = c .before in
-    let p = n .before in
-    let b = p .before in
-    pending-packed _ (b .bit .result) (p .bit2 .result) (n .number .result) (c .number2 .result) (b .bit .ensures) (p .bit2 .ensures)
-    (n .number .ensures) (c .number2 .ensures)))
+    let b = n .before in
+    pending-packed _ (b .bit .result) (n .number .result) (c .number2 .result) (b .bit .ensures) (n .number .ensures) (c .number2 .ensures)))

@@ -8,9 +8,6 @@ repack-pending-spec =
     tie.close
     (tie.spec
     (λ c κs. search needs)
-    (λ c κs. search needs)
     (λ c. search needs)
     (λ c. search needs)
-    (λ c.
-    let b = c .before in
-    pending-repacked _ _ (b .bit .result) (c .bit2 .result) (b .bit .ensures) (c .bit2 .ensures) (b .before .before .before .before .pre)))
+    (λ c. pending-repacked _ _ (c .bit .result) (c .bit .ensures) (c .before .before .before .before .pre)))
