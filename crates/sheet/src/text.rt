@@ -81,6 +81,17 @@ fn next_bad(sheet: &[u8], from: usize, end: usize) -> usize
     i
 }
 
+// The same where there is seldom one: all bytes are tested first, many at a time.
+fn rare_bad(sheet: &[u8], from: usize, end: usize) -> usize
+    requires { ⌜ (from ≤ end) × (end ≤ length (now sheet)) ⌝ }
+    ensures { λ r. ⌜ BadIs (now (sheet .entry)) from end r ⌝ }
+{
+    if all_printable(sheet, from, end) {
+        return end;
+    }
+    next_bad(sheet, from, end)
+}
+
 // What is no printable character at `at` of bytes that end at `end`. C2 begins a pair, unless it is the last byte: no B0 can follow it there.
 fn other_at(sheet: &[u8], at: usize, end: usize, pairs: bool) -> Step
     requires { ⌜ (at < end) × (at < length (now sheet) → printable (getD (now sheet) at 0) ≡ false) ⌝ }
@@ -137,7 +148,7 @@ fn bytes(sheet: &[u8], from: usize, inside: usize, end: usize, pairs: bool) -> S
         let Step::At(next) = step else {
             return step;
         };
-        i = next_bad(sheet, next, inside);
+        i = rare_bad(sheet, next, inside);
     }
     Step::At(i)
 }

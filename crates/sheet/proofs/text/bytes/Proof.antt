@@ -37,10 +37,10 @@ bytes-spec =
     (λ c. let turn = c .before .before .before .before in
     let inv = turn .before .before .loop .inv in
     let next = c .before .before .step .given .1 in
-    let r = left-next _ _ _ _ (inv .0) _ _ (inv .1) _ _ next (turn .other-at .ensures) _ (c .next-bad2 .ensures) in
+    let r = left-next _ _ _ _ (inv .0) _ _ (inv .1) _ _ next (turn .other-at .ensures) _ (c .rare-bad .ensures) in
     omega (arith, r .0, turn .before .loop-test .taken))
     (λ c. let turn = c .before .before .before .before in
     let inv = turn .before .before .loop .inv in
     let next = c .before .before .step .given .1 in
-    (inv .0, left-next _ _ _ _ (inv .0) _ _ (inv .1) _ _ next (turn .other-at .ensures) _ (c .next-bad2 .ensures) .1))
+    (inv .0, left-next _ _ _ _ (inv .0) _ _ (inv .1) _ _ next (turn .other-at .ensures) _ (c .rare-bad .ensures) .1))
     (λ c. let inv = c .before .loop .inv in left-done _ _ _ _ (inv .0) _ _ (inv .1) (omega arith)))
