@@ -144,7 +144,8 @@ fn draw_band(
     first: usize,
     size: usize,
 ) -> Part
-    requires { ⌜ Opened (now sheet) (now columns) p × (RowsAt (now sheet) here × SizedBand (now sheet) (viewOf (now columns) (p .count)) style (rowsIn (now sheet) here) (p .plain) size) ⌝ }
+    requires { ⌜ Opened (now sheet) (now columns) p × (RowsAt (now sheet) here
+        × SizedBand (now sheet) (viewOf (now columns) (p .count)) style (rowsIn (now sheet) here) (p .plain) size) ⌝ }
     requires { ⌜ first ≤ length (bandLines (now sheet) (viewOf (now columns) (p .count)) style (rowsIn (now sheet) here)) - 1 ⌝ }
     ensures { λ r.
         ⌜ PartIs (drop first (bandLines (now (sheet .entry)) (viewOf (now (columns .entry)) (p .count)) style (rowsIn (now (sheet .entry)) here)))

@@ -66,7 +66,11 @@ lines-again s all c r t before m k some e i next so =
     let j : k ≡ max m n = i ∙ ap (λ l. max m (textWidth l)) (e ∙ ap (λ ls. getD ls 0 []) f) in
     let h : max m (max n (greatest (map textWidth (parts (r .left) (textAt s) (lineStop s) (r .at))))) ≡ max before
     (max 1 (greatest (map textWidth (linesIn s all)))) = rw (f, ← g) at (so .whole) in
-    record { whole = rw j (max-again m n (greatest (map textWidth (parts (r .left) (textAt s) (lineStop s) (r .at))))) ∙ h; ends = next .ends ∙ so .ends; inside = rw (next .ends) (so .inside) }
+    record {
+      whole = rw j (max-again m n (greatest (map textWidth (parts (r .left) (textAt s) (lineStop s) (r .at))))) ∙ h;
+      ends = next .ends ∙ so .ends;
+      inside = rw (next .ends) (so .inside);
+    }
 
 -- a line has as many bytes as its length byte says
 pub line-bytes : (s : List ℕ) (c : Lines) (t : List ℕ) (n : ℕ) → 0 < c .left → linesEnd s c ≤ length s → t ≡ firstLine s c → n ≡ byteAt s (c .at)

@@ -22,8 +22,14 @@ cell-pairs-spec =
     (λ c. pairing-less _ _ _ _ (c .before .before .before .before .loop .inv) (c .before .before .if1 .taken) _ (c .before .line .ensures) _ (c .columns .ensures))
     (λ c.
     let s = c .before .before .before .before .before .before in
-    omega (arith, pairing-room _ _ _ _ (c .before .before .before .before .loop .inv) (c .before .before .if1 .taken) _ (c .before .line .ensures) _ (c .columns .ensures), s .good))
+    omega (
+      arith,
+      pairing-room _ _ _ _ (c .before .before .before .before .loop .inv) (c .before .before .if1 .taken) _ (c .before .line .ensures) _
+          (c .columns .ensures),
+      s .good,
+    ))
     (λ c κs. let i = c .before .before in (i .if1 .taken, i .before .before .loop .inv .ends))
     (λ c. omega (arith, c .next-line .ensures .left))
-    (λ c. pairing-on _ _ _ _ (c .before .before .before .before .before .loop .inv) (c .before .before .before .if1 .taken) _ (c .before .before .line .ensures) _ (c .before .columns .ensures) _ (c .next-line .ensures))
+    (λ c. pairing-on _ _ _ _ (c .before .before .before .before .before .loop .inv) (c .before .before .before .if1 .taken) _
+    (c .before .before .line .ensures) _ (c .before .columns .ensures) _ (c .next-line .ensures))
     (λ c. pairing-done _ _ _ _ (c .before .before .loop .inv) (c .if1 .left)))

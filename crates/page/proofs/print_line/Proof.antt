@@ -70,7 +70,8 @@ print-line-spec =
     ))
     (λ c. search needs)
     (λ c.
-    let h = is-accepted _ _ (examined _ _ (c .before .before .before .before .before .before .before .before .before .before .before .before .before .before .examine .ensures)) (c .before .before .before .before .before .before .before .before .before .before .before .before .if1 .left) in
+    let i = c .before .before .before .before .before .before .before .before .before .before .before .before in
+    let h = is-accepted _ _ (examined _ _ (i .before .before .examine .ensures)) (i .if1 .left) in
     let o = c .before .before .before .before .before .before .before .before .before .before .«open» .ensures .1 in
     let f = c .before .before .before .before .before .before .before .before .find .ensures in
     let n = c .before .before .before .before .before .before .if2 .left in

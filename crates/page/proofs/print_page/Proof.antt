@@ -48,7 +48,8 @@ print-page-spec =
     (λ c. search needs)
     (λ c.
     let o = c .before .before .before .before .before .before .before .before .before .before .«open» .ensures in
-    let h = is-accepted _ _ (examined _ _ (c .before .before .before .before .before .before .before .before .before .before .before .before .before .before .examine .ensures)) (c .before .before .before .before .before .before .before .before .before .before .before .before .if1 .left) in
+    let i = c .before .before .before .before .before .before .before .before .before .before .before .before in
+    let h = is-accepted _ _ (examined _ _ (i .before .before .examine .ensures)) (i .if1 .left) in
     let t = count-all _ h _ (o .1) _ (c .before .before .before .before .before .before .before .before .count .ensures) in
     let w = c .before .before .write in
     let e = page-written _ h _ (o .1) (now (c .before .before .before .before .before .before .before .before .before .before .before .before .before

@@ -64,7 +64,8 @@ align-line-spec =
     omega (arith, z, s .pre .1, f .ensures .0, f .kept .0, k .ensures .0, k .kept .0, m .ensures .0, m .kept .0))
     (λ c. search needs)
     (λ c.
-    let s = c .before .before .before .before .before .before .before .before .before .before .before .before .before .before .before .before .before .before .before .before .before .before in
+    let s = c .before .before .before .before .before .before .before .before .before .before .before .before .before .before .before .before .before
+    .before .before .before .before .before in
     let a = s .args in
     let b = c .before .before .before .before .before .before .before .before .before .before .before .before .before .before .before .before .before .before .spaces-before in
     let z = area-total (a .v) (a .alignment) (now (a .text)) (now (a .marks)) (a .spare) (b .result) (s .pre .0) (b .ensures .0) in

@@ -34,7 +34,8 @@ draw-row-spec =
     let s = c .before .before .before .before .before in
     let a = s .args in
     let e = c .before .enter-row .ensures in
-    running-begins (now (a .sheet)) (viewOf (now (a .columns)) (a .count)) (a .style) (firstRow (now (a .sheet)) (a .here)) (a .first) (s .pre .0 .0 .views) (now (a .page)) _ _ (e .stands))
+    running-begins (now (a .sheet)) (viewOf (now (a .columns)) (a .count)) (a .style) (firstRow (now (a .sheet)) (a .here)) (a .first)
+    (s .pre .0 .0 .views) (now (a .page)) _ _ (e .stands))
     (λ c κs.
     let s = c .before .before .before .before .before .before .before in
     let a = s .args in
@@ -43,7 +44,12 @@ draw-row-spec =
     let r = firstRow (now (a .sheet)) (a .here) in
     let G = l .inv in
     let t = c .loop-test .taken in
-    omega (arith, stands-less (now (a .sheet)) (viewOf (now (a .columns)) (a .count)) r (s .pre .0 .0 .views) (l .line) (l .more) (pendingsOf (a .plain) (l .state)) (G .stands) t, s .pre .1 .bounded .few))
+    omega (
+      arith,
+      stands-less (now (a .sheet)) (viewOf (now (a .columns)) (a .count)) r (s .pre .0 .0 .views) (l .line) (l .more)
+          (pendingsOf (a .plain) (l .state)) (G .stands) t,
+      s .pre .1 .bounded .few,
+    ))
     (λ c.
     let s = c .before .before .before .before .before .before .before .before in
     let a = s .args in
@@ -51,7 +57,8 @@ draw-row-spec =
     let e = c .before .before .before .before .enter-row .ensures in
     let r = firstRow (now (a .sheet)) (a .here) in
     let G = l .inv in
-    running-room (now (a .sheet)) (viewOf (now (a .columns)) (a .count)) (a .style) r (a .first) (s .pre .0 .0 .views) (now (a .page)) (l .page) (pendingsOf (a .plain) (l .state)) (l .more) (l .at) (l .line) G)
+    running-room (now (a .sheet)) (viewOf (now (a .columns)) (a .count)) (a .style) r (a .first) (s .pre .0 .0 .views) (now (a .page)) (l .page)
+    (pendingsOf (a .plain) (l .state)) (l .more) (l .at) (l .line) G)
     (λ c κs.
     let s = c .before .before .before .before .before .before .before .before .before in
     let a = s .args in
@@ -77,7 +84,8 @@ draw-row-spec =
     let e = c .before .before .before .before .before .before .before .enter-row .ensures in
     let r = firstRow (now (a .sheet)) (a .here) in
     let G = l .inv in
-    running-length (now (a .sheet)) (viewOf (now (a .columns)) (a .count)) (a .style) r (a .first) (s .pre .0 .0 .views) (now (a .page)) (l .page) (pendingsOf (a .plain) (l .state)) (l .more) (l .at) (l .line) G)
+    running-length (now (a .sheet)) (viewOf (now (a .columns)) (a .count)) (a .style) r (a .first) (s .pre .0 .0 .views) (now (a .page)) (l .page)
+    (pendingsOf (a .plain) (l .state)) (l .more) (l .at) (l .line) G)
     (λ c.
     let s = c .before .before .before .before .before .before .before .before .before .before .before in
     let a = s .args in
@@ -87,11 +95,15 @@ draw-row-spec =
     let G = l .inv in
     let t = c .before .before .before .before .loop-test .taken in
     let z = c .before .before .before .is-last in
-    let m = stands-measurable (now (a .sheet)) (viewOf (now (a .columns)) (a .count)) r (s .pre .0 .0 .views) (l .line) (l .more) (pendingsOf (a .plain) (l .state)) (G .stands) t (a .indicator) (s .pre .0 .1) (a .style) _ (e .limit)
+    let m = stands-measurable (now (a .sheet)) (viewOf (now (a .columns)) (a .count)) r (s .pre .0 .0 .views) (l .line) (l .more)
+    (pendingsOf (a .plain) (l .state)) (G .stands) t (a .indicator) (s .pre .0 .1) (a .style) _ (e .limit)
     (z .result) (z .ensures) (a .plain) (a .size) (s .pre .1) in
     let f = c .before .fits-after-all in
-    running-full (now (a .sheet)) (viewOf (now (a .columns)) (a .count)) (a .style) r (a .first) (s .pre .0 .0 .views) (now (a .page)) (l .page) (pendingsOf (a .plain) (l .state)) (l .more) (l .at) (l .line) G t (a .indicator) (s .pre .0 .1) _ (e .limit) (z .result) (z .ensures)
-    (too-long (a .plain) (a .size) _ _ (a .count) _ (omega (arith, c .before .before .if1 .taken, c .before .before .before .before .before .before .most-bytes .ensures)) (m .each) (m .shown) (sym (f .ensures) ∙ not-true _ (c .if2 .taken))))
+    running-full (now (a .sheet)) (viewOf (now (a .columns)) (a .count)) (a .style) r (a .first) (s .pre .0 .0 .views) (now (a .page)) (l .page)
+    (pendingsOf (a .plain) (l .state)) (l .more) (l .at) (l .line) G t (a .indicator) (s .pre .0 .1) _ (e .limit) (z .result) (z .ensures)
+    (too-long (a .plain) (a .size) _ _ (a .count) _
+    (omega (arith, c .before .before .if1 .taken, c .before .before .before .before .before .before .most-bytes .ensures))
+    (m .each) (m .shown) (sym (f .ensures) ∙ not-true _ (c .if2 .taken))))
     (λ c.
     let s = c .before .before .before .before .before .before .before .before .before in
     let a = s .args in
@@ -99,7 +111,8 @@ draw-row-spec =
     let e = c .before .before .before .before .before .enter-row .ensures in
     let r = firstRow (now (a .sheet)) (a .here) in
     let G = l .inv in
-    running-room (now (a .sheet)) (viewOf (now (a .columns)) (a .count)) (a .style) r (a .first) (s .pre .0 .0 .views) (now (a .page)) (l .page) (pendingsOf (a .plain) (l .state)) (l .more) (l .at) (l .line) G)
+    running-room (now (a .sheet)) (viewOf (now (a .columns)) (a .count)) (a .style) r (a .first) (s .pre .0 .0 .views) (now (a .page)) (l .page)
+    (pendingsOf (a .plain) (l .state)) (l .more) (l .at) (l .line) G)
     (λ c.
     let s = c .before .before .before .before .before .before .before .before .before in
     let a = s .args in
@@ -107,7 +120,8 @@ draw-row-spec =
     let e = c .before .before .before .before .before .enter-row .ensures in
     let r = firstRow (now (a .sheet)) (a .here) in
     let G = l .inv in
-    running-room (now (a .sheet)) (viewOf (now (a .columns)) (a .count)) (a .style) r (a .first) (s .pre .0 .0 .views) (now (a .page)) (l .page) (pendingsOf (a .plain) (l .state)) (l .more) (l .at) (l .line) G)
+    running-room (now (a .sheet)) (viewOf (now (a .columns)) (a .count)) (a .style) r (a .first) (s .pre .0 .0 .views) (now (a .page)) (l .page)
+    (pendingsOf (a .plain) (l .state)) (l .more) (l .at) (l .line) G)
     (λ c. search needs)
     (λ c κs.
     let s = c .before .before .before .before .before .before .before .before .before .before .before in
@@ -118,11 +132,14 @@ draw-row-spec =
     let G = l .inv in
     let t = c .before .before .before .before .loop-test .taken in
     let z = c .before .before .before .is-last in
-    let m = stands-measurable (now (a .sheet)) (viewOf (now (a .columns)) (a .count)) r (s .pre .0 .0 .views) (l .line) (l .more) (pendingsOf (a .plain) (l .state)) (G .stands) t (a .indicator) (s .pre .0 .1) (a .style) _ (e .limit)
+    let m = stands-measurable (now (a .sheet)) (viewOf (now (a .columns)) (a .count)) r (s .pre .0 .0 .views) (l .line) (l .more)
+    (pendingsOf (a .plain) (l .state)) (G .stands) t (a .indicator) (s .pre .0 .1) (a .style) _ (e .limit)
     (z .result) (z .ensures) (a .plain) (a .size) (s .pre .1) in
-    let w : length (lineBytes (now (a .sheet)) (viewOf (now (a .columns)) (a .count)) (take (a .indicator .count) (a .indicator .characters)) (a .style) (pendingsOf (a .plain) (l .state)) (z .result))
+    let w : length (lineBytes (now (a .sheet)) (viewOf (now (a .columns)) (a .count)) (take (a .indicator .count) (a .indicator .characters))
+    (a .style) (pendingsOf (a .plain) (l .state)) (z .result))
     ≤ length (l .page) - l .at =
-    ⊎-elim (λ w. short-enough (a .plain) _ _ _ (m .shown) (sym (w .1 .ensures) ∙ not-false _ (w .2 .left))) (λ w. omega (arith, w .left, c .before .before .before .before .before .before .most-bytes .ensures, m .most))
+    ⊎-elim (λ w. short-enough (a .plain) _ _ _ (m .shown) (sym (w .1 .ensures) ∙ not-false _ (w .2 .left)))
+    (λ w. omega (arith, w .left, c .before .before .before .before .before .before .most-bytes .ensures, m .most))
     (c .before .before .if1 .came) in
     ((m .ready, m .indicator), omega (arith, w, ap length (lent (l .page) (l .at)), length-drop (l .at) (l .page))))
     (λ c.
@@ -134,18 +151,23 @@ draw-row-spec =
     let G = l .inv in
     let t = c .before .before .before .before .before .before .before .before .loop-test .taken in
     let z = c .before .before .before .before .before .before .before .is-last in
-    let m = stands-measurable (now (a .sheet)) (viewOf (now (a .columns)) (a .count)) r (s .pre .0 .0 .views) (l .line) (l .more) (pendingsOf (a .plain) (l .state)) (G .stands) t (a .indicator) (s .pre .0 .1) (a .style) _ (e .limit)
+    let m = stands-measurable (now (a .sheet)) (viewOf (now (a .columns)) (a .count)) r (s .pre .0 .0 .views) (l .line) (l .more)
+    (pendingsOf (a .plain) (l .state)) (G .stands) t (a .indicator) (s .pre .0 .1) (a .style) _ (e .limit)
     (z .result) (z .ensures) (a .plain) (a .size) (s .pre .1) in
-    let w : length (lineBytes (now (a .sheet)) (viewOf (now (a .columns)) (a .count)) (take (a .indicator .count) (a .indicator .characters)) (a .style) (pendingsOf (a .plain) (l .state)) (z .result))
+    let w : length (lineBytes (now (a .sheet)) (viewOf (now (a .columns)) (a .count)) (take (a .indicator .count) (a .indicator .characters))
+    (a .style) (pendingsOf (a .plain) (l .state)) (z .result))
     ≤ length (l .page) - l .at =
-    ⊎-elim (λ w. short-enough (a .plain) _ _ _ (m .shown) (sym (w .1 .ensures) ∙ not-false _ (w .2 .left))) (λ w. omega (arith, w .left, c .before .before .before .before .before .before .before .before .before .before .most-bytes .ensures, m .most))
+    ⊎-elim (λ w. short-enough (a .plain) _ _ _ (m .shown) (sym (w .1 .ensures) ∙ not-false _ (w .2 .left)))
+    (λ w. omega (arith, w .left, c .before .before .before .before .before .before .before .before .before .before .most-bytes .ensures, m .most))
     (c .before .before .before .before .before .before .if1 .came) in
     omega (
       arith,
       c .before .before .before .write-line .ensures .0,
       w,
-      running-room (now (a .sheet)) (viewOf (now (a .columns)) (a .count)) (a .style) r (a .first) (s .pre .0 .0 .views) (now (a .page)) (l .page) (pendingsOf (a .plain) (l .state)) (l .more) (l .at) (l .line) G,
-      running-length (now (a .sheet)) (viewOf (now (a .columns)) (a .count)) (a .style) r (a .first) (s .pre .0 .0 .views) (now (a .page)) (l .page) (pendingsOf (a .plain) (l .state)) (l .more) (l .at) (l .line) G,
+      running-room (now (a .sheet)) (viewOf (now (a .columns)) (a .count)) (a .style) r (a .first) (s .pre .0 .0 .views) (now (a .page)) (l .page)
+          (pendingsOf (a .plain) (l .state)) (l .more) (l .at) (l .line) G,
+      running-length (now (a .sheet)) (viewOf (now (a .columns)) (a .count)) (a .style) r (a .first) (s .pre .0 .0 .views) (now (a .page)) (l .page)
+          (pendingsOf (a .plain) (l .state)) (l .more) (l .at) (l .line) G,
       s .good,
     ))
     (λ c.
@@ -156,7 +178,12 @@ draw-row-spec =
     let r = firstRow (now (a .sheet)) (a .here) in
     let G = l .inv in
     let t = c .before .before .before .before .before .before .before .before .loop-test .taken in
-    omega (arith, stands-less (now (a .sheet)) (viewOf (now (a .columns)) (a .count)) r (s .pre .0 .0 .views) (l .line) (l .more) (pendingsOf (a .plain) (l .state)) (G .stands) t, s .pre .1 .bounded .few))
+    omega (
+      arith,
+      stands-less (now (a .sheet)) (viewOf (now (a .columns)) (a .count)) r (s .pre .0 .0 .views) (l .line) (l .more)
+          (pendingsOf (a .plain) (l .state)) (G .stands) t,
+      s .pre .1 .bounded .few,
+    ))
     (λ c κs. search needs)
     (λ c.
     let s = c .before .before .before .before .before .before .before .before .before .before .before .before .before .before .before .before in
@@ -167,19 +194,25 @@ draw-row-spec =
     let G = l .inv in
     let t = c .before .before .before .before .before .before .before .before .before .loop-test .taken in
     let z = c .before .before .before .before .before .before .before .before .is-last in
-    let m = stands-measurable (now (a .sheet)) (viewOf (now (a .columns)) (a .count)) r (s .pre .0 .0 .views) (l .line) (l .more) (pendingsOf (a .plain) (l .state)) (G .stands) t (a .indicator) (s .pre .0 .1) (a .style) _ (e .limit)
+    let m = stands-measurable (now (a .sheet)) (viewOf (now (a .columns)) (a .count)) r (s .pre .0 .0 .views) (l .line) (l .more)
+    (pendingsOf (a .plain) (l .state)) (G .stands) t (a .indicator) (s .pre .0 .1) (a .style) _ (e .limit)
     (z .result) (z .ensures) (a .plain) (a .size) (s .pre .1) in
-    let w : length (lineBytes (now (a .sheet)) (viewOf (now (a .columns)) (a .count)) (take (a .indicator .count) (a .indicator .characters)) (a .style) (pendingsOf (a .plain) (l .state)) (z .result))
+    let w : length (lineBytes (now (a .sheet)) (viewOf (now (a .columns)) (a .count)) (take (a .indicator .count) (a .indicator .characters))
+    (a .style) (pendingsOf (a .plain) (l .state)) (z .result))
     ≤ length (l .page) - l .at =
-    ⊎-elim (λ w. short-enough (a .plain) _ _ _ (m .shown) (sym (w .1 .ensures) ∙ not-false _ (w .2 .left))) (λ w. omega (arith, w .left, c .before .before .before .before .before .before .before .before .before .before .before .most-bytes .ensures, m .most))
+    ⊎-elim (λ w. short-enough (a .plain) _ _ _ (m .shown) (sym (w .1 .ensures) ∙ not-false _ (w .2 .left)))
+    (λ w. omega (arith, w .left, c .before .before .before .before .before .before .before .before .before .before .before .most-bytes .ensures, m .most))
     (c .before .before .before .before .before .before .before .if1 .came) in
     omega (
       arith,
       c .before .before .before .before .write-line .ensures .0,
       w,
-      line-some (now (a .sheet)) (viewOf (now (a .columns)) (a .count)) r (s .pre .0 .0 .views) (l .line) (l .more) (pendingsOf (a .plain) (l .state)) (G .stands) t (a .indicator) (s .pre .0 .1) (a .style) _ (e .limit) (z .result) (z .ensures),
-      running-room (now (a .sheet)) (viewOf (now (a .columns)) (a .count)) (a .style) r (a .first) (s .pre .0 .0 .views) (now (a .page)) (l .page) (pendingsOf (a .plain) (l .state)) (l .more) (l .at) (l .line) G,
-      running-length (now (a .sheet)) (viewOf (now (a .columns)) (a .count)) (a .style) r (a .first) (s .pre .0 .0 .views) (now (a .page)) (l .page) (pendingsOf (a .plain) (l .state)) (l .more) (l .at) (l .line) G,
+      line-some (now (a .sheet)) (viewOf (now (a .columns)) (a .count)) r (s .pre .0 .0 .views) (l .line) (l .more) (pendingsOf (a .plain) (l .state))
+          (G .stands) t (a .indicator) (s .pre .0 .1) (a .style) _ (e .limit) (z .result) (z .ensures),
+      running-room (now (a .sheet)) (viewOf (now (a .columns)) (a .count)) (a .style) r (a .first) (s .pre .0 .0 .views) (now (a .page)) (l .page)
+          (pendingsOf (a .plain) (l .state)) (l .more) (l .at) (l .line) G,
+      running-length (now (a .sheet)) (viewOf (now (a .columns)) (a .count)) (a .style) r (a .first) (s .pre .0 .0 .views) (now (a .page)) (l .page)
+          (pendingsOf (a .plain) (l .state)) (l .more) (l .at) (l .line) G,
     ))
     (λ c.
     let s = c .before .before .before .before .before .before .before .before .before .before .before .before .before .before .before .before in
@@ -191,12 +224,15 @@ draw-row-spec =
     let z = c .before .before .before .before .before .before .before .before .is-last in
     let m = stands-measurable (now (a .sheet)) (viewOf (now (a .columns)) (a .count)) q (s .pre .0 .0 .views) (l .line) (l .more) (pendingsOf (a .plain) (l .state))
     (l .inv .stands) t (a .indicator) (s .pre .0 .1) (a .style) _ (e .limit) (z .result) (z .ensures) (a .plain) (a .size) (s .pre .1) in
-    let w : length (lineBytes (now (a .sheet)) (viewOf (now (a .columns)) (a .count)) (take (a .indicator .count) (a .indicator .characters)) (a .style) (pendingsOf (a .plain) (l .state)) (z .result))
+    let w : length (lineBytes (now (a .sheet)) (viewOf (now (a .columns)) (a .count)) (take (a .indicator .count) (a .indicator .characters))
+    (a .style) (pendingsOf (a .plain) (l .state)) (z .result))
     ≤ length (l .page) - l .at =
-    ⊎-elim (λ w. short-enough (a .plain) _ _ _ (m .shown) (sym (w .1 .ensures) ∙ not-false _ (w .2 .left))) (λ w. omega (arith, w .left, c .before .before .before .before .before .before .before .before .before .before .before .most-bytes .ensures, m .most))
+    ⊎-elim (λ w. short-enough (a .plain) _ _ _ (m .shown) (sym (w .1 .ensures) ∙ not-false _ (w .2 .left)))
+    (λ w. omega (arith, w .left, c .before .before .before .before .before .before .before .before .before .before .before .most-bytes .ensures, m .most))
     (c .before .before .before .before .before .before .before .if1 .came) in
     let o = c .before .before .before .before .write-line in
-    running-on (now (a .sheet)) (viewOf (now (a .columns)) (a .count)) (a .style) q (a .first) (s .pre .0 .0 .views) (now (a .page)) (l .page) (pendingsOf (a .plain) (l .state)) (l .more) (l .at) (l .line) (l .inv) t (a .indicator) (s .pre .0 .1) _ (e .limit) (z .result)
+    running-on (now (a .sheet)) (viewOf (now (a .columns)) (a .count)) (a .style) q (a .first) (s .pre .0 .0 .views) (now (a .page)) (l .page)
+    (pendingsOf (a .plain) (l .state)) (l .more) (l .at) (l .line) (l .inv) t (a .indicator) (s .pre .0 .1) _ (e .limit) (z .result)
     (z .ensures) w _ (o .last .0) _ (o .result .more) (c .has-line .result) (o .result .written) (o .ensures .1 .1) refl (o .ensures .0) (o .ensures .1 .0 .0)
     (o .ensures .1 .0 .1) (c .has-line .ensures))
     (λ c.
@@ -214,7 +250,8 @@ draw-row-spec =
     let e = c .before .before .before .enter-row .ensures in
     let r = firstRow (now (a .sheet)) (a .here) in
     let G = l .inv in
-    running-length (now (a .sheet)) (viewOf (now (a .columns)) (a .count)) (a .style) r (a .first) (s .pre .0 .0 .views) (now (a .page)) (l .page) (pendingsOf (a .plain) (l .state)) (l .more) (l .at) (l .line) G)
+    running-length (now (a .sheet)) (viewOf (now (a .columns)) (a .count)) (a .style) r (a .first) (s .pre .0 .0 .views) (now (a .page)) (l .page)
+    (pendingsOf (a .plain) (l .state)) (l .more) (l .at) (l .line) G)
     (λ c.
     let s = c .before .before .before .before .before .before .before in
     let a = s .args in
@@ -222,4 +259,5 @@ draw-row-spec =
     let e = c .before .before .before .enter-row .ensures in
     let r = firstRow (now (a .sheet)) (a .here) in
     let G = l .inv in
-    running-ends (now (a .sheet)) (viewOf (now (a .columns)) (a .count)) (a .style) r (a .first) (s .pre .0 .0 .views) (now (a .page)) (l .page) (pendingsOf (a .plain) (l .state)) (l .more) (l .at) (l .line) G (c .loop-test .left)))
+    running-ends (now (a .sheet)) (viewOf (now (a .columns)) (a .count)) (a .style) r (a .first) (s .pre .0 .0 .views) (now (a .page)) (l .page)
+    (pendingsOf (a .plain) (l .state)) (l .more) (l .at) (l .line) G (c .loop-test .left)))

@@ -16,7 +16,12 @@ band-bytes-spec =
     (λ c.
     let s = c .before .before in
     let a = s .args in
-    omega (arith, bytes-plain (now (a .sheet)) (viewOf (now (a .columns)) (a .p .count)) (a .style) (a .here) (a .p .plain) (a .size) (s .pre .0 .1 .1) (c .if1 .taken) (a .n) (s .pre .1), bytes-most (now (a .sheet)) (viewOf (now (a .columns)) (a .p .count)) (a .style) (a .here) (a .p .plain) (a .size) (s .pre .0 .1 .1)))
+    omega (
+      arith,
+      bytes-plain (now (a .sheet)) (viewOf (now (a .columns)) (a .p .count)) (a .style) (a .here) (a .p .plain) (a .size) (s .pre .0 .1 .1)
+          (c .if1 .taken) (a .n) (s .pre .1),
+      bytes-most (now (a .sheet)) (viewOf (now (a .columns)) (a .p .count)) (a .style) (a .here) (a .p .plain) (a .size) (s .pre .0 .1 .1),
+    ))
     (λ c.
     let s = c .before .before in
     let a = s .args in
@@ -37,7 +42,8 @@ band-bytes-spec =
     let r = c .before .before .before .row .ensures in
     omega (
       arith,
-      bytes-held (now (a .sheet)) (viewOf (now (a .columns)) (a .p .count)) (a .style) (a .here) (a .p .plain) (a .size) (s .pre .0 .1 .1) some (sym (r .limit) ∙ c .if3 .taken) (a .n) _ (s .pre .1) refl,
+      bytes-held (now (a .sheet)) (viewOf (now (a .columns)) (a .p .count)) (a .style) (a .here) (a .p .plain) (a .size) (s .pre .0 .1 .1) some
+          (sym (r .limit) ∙ c .if3 .taken) (a .n) _ (s .pre .1) refl,
       bytes-most (now (a .sheet)) (viewOf (now (a .columns)) (a .p .count)) (a .style) (a .here) (a .p .plain) (a .size) (s .pre .0 .1 .1),
     ))
     (λ c κs.
@@ -58,7 +64,8 @@ band-bytes-spec =
     let r = c .before .before .before .before .row .ensures in
     omega (
       arith,
-      bytes-held (now (a .sheet)) (viewOf (now (a .columns)) (a .p .count)) (a .style) (a .here) (a .p .plain) (a .size) (s .pre .0 .1 .1) some (sym (r .limit) ∙ c .before .if3 .taken) (a .n) _ (s .pre .1) (rw (r .cells) at (c .row-pairs .ensures .0)),
+      bytes-held (now (a .sheet)) (viewOf (now (a .columns)) (a .p .count)) (a .style) (a .here) (a .p .plain) (a .size) (s .pre .0 .1 .1) some
+          (sym (r .limit) ∙ c .before .if3 .taken) (a .n) _ (s .pre .1) (rw (r .cells) at (c .row-pairs .ensures .0)),
       bytes-most (now (a .sheet)) (viewOf (now (a .columns)) (a .p .count)) (a .style) (a .here) (a .p .plain) (a .size) (s .pre .0 .1 .1),
     ))
     (λ c.
@@ -66,7 +73,8 @@ band-bytes-spec =
     let a = s .args in
     let some : 0 < a .here .left = omega (arith, c .before .before .before .before .before .if2 .left) in
     let r = c .before .before .before .before .row .ensures in
-    bytes-held (now (a .sheet)) (viewOf (now (a .columns)) (a .p .count)) (a .style) (a .here) (a .p .plain) (a .size) (s .pre .0 .1 .1) some (sym (r .limit) ∙ c .before .if3 .taken) (a .n) _ (s .pre .1) (rw (r .cells) at (c .row-pairs .ensures .0)))
+    bytes-held (now (a .sheet)) (viewOf (now (a .columns)) (a .p .count)) (a .style) (a .here) (a .p .plain) (a .size) (s .pre .0 .1 .1) some
+    (sym (r .limit) ∙ c .before .if3 .taken) (a .n) _ (s .pre .1) (rw (r .cells) at (c .row-pairs .ensures .0)))
     (λ c.
     let s = c .before .before .before .before .before .before .before .before .before in
     let a = s .args in
@@ -84,7 +92,15 @@ band-bytes-spec =
         drawable (now (a .sheet)) (now (a .columns)) (a .p) (s .pre .0 .0) (a .here) (s .pre .0 .1 .0) some,
         (s .pre .0 .0 .marks .indicator, accepted-short (now (a .sheet)) (s .pre .0 .0 .passes)),
       ),
-      (omega arith, omega (arith, s .pre .1, bytes-few (now (a .sheet)) (viewOf (now (a .columns)) (a .p .count)) (a .style) (a .here) (a .p .plain) (a .size) (s .pre .0 .1 .1) some)),
+      (
+        omega arith,
+        omega (
+          arith,
+          s .pre .1,
+          bytes-few (now (a .sheet)) (viewOf (now (a .columns)) (a .p .count)) (a .style) (a .here) (a .p .plain)
+              (a .size) (s .pre .0 .1 .1) some,
+        ),
+      ),
     ))
     (λ c.
     let s = c .before .before .before .before .before .before .before .before .before .before in
@@ -93,7 +109,8 @@ band-bytes-spec =
     let z : a .n - 0 ≡ a .n = omega arith in
     omega (
       arith,
-      bytes-shown (now (a .sheet)) (viewOf (now (a .columns)) (a .p .count)) (a .style) (a .here) (a .p .plain) (a .size) (s .pre .0 .1 .1) some (a .n) _ (s .pre .1) (rw (s .pre .0 .0 .marks .are, z) at (c .row-shown .ensures .0)),
+      bytes-shown (now (a .sheet)) (viewOf (now (a .columns)) (a .p .count)) (a .style) (a .here) (a .p .plain) (a .size) (s .pre .0 .1 .1) some
+          (a .n) _ (s .pre .1) (rw (s .pre .0 .0 .marks .are, z) at (c .row-shown .ensures .0)),
       bytes-most (now (a .sheet)) (viewOf (now (a .columns)) (a .p .count)) (a .style) (a .here) (a .p .plain) (a .size) (s .pre .0 .1 .1),
     ))
     (λ c.
@@ -101,4 +118,5 @@ band-bytes-spec =
     let a = s .args in
     let some : 0 < a .here .left = omega (arith, c .before .before .before .before .before .before .if2 .left) in
     let z : a .n - 0 ≡ a .n = omega arith in
-    bytes-shown (now (a .sheet)) (viewOf (now (a .columns)) (a .p .count)) (a .style) (a .here) (a .p .plain) (a .size) (s .pre .0 .1 .1) some (a .n) _ (s .pre .1) (rw (s .pre .0 .0 .marks .are, z) at (c .row-shown .ensures .0))))
+    bytes-shown (now (a .sheet)) (viewOf (now (a .columns)) (a .p .count)) (a .style) (a .here) (a .p .plain) (a .size) (s .pre .0 .1 .1) some (a .n)
+    _ (s .pre .1) (rw (s .pre .0 .0 .marks .are, z) at (c .row-shown .ensures .0))))

@@ -59,7 +59,8 @@ bytes-spec =
     let s = c .before .before .before .before .before .before .before .before .before .before .before in
     let a = s .args in
     let y = c .before .before .body-style in
-    body-bytes (now (a .sheet)) (now (a .columns)) (a .p) (s .pre .0 .0) (a .c) (y .result) (c .before .before .before .enum-told3 .given .1) (y .ensures) _ (c .band-bytes2 .ensures))
+    body-bytes (now (a .sheet)) (now (a .columns)) (a .p) (s .pre .0 .0) (a .c) (y .result) (c .before .before .before .enum-told3 .given .1)
+    (y .ensures) _ (c .band-bytes2 .ensures))
     (λ c.
     let s = c .before .before .before .before .before .before .before .before .before in
     let a = s .args in
