@@ -1,5 +1,5 @@
 -- A row's text lines, by what they are drawn with. Assumes nothing.
-use Prim.Native.Nat.{ℕ, _+_, _*_, _≤_, _<_}
+use Prim.Native.Nat.{ℕ, _+_, _*_, _≤_, _<_, min}
 use mathlib.Core.Path.{_≡_}
 use mathlib.Core.List.{List, [], map}
 use mathlib.Core.Bool.{Bool, true, false}
@@ -56,10 +56,11 @@ pub record Bounded (s : List ℕ) (y : TextStyle) (r : Row) : Type 0 where
   pub short : (k : ℕ) → k < rowHeight s r → length (getD (rowLines s y r) k []) ≤ longestLine
   pub few : rowHeight s r ≤ mostLines
 
--- the most bytes that a line takes, n being those of a plain one, in so many visible columns: a cell's line shows at most 100 pairs
+-- the most bytes that a line takes, n being those of a plain one, in so many visible columns: a cell's line shows at most 100 pairs, and
+-- a line no more of them than it has columns
 abbrev pub mostBytes : Bool → ℕ → ℕ → ℕ
 mostBytes true n count = n
-mostBytes false n count = n + 100 * count
+mostBytes false n count = n + min n (100 * count)
 
 -- and each takes n bytes, its 0A included, and the pairs that it shows; if the row is said to be plain, it shows none
 pub record Sized (s : List ℕ) (y : TextStyle) (r : Row) (plain : Bool) (view : View) (n : ℕ) : Type 0 where

@@ -332,7 +332,7 @@ pub struct Part {
     pub whole: bool,
 }
 
-// The most bytes that a text line takes: on a plain page `size`, on others up to 100 more for each column.
+// The most bytes that a text line takes: on a plain page `size`, on others up to 100 more for each column, and no more than twice as many.
 fn most_bytes(plain: bool, size: usize, count: usize) -> usize
     requires { ⌜ (size ≤ longestLine + 1) × (count ≤ mostColumns) ⌝ }
     ensures { λ r. ⌜ r ≡ mostBytes plain size count ⌝ }
@@ -340,7 +340,7 @@ fn most_bytes(plain: bool, size: usize, count: usize) -> usize
     if plain {
         return size;
     }
-    size + 100 * count
+    size + numbers::lesser(size, 100 * count)
 }
 
 // Whether line `line` of the first of some rows fits, where the most that a line takes wouldn't.

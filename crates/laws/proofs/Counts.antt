@@ -10,7 +10,7 @@ use lib.Dec.{ltb, eqb}
 use borrow.Author.Tests.{ltb-true, ltb-false}
 use Rattle.rules.specs.Text.{textWidth, restOf, sum, upFrom, keep, flat, All}
 use Rattle.rules.specs.Sheet.{Cell, Row, Table, noCell, noColumn, columnAt, cellAt, padding, isHidden}
-use Rattle.rules.specs.Limits.{widestLine, longestLine, ColumnLimits, LineLimits, CellLimits, RowLimits, TableLimits, mostLines}
+use Rattle.rules.specs.Limits.{IsText, widestLine, longestLine, ColumnLimits, LineLimits, CellLimits, RowLimits, TableLimits, mostLines}
 use Rattle.rules.specs.Style.{topBorder, headerLines, headerRule, contentLines, rowRule, bottomBorder, anyLeft, anyRight, anyJunction, isVisible, bordersOf}
 use Rattle.rules.specs.Wrap.{Act, join, retry, fill, begin, onto, pieces, glue, room, full, act, last, place, weight, split, wrapLine, wrapLines}
 use Rattle.rules.specs.Wrap.{exceeds, cutLine, cut, delimiterOf}
@@ -26,6 +26,8 @@ use Rattle.laws.proofs.Rows.{all-headed, all-ruledRows}
 use Rattle.laws.proofs.PairCounts.{PairsUpTo, shown-100}
 use Rattle.laws.proofs.Lines.{rule-length, border-length, rule-width, border-width, text-width, text-bound}
 use Rattle.laws.proofs.Sizes.{length-closed}
+use Rattle.laws.proofs.Texts.{text-length}
+use Rattle.laws.proofs.Characters.{printable-textLine, printable-areaAt}
 
 -- ---- lines of a cell
 
@@ -383,6 +385,15 @@ module _ (t : Table) (T : TableLimits t) where
   pub text-line-most : (r : Row) → All CellLimits (r .cells) → (k i : ℕ)
       → length (textLine (t .style) k (map (areaAt t (contents t) r i) (visible t))) ≤ lineLength t (contents t) + 100 * length (visible t)
   text-line-most r R k i = omega (arith, text-width t (T .style-characters) (contents t) r k i, text-drawn t T r R k i .1)
+
+  -- nor does it show more pairs than it has columns
+  pub text-line-twice : (r : Row) → All CellLimits (r .cells) → (k i : ℕ)
+      → length (textLine (t .style) k (map (areaAt t (contents t) r i) (visible t))) ≤ 2 * lineLength t (contents t)
+  text-line-twice r R k i =
+      let ps = map (areaAt t (contents t) r i) (visible t) in
+      let texts = all-map IsText (areaAt t (contents t) r i) (printable-areaAt t T (contents t) r R i) (visible t) in
+      let line : IsText (textLine (t .style) k ps) = printable-textLine (t .style) (T .style-characters) k ps texts in
+      omega (arith, text-width t (T .style-characters) (contents t) r k i, text-length line)
 
   -- no text line has more bytes
   pub text-line-bound : (r : Row) → All CellLimits (r .cells) → (k i : ℕ)

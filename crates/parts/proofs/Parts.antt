@@ -17,7 +17,7 @@ use Rattle.rules.specs.Widths.{visible}
 use Rattle.rules.specs.Page.{areas, areaAt, textLine, rowText, visibleWidths, borderLength, closed, ruled, shown, headed, ruledRows, ruledMore, framed}
 use Rattle.laws.proofs.Areas.{length-areas, line-at, visible-some}
 use Rattle.laws.proofs.RowBytes.{line-bytes, row-shown, row-bytes}
-use Rattle.laws.proofs.Counts.{height-bound, text-line-bound, text-line-most}
+use Rattle.laws.proofs.Counts.{height-bound, text-line-bound, text-line-most, text-line-twice}
 use Rattle.laws.proofs.Lines.{plain-row, rule-length, border-length}
 use Rattle.laws.proofs.Lists.{all-drop, all-getD, all-left, all-right, getD-map}
 use Rattle.table.specs.Held.{IsAccepted, tableOf}
@@ -398,8 +398,11 @@ module _ (s : List ℕ) (cols : List (List ℕ)) (p : Page) (O : Opened s cols p
         most-of true e j i = omega (arith, plain-each k here A h e j i)
         most-of false e j i =
             let r = firstRow s here in
-            let m = text-line-most (tableOf s) (limits-of s (O .passes)) r (first-limits s here A h .each) k j in
-            omega (arith, ap length (text-at k r j i), m, L .line, O .views .count)
+            let T = limits-of s (O .passes) in
+            let R = first-limits s here A h .each in
+            let most = text-line-most (tableOf s) T r R k j in
+            let twice = text-line-twice (tableOf s) T r R k j in
+            omega (arith, ap length (text-at k r j i), most, twice, L .line, O .views .count)
 
     text-pairs : (k : ℕ) (here : Rows) → RowsAt s here → 0 < here .left → firstRow s here .limit ≡ 0
         → length (closed (rowLines s (textStyleOf (tableOf s .style) k) (firstRow s here)))

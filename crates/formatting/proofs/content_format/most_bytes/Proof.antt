@@ -1,5 +1,6 @@
 use borrow.Author.Needs.{needs}
-use mathlib.Core.Path.{sym, ap}
+use Prim.Native.Nat.{_+_}
+use mathlib.Core.Path.{sym, ap, _∙_}
 use Rattle.formatting.specs.RowText.{mostBytes}
 use Rattle.formatting.proofs.content_format.most_bytes.Statement.{statement}
 use Rattle.formatting.proofs.content_format.most_bytes.Tie as tie
@@ -10,5 +11,8 @@ most-bytes-spec =
     (tie.spec
     (λ c. let a = c .before .args in sym (ap (λ b. mostBytes b (a .size) (a .count)) (c .if1 .taken)))
     (λ c. search needs)
+    (λ c κs. search needs)
     (λ c. search needs)
-    (λ c. let a = c .before .args in sym (ap (λ b. mostBytes b (a .size) (a .count)) (c .if1 .left))))
+    (λ c.
+    let a = c .before .before .args in
+    ap (λ m. a .size + m) (c .lesser .ensures) ∙ sym (ap (λ b. mostBytes b (a .size) (a .count)) (c .before .if1 .left))))
