@@ -160,7 +160,7 @@ setpoint = ascii "21.5" ++ (sign ++ ascii "C")
 abbrev pub setpointSign : List ℕ
 setpointSign = ascii "21.5" ++ sign
 
--- a line of this length byte and these bytes, read from place 0, and after it the first places of other lines or nothing
+-- what is read of a line at place 0: its length byte, and the bytes that the sheet has after it
 abbrev pub lineRead : ℕ → List ℕ → Read (List ℕ)
 lineRead n l = reads line (n ∷ l) 0
 
@@ -193,6 +193,7 @@ pub record Degrees : Type 0 where
 -- what a line with C2 or B0 in it is read as, or refused for: the length byte stands at place 0
 pub record Pairs : Type 0 where
   pub whole : lineRead 7 setpoint ≡ got setpoint 8
+  pub hundred : lineRead 200 (flat (replicate 100 sign)) ≡ got (flat (replicate 100 sign)) 201
   pub ends-in-pair : lineRead 3 (97 ∷ 194 ∷ []) ≡ refused 1 3
   pub ends-at-first : lineRead 2 (194 ∷ []) ≡ refused 1 2
   pub last-byte : lineRead 2 (97 ∷ 194 ∷ []) ≡ refused 6 2
@@ -286,6 +287,7 @@ pub pairs : Pairs
 unfolding rules
 pairs = record {
   whole = refl;
+  hundred = refl;
   ends-in-pair = refl;
   ends-at-first = refl;
   last-byte = refl;
