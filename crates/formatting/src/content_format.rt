@@ -337,10 +337,11 @@ fn most_bytes(plain: bool, size: usize, count: usize) -> usize
     requires { ⌜ (size ≤ longestLine + 1) × (count ≤ mostColumns) ⌝ }
     ensures { λ r. ⌜ r ≡ mostBytes plain size count ⌝ }
 {
+    let pairs = numbers::lesser(size, 100 * count);
     if plain {
         return size;
     }
-    size + numbers::lesser(size, 100 * count)
+    size + pairs
 }
 
 // Whether line `line` of the first of some rows fits, where the most that a line takes wouldn't.

@@ -9,10 +9,10 @@ pub most-bytes-spec : {M : Type 1} → statement M
 most-bytes-spec =
     tie.close
     (tie.spec
-    (λ c. let a = c .before .args in sym (ap (λ b. mostBytes b (a .size) (a .count)) (c .if1 .taken)))
     (λ c. search needs)
     (λ c κs. search needs)
+    (λ c. let a = c .before .before .args in sym (ap (λ b. mostBytes b (a .size) (a .count)) (c .if1 .taken)))
     (λ c. search needs)
     (λ c.
     let a = c .before .before .args in
-    ap (λ m. a .size + m) (c .lesser .ensures) ∙ sym (ap (λ b. mostBytes b (a .size) (a .count)) (c .before .if1 .left))))
+    ap (λ m. a .size + m) (c .before .lesser .ensures) ∙ sym (ap (λ b. mostBytes b (a .size) (a .count)) (c .if1 .left))))
