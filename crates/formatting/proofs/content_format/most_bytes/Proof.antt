@@ -1,6 +1,6 @@
 use borrow.Author.Needs.{needs}
-use Prim.Native.Nat.{_+_}
-use mathlib.Core.Path.{sym, ap, _∙_}
+use Prim.Native.Nat.{_+_, _*_, min}
+use mathlib.Core.Path.{_≡_, sym, ap, _∙_}
 use Rattle.formatting.specs.RowText.{mostBytes}
 use Rattle.formatting.proofs.content_format.most_bytes.Statement.{statement}
 use Rattle.formatting.proofs.content_format.most_bytes.Tie as tie
@@ -15,4 +15,5 @@ most-bytes-spec =
     (λ c. search needs)
     (λ c.
     let a = c .before .before .args in
-    ap (λ m. a .size + m) (c .before .lesser .ensures) ∙ sym (ap (λ b. mostBytes b (a .size) (a .count)) (c .if1 .left))))
+    let pairs : c .before .lesser .result ≡ min (a .size) (100 * a .count) = c .before .lesser .ensures in
+    ap (λ n. a .size + n) pairs ∙ sym (ap (λ b. mostBytes b (a .size) (a .count)) (c .if1 .left))))
