@@ -333,6 +333,7 @@ pub struct Part {
 }
 
 // The most bytes that a text line takes: on a plain page `size`, on others up to 100 more for each column, and no more than twice as many.
+// The lesser is taken before the test: after it, drawing is compiled otherwise, and pages of short lines take a tenth longer.
 fn most_bytes(plain: bool, size: usize, count: usize) -> usize
     requires { ⌜ (size ≤ longestLine + 1) × (count ≤ mostColumns) ⌝ }
     ensures { λ r. ⌜ r ≡ mostBytes plain size count ⌝ }
