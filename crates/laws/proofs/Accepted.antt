@@ -136,7 +136,7 @@ table-limits t k =
 
 -- ---- the sheet
 
-line-whole : Faithful line Whole
+pub line-whole : Faithful line Whole
 unfolding Faithful line
 line-whole l = tt
 

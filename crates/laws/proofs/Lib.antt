@@ -13,6 +13,7 @@ pub mod Fitting
 pub mod Reading
 pub mod Accepted
 pub mod Stands
+pub mod Writing
 pub mod Plainly
 pub mod Settled
 pub mod Wrote

@@ -1,5 +1,5 @@
 -- Demand 3's premises can be met, and those named below are needed: pairs of sheets, as bytes, all computed. Assumes nothing.
-use Prim.Native.Nat.{ℕ, zero, suc, _+_, _/_, _%_, _<_}
+use Prim.Native.Nat.{ℕ, zero, suc, _+_, _<_}
 use mathlib.Core.Path.{_≡_, refl}
 use mathlib.Core.Logic.{_≢_}
 use mathlib.Core.List.{List, [], _∷_, _++_, map}
@@ -9,11 +9,9 @@ use lib.ListN.{length, replicate}
 use lib.Dec.{eqb}
 use Rattle.rules.specs.Opened.{rules}
 use Rattle.rules.specs.Quote.{ascii}
-use Rattle.rules.specs.Text.{flat}
-use Rattle.rules.specs.Sheet.{Cell, Row, Table, noWidth, allRows}
-use Rattle.rules.specs.declared.Column.{Column}
+use Rattle.rules.specs.Sheet.{Row, Table, noWidth, allRows}
 use Rattle.rules.specs.Field.{got}
-use Rattle.rules.specs.Format.{sheet}
+use Rattle.rules.specs.Format.{sheet, written}
 use Rattle.rules.specs.Style.{topBorder, headerLines, headerRule, contentLines, rowRule, glyphAt, glyph, isVisible}
 use Rattle.rules.specs.Widths.{visible, first, contents}
 use Rattle.rules.specs.Page.{height, page}
@@ -21,27 +19,6 @@ use Rattle.rules.specs.Words.{linesOf, characters, letters}
 use Rattle.rules.specs.Demand3.{Comparable, Agree}
 use Rattle.rules.specs.Examples.{grid}
 use Rattle.laws.proofs.Wrote.{grid-readable}
-
--- a table's sheet, byte by byte
-abbrev twoBytes : ℕ → List ℕ
-twoBytes n = n % 256 ∷ n / 256 ∷ []
-
-abbrev columnBytes : Column → List ℕ
-columnBytes c = (c .left ∷ c .right ∷ c .delimiter ∷ c .alignment ∷ c .constraint ∷ []) ++ (c .first .unit ∷ twoBytes (c .first .value)) ++
-    (c .second .unit ∷ twoBytes (c .second .value))
-
-abbrev cellBytes : Cell → List ℕ
-cellBytes x = x .delimiter ∷ x .alignment ∷ length (x .lines) ∷ flat (map (λ l. length l ∷ l) (x .lines))
-
-abbrev rowBytes : Row → List ℕ
-rowBytes r = r .limit ∷ length (r .cells) ∷ flat (map cellBytes (r .cells))
-
--- the whole sheet
-abbrev pub sheetOf : Table → List ℕ
-sheetOf t =
-    (t .edition ∷ t .arrangement ∷ twoBytes (t .target)) ++ (t .delimiter ∷ length (t .indicator) ∷ t .indicator) ++ (length (t .style) ∷ t .style)
-    ++ (length (t .columns) ∷ flat (map columnBytes (t .columns))) ++ (length (t .header) ∷ flat (map rowBytes (t .header))) ++
-    (length (t .rows) ∷ flat (map rowBytes (t .rows)))
 
 -- columns of absolute widths without padding; rows of one cell: its limit, delimiter (0 is none) and lines
 abbrev made : List ℕ → List ℕ → List Row → List Row → Table
@@ -88,8 +65,8 @@ conditions S =
 
 -- two accepted sheets with one style that meets the conditions cs, a visible column each, rows of hs and ks lines, and one page
 pub record Pair (t u : Table) (cs : List Bool) (hs ks : List ℕ) : Type 0 where
-  pub first-read : sheet (sheetOf t) ≡ got t (length (sheetOf t))
-  pub second-read : sheet (sheetOf u) ≡ got u (length (sheetOf u))
+  pub first-read : sheet (written t) ≡ got t (length (written t))
+  pub second-read : sheet (written u) ≡ got u (length (written u))
   pub one-style : t .style ≡ u .style
   pub style : conditions (t .style) ≡ cs
   pub first-column : 0 < length (visible t)
@@ -110,13 +87,13 @@ other = made grid (2 ∷ []) [] (one 0 0 (ascii "ab ce" ∷ []) ∷ [])
 
 -- the premises can be met, by sheets whose pages are equal although their cells differ in spaces and delimiters, and by sheets whose pages differ
 pub record Met : Type 0 where
-  pub equal : Comparable (sheetOf spaced) (sheetOf dashed) spaced dashed
+  pub equal : Comparable (written spaced) (written dashed) spaced dashed
   pub spaced-page : page spaced ≡ ascii "+--+\n|ab|\n|cd|\n+--+\n"
   pub dashed-page : page dashed ≡ ascii "+--+\n|ab|\n|cd|\n+--+\n"
   pub spaced-text : characters spaced 0 0 ≡ ascii "ab  cd"
   pub dashed-text : characters dashed 0 0 ≡ ascii "ab-cd"
   pub same-letters : letters spaced dashed 0 0 (ascii "ab  cd") ≡ ascii "abcd"
-  pub unequal : Comparable (sheetOf spaced) (sheetOf other) spaced other
+  pub unequal : Comparable (written spaced) (written other) spaced other
   pub other-page : page other ≡ ascii "+--+\n|ab|\n|ce|\n+--+\n"
 
 one-row : (t : Table) (n : ℕ) → length (allRows t) ≡ 1 → linesOf t 0 ≡ suc n → (i : ℕ) → i < length (allRows t) → 0 < linesOf t i
@@ -127,8 +104,8 @@ pub met : Met
 unfolding rules
 met = record {
   equal = record {
-    first-accepted = record { end = length (sheetOf spaced); reads = refl };
-    second-accepted = record { end = length (sheetOf dashed); reads = refl };
+    first-accepted = record { end = length (written spaced); reads = refl };
+    second-accepted = record { end = length (written dashed); reads = refl };
     one-style = refl;
     readable = grid-readable;
     first-column = omega arith;
@@ -142,8 +119,8 @@ met = record {
   dashed-text = refl;
   same-letters = refl;
   unequal = record {
-    first-accepted = record { end = length (sheetOf spaced); reads = refl };
-    second-accepted = record { end = length (sheetOf other); reads = refl };
+    first-accepted = record { end = length (written spaced); reads = refl };
+    second-accepted = record { end = length (written other); reads = refl };
     one-style = refl;
     readable = grid-readable;
     first-column = omega arith;

@@ -39,7 +39,7 @@ unfolding past
 past-onward zero stop p h = omega arith
 past-onward (suc n) stop p h = let a = h p in let b = past-onward n stop (stop p) h in omega arith
 
-stop-onward : {A : Type 0} (x : Format A) (s : List ℕ) (p : ℕ) → p ≤ stop x s p
+pub stop-onward : {A : Type 0} (x : Format A) (s : List ℕ) (p : ℕ) → p ≤ stop x s p
 unfolding stands lineStop
 stop-onward byte s p = omega arith
 stop-onward word s p = omega arith

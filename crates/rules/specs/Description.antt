@@ -1,10 +1,12 @@
--- One description of fields in a row. Its readings: `reads`, a value or a refusal; `stands`, what is where, untested; `after` (Steps). Assumes nothing.
-use Prim.Native.Nat.{ℕ, zero, suc, _+_, _*_}
+-- One description of fields in a row. Its readings: `reads`, a value or a refusal; `writes`, a value's bytes; `stands`, what is where, untested; `after` (Steps).
+-- Assumes nothing.
+use Prim.Native.Nat.{ℕ, zero, suc, _+_, _*_, _/_, _%_}
 use mathlib.Core.Path.{_≡_}
-use mathlib.Core.List.{List, [], _∷_}
+use mathlib.Core.List.{List, [], _∷_, _++_, map}
 use mathlib.Core.Bool.{Bool, true, false}
-use lib.ListN.{take, drop}
+use lib.ListN.{length, take, drop}
 use lib.Dec.{eqb}
+use Rattle.rules.specs.Text.{flat}
 use Rattle.rules.specs.Field as field
 use Rattle.rules.specs.Field.{Reader, got, onward, byteAt, wordAt, between, printable, printableOrZero, several}
 
@@ -93,6 +95,18 @@ reads (cellText low high) = λ s p. onward (textLength low high s p) (λ n q. ch
 reads (listed count x) = λ s p. onward (reads count s p) (λ n q. several n (reads x) s q)
 reads (give a) = λ s p. got a p
 reads (next of x g) = λ s p. onward (reads x s p) (λ a q. reads (g a) s q)
+
+-- a value's bytes, field by field; nothing is tested
+unfoldable pub writes : {A : Type 0} → Format A → A → List ℕ
+writes byte v = v ∷ []
+writes word v = v % 256 ∷ v / 256 ∷ []
+writes (only good fault x) v = writes x v
+writes zeroWord v = v % 256 ∷ v / 256 ∷ []
+writes (text low high good) l = length l ∷ l
+writes (cellText low high) l = length l ∷ l
+writes (listed count x) as′ = writes count (length as′) ++ flat (map (λ a. writes x a) as′)
+writes (give a) u = []
+writes (next of x g) u = writes x (of u) ++ writes (g (of u)) u
 
 -- the position after n parts, each of which ends where `stop` says
 unfoldable pub past : ℕ → (ℕ → ℕ) → ℕ → ℕ

@@ -11,7 +11,7 @@ use Rattle.rules.specs.Sheet.{Column, Row, Table, noWidth, noColumn}
 use Rattle.rules.specs.Text.{textWidth, flat}
 use Rattle.rules.specs.Field.{Read, got, refused, printable}
 use Rattle.rules.specs.Description.{text, reads}
-use Rattle.rules.specs.Format.{line, sheet}
+use Rattle.rules.specs.Format.{line, sheet, written}
 use Rattle.rules.specs.Wrap.{place, wrapLine, cutLine}
 use Rattle.rules.specs.Widths.{borders, widthOf, first, splitAtAverage, share, contents}
 use Rattle.rules.specs.Style.{rowRule}
@@ -128,6 +128,7 @@ houseTable = record {
 
 pub record House : Type 0 where
   pub reads : sheet house ≡ got houseTable 81
+  pub bytes : written houseTable ≡ house
   pub widths : widthsOf houseTable ≡ 4 ∷ 13 ∷ []
   pub lines : linesOf houseTable 0 ≡ 2
   pub second-area : areaOf houseTable 0 1 1 ≡ ascii " brown       "
@@ -247,6 +248,7 @@ pub house-words : House
 unfolding rules
 house-words = record {
   reads = refl;
+  bytes = refl;
   widths = refl;
   lines = refl;
   second-area = refl;

@@ -1,8 +1,8 @@
--- Every definition by which a page is computed, behind one name: what is shown by computing unfolds it. Assumes nothing.
+-- Every definition by which a sheet and a page are computed, behind one name: what is shown by computing unfolds it. Assumes nothing.
 use Rattle.rules.specs.Text.{greatest, sum, upFrom, keep, flat, charactersIn, textWidth, bytesOf, firstOf, restOf}
 use Rattle.rules.specs.Field.{onward, byte, word, only, zeroWord, several, ended}
-use Rattle.rules.specs.Description.{characters, reads}
-use Rattle.rules.specs.Format.{width, column, line, cellBy, rowBy, tableBy, sheetBy}
+use Rattle.rules.specs.Description.{characters, reads, writes}
+use Rattle.rules.specs.Format.{width, column, line, cellBy, rowBy, tableBy, sheetBy, written}
 use Rattle.rules.specs.Style.{bordersOf}
 use Rattle.rules.specs.Wrap.{onto, pieces, glue, room, tight, full, act, last, place, weight, split, wrapLine, wrapLines, exceeds, shownIndicator, cutLine, cut}
 use Rattle.rules.specs.Widths.{cellsOf, cellLongest, longest, numbers, visible, borders, percentOf, widthOf, valueOf, lowerWidth, upperWidth}
@@ -18,7 +18,7 @@ unfolding greatest sum upFrom keep flat charactersIn textWidth bytesOf firstOf r
 texts = tt
 
 unfoldable reading : Unit {0}
-unfolding onward byte word only zeroWord several characters reads ended width column line cellBy rowBy tableBy sheetBy
+unfolding onward byte word only zeroWord several characters reads writes ended width column line cellBy rowBy tableBy sheetBy written
 reading = tt
 
 unfoldable wrapping : Unit {0}
