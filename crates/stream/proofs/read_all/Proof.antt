@@ -1,18 +1,18 @@
--- `print::stream::read_sheet` meets its contract. The loop: no more is read than there is room for; each turn leaves fewer turns. Assumes nothing.
+-- `stream::read_all` meets its contract. The loop: no more is read than there is room for; each turn leaves fewer turns. Assumes nothing.
 use native.Mathlib.Omega.{arith}
 use borrow.Author.Needs.{needs}
 use Prim.Native.Nat.{_≤_}
 use mathlib.Core.Path.{_≡_}
 use lib.ListN.{length}
 use Rattle.io.proofs.Counting.{counts}
-use Rattle.print.proofs.stream.read_sheet.Statement.{statement}
-use Rattle.print.proofs.stream.read_sheet.Tie as tie
+use Rattle.stream.proofs.read_all.Statement.{statement}
+use Rattle.stream.proofs.read_all.Tie as tie
 
 abbrev Inv-loop : tie.InvT-loop
-Inv-loop space₀ p₀ turns₀ t4 space p turns = (p .done ≤ length space) × (length space ≡ length space₀)
+Inv-loop space₀ what p₀ turns₀ space p turns = (p .done ≤ length space) × (length space ≡ length space₀)
 
 abbrev μ-loop : tie.MeasureT-loop
-μ-loop space₀ p₀ turns₀ t4 space p turns = turns
+μ-loop space₀ what p₀ turns₀ space p turns = turns
 
 loop-holds : tie.Need-loop-holds Inv-loop μ-loop
 loop-holds c = search needs
@@ -29,9 +29,6 @@ loop-less c = search needs
 loop-again : tie.Need-loop-again Inv-loop μ-loop
 loop-again c = search needs
 
-slice-aggregate-ended : tie.Need-slice-aggregate-ended Inv-loop μ-loop
-slice-aggregate-ended c = search needs
-
 ended-requires : tie.Need-ended-requires Inv-loop μ-loop
 ended-requires c κs = search needs
 
@@ -41,8 +38,8 @@ same-length c = search needs
 returns : tie.Need-returns Inv-loop μ-loop
 returns c = counts _ _ (omega arith)
 
-pub read-sheet-spec : {M : Type 1} → statement M
-read-sheet-spec =
+pub read-all-spec : {M : Type 1} → statement M
+read-all-spec =
     tie.close
     (tie.spec
     Inv-loop
@@ -52,7 +49,6 @@ read-sheet-spec =
     sub-turns
     loop-less
     loop-again
-    slice-aggregate-ended
     ended-requires
     same-length
     returns)

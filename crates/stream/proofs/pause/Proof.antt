@@ -1,4 +1,4 @@
--- `print::stream::pause` meets its contract: a walk of its MIR, by hand. Both structs are lent for the call, each for a lifetime of its own, and taken back.
+-- `stream::pause` meets its contract: a walk of its MIR, by hand. Both structs are lent for the call, each for a lifetime of its own, and taken back.
 -- Assumes nothing.
 use mathlib.Core.Path.{refl}
 use Prim.Native.Nat.{ℕ, _^_}
@@ -50,10 +50,10 @@ use Rattle.libc.proofs.nanosleep as sleep
 use Rattle.libc.proofs.nanosleep.Symbol as sleep-def
 use Rattle.libc.proofs.nanosleep.Symbol.{name as #libc·nanosleep}
 use Rattle.libc.proofs.nanosleep.Met as sleep-thm
-use Rattle.print.proofs.stream.pause.Key.{name as #pause}
-use Rattle.print.proofs.stream.pause as pause
-use Rattle.print.proofs.stream.pause.Statement as stated
-use Rattle.print.proofs.stream.pause.Code as code
+use Rattle.stream.proofs.pause.Key.{name as #pause}
+use Rattle.stream.proofs.pause as pause
+use Rattle.stream.proofs.pause.Statement as stated
+use Rattle.stream.proofs.pause.Code as code
 
 abbrev stayed : Stays (pause.ended .signature .params) (pause.ended .kept)
 stayed = tt

@@ -10,8 +10,8 @@ ghost use Prim.Native.Nat.{_+_, _≤_};
 ghost use lib.ListN.{length};
 ghost use Rattle.io.specs.Counts.{Counts};
 
-// A proved loop has to end. So many calls may read one sheet or write one part of a page: far more than either has bytes, and, where they find
-// nothing ready, a quarter of an hour of pauses.
+// A proved loop has to end. So many calls may read an input or write one text: far more than either has bytes, and, where they find nothing ready,
+// a quarter of an hour of pauses.
 const TURNS: u64 = 1000000;
 
 // How far reading or writing has come: the bytes that were moved, whether there is another turn, whether all went well.
@@ -67,7 +67,7 @@ fn after_error(done: usize, what: &[u8]) -> Progress
 }
 
 // One read behind the bytes that are there.
-fn read_turn(space: &mut [u8], done: usize) -> Progress
+fn read_turn(space: &mut [u8], done: usize, what: &[u8]) -> Progress
     requires { ⌜ done ≤ length (now space) ⌝ }
     ensures { λ r. ⌜ r .done ≤ length (now (space .entry)) ⌝ }
 {
@@ -80,7 +80,7 @@ fn read_turn(space: &mut [u8], done: usize) -> Progress
     }
     let got = libc::read(STDIN_FILENO, &mut space[done..]);
     if got < 0 {
-        return after_error(done, b"print: the sheet can't be read");
+        return after_error(done, what);
     }
     let n = io::count(got, &space[done..]);
     Progress {
@@ -106,8 +106,8 @@ fn ended(p: Progress, what: &[u8]) -> Progress
     }
 }
 
-// Reads until the space is full or the input ends. Where that can't be done, a line on standard error says so.
-pub fn read_sheet(space: &mut [u8]) -> Progress
+// Reads until the space is full or the input ends. Where that can't be done, a line on standard error says so: what failed, and why.
+pub fn read_all(space: &mut [u8], what: &[u8]) -> Progress
     ensures { λ r. ⌜ Counts (r .done) (now (space .exit)) ⌝ }
 {
     let mut p = Progress {
@@ -117,10 +117,10 @@ pub fn read_sheet(space: &mut [u8]) -> Progress
     };
     let mut turns = TURNS;
     while turns > 0 && p.more {
-        p = read_turn(space, p.done);
+        p = read_turn(space, p.done, what);
         turns -= 1;
     }
-    ended(p, b"print: the sheet can't be read")
+    ended(p, what)
 }
 
 // One write of the bytes that are left.
@@ -142,7 +142,7 @@ fn write_turn(text: &[u8], done: usize, what: &[u8]) -> Progress
 }
 
 // Writes a text and answers whether all of it was written. Where it wasn't, a line on standard error says so: what failed, and why.
-fn write_text(text: &[u8], what: &[u8]) -> bool {
+pub fn write_text(text: &[u8], what: &[u8]) -> bool {
     let mut p = Progress {
         done: 0,
         more: 0 < text.len(),
@@ -155,46 +155,4 @@ fn write_text(text: &[u8], what: &[u8]) -> bool {
     }
     let last = ended(p, what);
     last.well
-}
-
-// Writes a part of a page.
-pub fn write_part(part: &[u8]) -> bool {
-    write_text(part, b"print: the page is cut, its rest can't be written")
-}
-
-// Writes `refused N at P` and 0A by one call: a number that is cut would be another number.
-pub fn write_refusal(number: u64, place: u64) -> bool {
-    let mut line = [0u8; 64];
-    let n = put_refusal(&mut line, number, place);
-    write_text(&line[..n], b"print: the refusal can't be written")
-}
-
-fn put_refusal(line: &mut [u8], number: u64, place: u64) -> usize
-    requires { ⌜ 53 ≤ length (now line) ⌝ }
-    ensures { λ r. ⌜ Counts r (now (line .exit)) ⌝ }
-{
-    let a = buffer::copy(line, 0, b"refused ");
-    let b = put_decimal(line, a, number);
-    let c = buffer::copy(line, b, b" at ");
-    let d = put_decimal(line, c, place);
-    buffer::copy(line, d, b"\n")
-}
-
-// A number's decimal digits; gives the place after.
-fn put_decimal(line: &mut [u8], at: usize, n: u64) -> usize
-    requires { ⌜ at + 20 ≤ length (now line) ⌝ }
-    ensures { λ r. ⌜ r ≤ at + 20 ⌝ }
-{
-    let mut digits = [0u8; 20];
-    let k = io::decimal(n, &mut digits);
-    put_digits(line, at, digits, k)
-}
-
-// The first k of the digits. An array by value has its length, which a lent one has no longer.
-fn put_digits(line: &mut [u8], at: usize, digits: [u8; 20], k: usize) -> usize
-    requires { ⌜ at + 20 ≤ length (now line) ⌝ }
-    requires { ⌜ Counts k digits ⌝ }
-    ensures { λ r. ⌜ r ≤ at + 20 ⌝ }
-{
-    buffer::copy(line, at, &digits[..k])
 }

@@ -1,9 +1,9 @@
--- `print::stream::write_text` is safe and ends. The loop: no more is written than there is; each turn leaves fewer turns. Assumes nothing.
+-- `stream::write_text` is safe and ends. The loop: no more is written than there is; each turn leaves fewer turns. Assumes nothing.
 use borrow.Author.Needs.{needs}
 use Prim.Native.Nat.{_≤_}
 use lib.ListN.{length}
-use Rattle.print.proofs.stream.write_text.Statement.{statement}
-use Rattle.print.proofs.stream.write_text.Tie as tie
+use Rattle.stream.proofs.write_text.Statement.{statement}
+use Rattle.stream.proofs.write_text.Tie as tie
 
 abbrev Inv-loop : tie.InvT-loop
 Inv-loop text what p₀ turns₀ p turns = p .done ≤ length text

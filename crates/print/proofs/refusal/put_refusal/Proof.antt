@@ -1,9 +1,9 @@
--- `print::stream::put_refusal` meets its contract: the line has 53 bytes at most. Assumes nothing.
+-- `print::refusal::put_refusal` meets its contract: the line has 53 bytes at most. Assumes nothing.
 use native.Mathlib.Omega.{arith}
 use borrow.Author.Needs.{needs}
 use Rattle.io.proofs.Counting.{counts}
-use Rattle.print.proofs.stream.put_refusal.Statement.{statement}
-use Rattle.print.proofs.stream.put_refusal.Tie as tie
+use Rattle.print.proofs.refusal.put_refusal.Statement.{statement}
+use Rattle.print.proofs.refusal.put_refusal.Tie as tie
 
 slice-aggregate-copy : tie.Need-slice-aggregate-copy
 slice-aggregate-copy c = search needs
