@@ -34,7 +34,7 @@ fn asked(table: &Table) -> Option<Answer> {
 }
 
 /// One accepted sheet: decoded from its own bytes, printed by both.
-fn difference(table: &Table, bytes: &[u8], seen: &mut [u64]) -> Option<&'static str> {
+pub fn difference(table: &Table, bytes: &[u8], seen: &mut [u64]) -> Option<&'static str> {
     if sheet::decode(bytes).as_ref() != Ok(table) || second::refusal(bytes).is_some() {
         return Some("the sheet isn't read back as the table it was made from");
     }

@@ -198,14 +198,31 @@ fn difference(record: &Record, random: &mut Random, buffer: &mut Buffer) -> Opti
     }
 }
 
+/// Every call on one sheet after another, by one buffer. What it is lent comes from the seed.
+pub struct Trials {
+    seed: u64,
+    buffer: Buffer,
+}
+
+impl Trials {
+    pub fn new(seed: u64) -> Self {
+        Trials { seed, buffer: Buffer::new() }
+    }
+
+    /// The first call on sheet number `index` that answers otherwise than the record says.
+    pub fn difference(&mut self, index: u64, record: &Record) -> Option<&'static str> {
+        difference(record, &mut Random::new(self.seed ^ 0x5EED, index), &mut self.buffer)
+    }
+}
+
 /// True if there was no difference.
 pub fn agrees(seed: u64, count: u64, damaged: bool) -> bool {
-    let (mut tally, mut buffer) = (Tally::default(), Buffer::new());
+    let (mut tally, mut trials) = (Tally::default(), Trials::new(seed));
     for index in 0..count {
         let sheet = if damaged { damage::sheet(seed, index) } else { encode(&generate::table(seed, index)).bytes };
         let record = answered(sheet);
         let number = record.answer.as_ref().err().map_or(0, |refusal| refusal.number);
-        let call = difference(&record, &mut Random::new(seed ^ 0x5EED, index), &mut buffer);
+        let call = trials.difference(index, &record);
         tally.add(index, &record.sheet, number, call);
     }
     let kind = if damaged { "damaged" } else { "accepted" };

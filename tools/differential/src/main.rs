@@ -19,6 +19,7 @@ mod sample;
 mod second;
 mod sheet;
 mod signs;
+mod small;
 
 use std::io::{self, Read, Write};
 use std::process::ExitCode;
@@ -33,10 +34,11 @@ fn main() -> ExitCode {
         Some("slips") => both(&arguments, "--most").map(|(seed, most)| compare::slips(seed, most)),
         Some("sample") => number(&arguments, "--seed").and_then(write_sample),
         Some("check-sample") => check_sample(),
-        Some("self-test") => Ok(examples::all_pass() && beyond::all_panic()),
+        Some("self-test") => Ok(examples::all_pass() && beyond::all_panic() && small::all_found()),
         Some("exhaustive") => Ok(exhaustive::all_agree()),
         Some("emit") => emit(&arguments),
         Some("gateway") => run_gateway(&arguments),
+        Some("small") => run_small(),
         _ => Err(USAGE.to_string()),
     };
     match done {
@@ -69,10 +71,15 @@ fn damaged(arguments: &[String]) -> bool {
     arguments.iter().any(|argument| argument == "--damaged")
 }
 
-/// By the oracle, or by the readings of the document.
-fn print(by_reading: bool) -> Done {
+fn input() -> Result<Vec<u8>, String> {
     let mut bytes = Vec::new();
     io::stdin().read_to_end(&mut bytes).map_err(words)?;
+    Ok(bytes)
+}
+
+/// By the oracle, or by the readings of the document.
+fn print(by_reading: bool) -> Done {
+    let bytes = input()?;
     let read = match second::refusal(&bytes) {
         Some(refusal) if by_reading => Err(refusal),
         _ => sheet::decode(&bytes),
@@ -103,6 +110,18 @@ fn run_gateway(arguments: &[String]) -> Done {
 #[cfg(not(gateway))]
 fn run_gateway(_: &[String]) -> Done {
     Err(format!("gateway needs --archive PATH\n{USAGE}"))
+}
+
+#[cfg(gateway)]
+fn run_small() -> Done {
+    let mut trials = gateway::Trials::new(0);
+    let mut calls = |index: u64, sheet: &[u8]| trials.difference(index, &record::answered(sheet.to_vec()));
+    Ok(small::agrees(&input()?, Some(&mut calls)))
+}
+
+#[cfg(not(gateway))]
+fn run_small() -> Done {
+    Ok(small::agrees(&input()?, None))
 }
 
 fn emit(arguments: &[String]) -> Done {

@@ -96,6 +96,24 @@ listed! {
 }
 
 listed! {
+    /// A plausible mistake of a program that writes the small sheets.
+    ListSlip {
+        TextLeftOut "a text left out"
+        ListedTwice "a sheet listed twice"
+        OneTooFew "one sheet too few"
+        TargetEleven "target 11 too"
+        LengthFive "texts of length 5 too"
+        LetterFirst "a ordered before space"
+        FromTheRight "texts ordered from the right"
+        TextsExchanged "second text ordered before the first"
+        TargetFirst "target ordered before arrangement"
+        TwoColumnsFirst "two columns ordered before one"
+        LastByteLost "the last byte not written"
+        NothingWritten "nothing written"
+    }
+}
+
+listed! {
     /// What decided a column, a wrapped line, a cell, an area or a line of the page.
     Rule {
         FirstContent "`ContentWidth`" FirstContentBare "`ContentWidth` without cells"

@@ -88,12 +88,18 @@ pub fn decode(bytes: &[u8]) -> Read<Table> {
     if bytes.len() > LONGEST_SHEET {
         return refuse(2, LONGEST_SHEET);
     }
-    let mut reader = Reader { bytes, at: 0 };
-    let table = reader.table()?;
-    if reader.at < bytes.len() {
-        return refuse(9, reader.at);
+    let (table, end) = decode_front(bytes)?;
+    if end < bytes.len() {
+        return refuse(9, end);
     }
     Ok(table)
+}
+
+/// The sheet that the bytes begin with, and where it ends, whatever follows and however long it is.
+pub fn decode_front(bytes: &[u8]) -> Read<(Table, usize)> {
+    let mut reader = Reader { bytes, at: 0 };
+    let table = reader.table()?;
+    Ok((table, reader.at))
 }
 
 struct Reader<'a> {
