@@ -17,7 +17,7 @@ use Rattle.rules.specs.Field.{Read, got, Reader, onward, byteAt, wordAt, betwee
 use Rattle.rules.specs.Description.{Format, byte, word, only, zeroWord, text, cellText, listed, give, next, textLength, character, characters, reads, writes}
 use Rattle.rules.specs.Description.{Faithful, past, parts, textAt, lineStop, stands, here, stop}
 use Rattle.rules.specs.Description as description
-use Rattle.rules.specs.Limits.{IsText, nothing, plain, degree, Printable}
+use Rattle.rules.specs.Limits.{IsByte, IsText, nothing, plain, degree, Printable}
 use Rattle.rules.specs.Format.{width, column, line, cellBy, cell, rowBy, row, tableBy, table, sheetBy, sheet, written}
 use Rattle.rules.specs.Places.{tableHere, endPlace}
 use Rattle.rules.proofs.Parts.{Whole, table-whole}
@@ -258,9 +258,6 @@ written-accepted t k short =
     rw (le-ltb 32768 (length s) short, sheetBy, fields, onward, le-ltb (0 + length s) (length s) (omega arith), ended, onward) (ap (got t) z)
 
 -- ---- what was read is what is written of it
-
-abbrev pub IsByte : ℕ → Type 0
-IsByte b = b < 256
 
 -- one part behind another
 joined : {d e : List ℕ} (l m f : List ℕ) → d ≡ l ++ e → e ≡ m ++ f → d ≡ (l ++ m) ++ f

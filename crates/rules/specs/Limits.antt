@@ -1,5 +1,5 @@
 -- What the table of an accepted sheet satisfies: every limit, every code, printable characters. Assumes nothing.
-use Prim.Native.Nat.{ℕ, _*_, _≤_}
+use Prim.Native.Nat.{ℕ, _*_, _≤_, _<_}
 use mathlib.Core.Path.{_≡_}
 use mathlib.Core.Logic.{_⊎_}
 use mathlib.Core.List.{List, [], _∷_}
@@ -21,6 +21,10 @@ longestLine = mostColumns * 950
 -- no page has more lines, by far: a row has at most 8 lines of 200 characters a cell
 abbrev pub mostLines : ℕ
 mostLines = 1000000
+
+-- what a sheet is made of
+abbrev pub IsByte : ℕ → Type 0
+IsByte b = b < 256
 
 -- printable ASCII, 20 to 7E hexadecimal
 abbrev pub Printable : ℕ → Type 0

@@ -1,0 +1,4 @@
+pub mod Family
+pub mod Listing
+pub mod Promise
+pub mod Examples

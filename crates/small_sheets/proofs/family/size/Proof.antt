@@ -1,0 +1,17 @@
+use native.Mathlib.Omega.{arith}
+use mathlib.Core.Path.{sym}
+use Rattle.small_sheets.proofs.Bytes.{at-most-two}
+use Rattle.small_sheets.proofs.Puts.{sheet-size}
+use Rattle.small_sheets.proofs.family.size.Statement.{statement}
+use Rattle.small_sheets.proofs.family.size.Tie as tie
+
+pub size-spec : {M : Type 1} → statement M
+size-spec =
+    tie.close
+    (tie.spec
+    (λ c. let s = c .before in omega (arith, at-most-two (s .args .c .columns) (s .pre .columns)))
+    (λ c. let s = c .before in omega (arith, at-most-two (s .args .c .columns) (s .pre .columns)))
+    (λ c. let s = c .before .before in omega (arith, at-most-two (s .args .c .columns) (s .pre .columns), s .pre .first .short))
+    (λ c. let s = c .before .before .before in
+    omega (arith, at-most-two (s .args .c .columns) (s .pre .columns), s .pre .first .short, s .pre .second .short))
+    (λ c. let s = c .before .before .before in sym (sheet-size (s .args .c) (s .pre))))
