@@ -14,7 +14,8 @@ use Rattle.rules.specs.declared.Width.{Width}
 use Rattle.rules.specs.declared.Column.{Column}
 use Rattle.rules.specs.Field as field
 use Rattle.rules.specs.Field.{Read, got, Reader, onward, byteAt, wordAt, between, printable, several, ended}
-use Rattle.rules.specs.Description.{Format, byte, word, only, zeroWord, text, cellText, listed, give, next, textLength, character, characters, reads, writes}
+use Rattle.rules.specs.Description.{Format, byte, word, only, zeroWord, text, cellText, listed, give, next}
+use Rattle.rules.specs.Description.{textLength, character, characters, reads, writes}
 use Rattle.rules.specs.Description.{Faithful, past, parts, textAt, lineStop, stands, here, stop}
 use Rattle.rules.specs.Description as description
 use Rattle.rules.specs.Limits.{IsByte, IsText, nothing, plain, degree, Printable}

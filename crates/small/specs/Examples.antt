@@ -61,8 +61,8 @@ order = record {
 }
 
 -- one column, with some style bytes and some cells
-abbrev pub with : List ℕ → List Cell → Table
-with style cells = record {
+abbrev pub oneColumn : List ℕ → List Cell → Table
+oneColumn style cells = record {
   edition = 1;
   arrangement = 0;
   target = 0;
@@ -81,8 +81,8 @@ pub record Outsiders : Type 0 where
   pub five : Small (tableOf 0 0 (ascii "aaaaa" ∷ [])) → ⊥
   pub letter : Small (tableOf 0 0 (ascii "ab" ∷ [])) → ⊥
   pub target : Small (tableOf 0 11 ([] ∷ [])) → ⊥
-  pub style : Small (with (45 ∷ replicate 21 0) (cellOf [] ∷ [])) → ⊥
-  pub cell : Small (with (replicate 22 0) []) → ⊥
+  pub style : Small (oneColumn (45 ∷ replicate 21 0) (cellOf [] ∷ [])) → ⊥
+  pub cell : Small (oneColumn (replicate 22 0) []) → ⊥
 
 -- tables of the family
 pub record Members : Type 0 where

@@ -60,7 +60,10 @@ pub sheet-fits : (n : ℕ) → n < 32736 → length (getD sheets n []) ≤ 72
 sheet-fits n l = rw (sheet-of n l) (table-good n l .short)
 
 pub sheet-printed : (n : ℕ) (b : List ℕ) → n < 32736 → 72 ≤ length b
-    → writeSheet n b ≡ record { answer = record { number = 0; place = 0; written = length (getD sheets n []) }; buffer = buffer.over (getD sheets n []) b }
+    → writeSheet n b ≡ record {
+      answer = record { number = 0; place = 0; written = length (getD sheets n []) };
+      buffer = buffer.over (getD sheets n []) b;
+    }
 unfolding writeSheet put buffer.over
 sheet-printed n b l h =
     rw (sheets-count, lt-ltb n 32736 l, writeSheet, le-leb (length (getD sheets n [])) (length b) (omega (arith, h, sheet-fits n l)), put)

@@ -39,6 +39,11 @@ columns-bytes (suc n) =
     let z : 11 + n * 11 ≡ suc n * 11 = omega arith in
     rw (columns-bytes n) (replicate-append-replicate 11 (n * 11) 0 ∙ ap (λ k. replicate k 0) z)
 
+pub columns-length : (n : ℕ) → length (columnsBytes n) ≡ 5 + 11 * n
+columns-length n =
+    let zeros : List ℕ = replicate (n * 11) 0 in
+    length-append (n ∷ zeros) (0 ∷ 1 ∷ 0 ∷ n ∷ []) ∙ rw (length-replicate {A = ℕ} (n * 11) 0) (omega arith)
+
 row-bytes : (n : ℕ) (r : Row) → writes (row n) r ≡ r .limit ∷ length (r .cells) ∷ flat (map (λ x. writes cell x) (r .cells))
 unfolding writes rowBy
 row-bytes n r = ap (λ l. r .limit ∷ length (r .cells) ∷ l) (append-nil (flat (map (λ x. writes cell x) (r .cells))))
@@ -79,10 +84,8 @@ module _ (a w : ℕ) (xs : List (List ℕ)) where
 
   pub sheet-length : w < 256 → length (written (tableOf a w xs)) ≡ 34 + 11 * length xs + length (flat (map cellBytes xs))
   sheet-length h =
-      let n = length xs in
-      let zeros : List ℕ = replicate (n * 11) 0 in
       let cells = flat (map cellBytes xs) in
-      rw (sheet-bytes h, length-append (columnsBytes n) cells, length-append (n ∷ zeros) (0 ∷ 1 ∷ 0 ∷ n ∷ []), length-replicate {A = ℕ} (n * 11) 0) (omega arith)
+      rw (sheet-bytes h, length-append (columnsBytes (length xs)) cells) (omega (arith, columns-length (length xs)))
 
 cells-length : (xs : List (List ℕ)) → All SmallText xs → length (flat (map cellBytes xs)) ≤ 8 * length xs
 unfolding flat
@@ -188,8 +191,11 @@ module _ (a w : ℕ) (xs : List (List ℕ)) (arranged : a ≤ 2) (targeted : w �
 
   sheet-is-bytes : All IsByte (written (tableOf a w xs))
   sheet-is-bytes =
-      rw (sheet-bytes a w xs (omega arith)) (all-append IsByte (headBytes a w) (columnsBytes (length xs) ++ flat (map cellBytes xs)) head-bytes
-      (all-append IsByte (columnsBytes (length xs)) (flat (map cellBytes xs)) columns-bytes-are (all-flat SmallText IsByte cellBytes cell-is-bytes xs small)))
+      let columns = columnsBytes (length xs) in
+      let cells = flat (map cellBytes xs) in
+      let cells-are = all-flat SmallText IsByte cellBytes cell-is-bytes xs small in
+      rw (sheet-bytes a w xs (omega arith)) (all-append IsByte (headBytes a w) (columns ++ cells) head-bytes
+      (all-append IsByte columns cells columns-bytes-are cells-are))
 
   sheet-short : length (written (tableOf a w xs)) ≤ 72
   sheet-short = omega (arith, sheet-length a w xs (omega arith), cells-length xs small)

@@ -125,7 +125,10 @@ once-append (x ∷ l) m h k apart = (λ i. go (in-either x l m i), once-append l
 
 pub once-map : {A B : Type 0} (f : A → B) → ((x y : A) → f x ≡ f y → x ≡ y) → (l : List A) → Once l → Once (map f l)
 once-map f same [] h = tt
-once-map f same (x ∷ l) h = (λ i. let m = map-made f l (f x) i in h .0 (subst (λ y. In y l) (same (m .of) x (m .is)) (m .there)), once-map f same l (h .1))
+once-map f same (x ∷ l) h = (again, once-map f same l (h .1))
+  where
+    again : In (f x) (map f l) → ⊥
+    again i = let m = map-made f l (f x) i in h .0 (subst (λ y. In y l) (same (m .of) x (m .is)) (m .there))
 
 -- of choices that have nothing in common
 pub once-each : {A B : Type 0} (f : A → List B) → ((a : A) → Once (f a)) → ((a c : A) (b : B) → In b (f a) → In b (f c) → a ≡ c)
@@ -198,7 +201,9 @@ pub each-number : {A B : Type 0} (f : A → List B) (n : ℕ) → ((a : A) → l
     → i < length l → j < n → getD (each l f) (i * n + j) b ≡ getD (f (getD l i a)) j b
 unfolding each flat
 each-number f n h [] i j a b k m = absurd (not-suc-le-zero k)
-each-number f n h (x ∷ l) zero j a b k m = let z : 0 * n + j ≡ j = rw (zero-mul n) (omega arith) in rw z (List·getD-append (f x) (flat (map f l)) b j (rw (h x) m))
+each-number f n h (x ∷ l) zero j a b k m =
+    let z : 0 * n + j ≡ j = rw (zero-mul n) (omega arith) in
+    rw z (List·getD-append (f x) (flat (map f l)) b j (rw (h x) m))
 each-number f n h (x ∷ l) (suc i) j a b k m =
     let z : suc i * n + j ≡ length (f x) + (i * n + j) = rw (h x, suc-mul i n) (omega arith) in
     rw z (getD-append-add (f x) (flat (map f l)) (i * n + j) b ∙ each-number f n h l i j a b (le-of-suc-le-suc k) m)

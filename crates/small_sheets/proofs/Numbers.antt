@@ -87,7 +87,8 @@ module _ (k : ℕ) where
   text-4 h l = found k 4 0 (k - 1 - 2 - 4 - 8) (k - 15) (omega arith) (omega arith) (omega arith) (from-4 h)
 
 -- a text of a letter more: the first letter, and the others
-pub text-first : (n v : ℕ) → v < 2 ^ suc n → getD (choices letters (suc n)) v [] ≡ getD letters (v / 2 ^ n) 97 ∷ getD (choices letters n) (v % 2 ^ n) []
+pub text-first : (n v : ℕ) → v < 2 ^ suc n
+    → getD (choices letters (suc n)) v [] ≡ getD letters (v / 2 ^ n) 97 ∷ getD (choices letters n) (v % 2 ^ n) []
 text-first n v h = choices-at letters n (2 ^ n) v 97 (letters-count n) (one-le-pow n 2 (omega arith)) (omega (arith, h, pow-suc 2 n))
 
 -- ---- rows of texts
@@ -138,7 +139,8 @@ module _ (columns rows m : ℕ) (e : rows ≡ length (choices texts columns)) (p
   unfolding upFrom
   targeted =
       let z : 0 + target ≡ target = omega arith in
-      each-at (λ w. ofTarget columns arrangement w) rows (λ w. target-count columns arrangement w ∙ sym e) (upFrom 0 11) rest 0 noTable pos (mod-lt m some)
+      each-at (λ w. ofTarget columns arrangement w) rows (λ w. target-count columns arrangement w ∙ sym e) (upFrom 0 11) rest 0 noTable pos
+      (mod-lt m some)
       ∙ ap (λ w. getD (ofTarget columns arrangement w) (rest % rows) noTable) (getD-upFrom 0 11 target 0 target-below ∙ z)
 
   pub place-is : IsPlace columns m (record { arrangement = m / (11 * rows); target = m % (11 * rows) / rows; row = m % (11 * rows) % rows })

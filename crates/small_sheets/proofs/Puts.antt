@@ -13,6 +13,7 @@ use Rattle.small.specs.Listing.{choices, letters}
 use Rattle.small_sheets.specs.Parts.{cellBytes, headBytes, columnsBytes}
 use Rattle.small_sheets.specs.Chosen.{Text, Choice, textIs, IsSmall, textsIs, InRange, cellsIs, sheetIs}
 use Rattle.small_sheets.proofs.Choices.{getD-in, choices-chosen}
+use Rattle.small_sheets.proofs.Bytes.{columns-length}
 use Rattle.small_sheets.proofs.Numbers.{letters-count, text-first}
 
 -- ---- a text
@@ -34,7 +35,8 @@ power-is n h =
 pub text-length : (t : Text) → IsSmall t → length (textIs t) ≡ t .length
 unfolding textIs
 text-length t h =
-    choices-chosen letters (t .length) (getD (choices letters (t .length)) (t .number) []) (getD-in (choices letters (t .length)) (t .number) [] (h .there)) .count
+    let all = choices letters (t .length) in
+    choices-chosen letters (t .length) (getD all (t .number) []) (getD-in all (t .number) [] (h .there)) .count
 
 -- the letters that are written, and those still to come, make the text of n letters with number v
 pub record Putting (sheet₀ : List ℕ) (at n v : ℕ) (sheet : List ℕ) (left number place : ℕ) : Type 0 where
@@ -79,7 +81,8 @@ put-one sheet₀ at n v sheet l number place b h e = record {
   size = length-set sheet place b ∙ h .size;
 }
 
-pub put-again : (sheet₀ : List ℕ) (at n v : ℕ) (sheet : List ℕ) (left number place half b : ℕ) → Putting sheet₀ at n v sheet left number place → 0 < left
+pub put-again : (sheet₀ : List ℕ) (at n v : ℕ) (sheet : List ℕ) (left number place half b : ℕ)
+    → Putting sheet₀ at n v sheet left number place → 0 < left
     → half ≡ 2 ^ (left - 1) → b ≡ getD letters (number / half) 97
     → Putting sheet₀ at n v (set sheet place b) (left - 1) (number % half) (place + 1)
 put-again sheet₀ at n v sheet left number place half b h l e f =
@@ -92,7 +95,8 @@ unfolding choices
 none-left zero h = refl
 none-left (suc n) h = absurd (omega arith)
 
-pub put-ends : (sheet₀ : List ℕ) (at : ℕ) (t : Text) (sheet : List ℕ) (left number place : ℕ) → Putting sheet₀ at (t .length) (t .number) sheet left number place
+pub put-ends : (sheet₀ : List ℕ) (at : ℕ) (t : Text) (sheet : List ℕ) (left number place : ℕ)
+    → Putting sheet₀ at (t .length) (t .number) sheet left number place
     → left ≤ 0 → (place ≡ at + length (textIs t)) × (sheet ≡ putAt sheet₀ at (textIs t))
 unfolding textIs
 put-ends sheet₀ at t sheet left number place i l =
@@ -112,12 +116,8 @@ pub cell-put : (d : List ℕ) (at : ℕ) (t : Text) (d₁ d₂ : List ℕ) (p r 
 cell-put d at t d₁ d₂ p r small room e₁ h₁ e₂ h₂ =
     let n = text-length t small in
     let head : List ℕ = 0 ∷ 0 ∷ 1 ∷ t .length ∷ [] in
-    (omega (arith, e₁, e₂), two d at head (textIs t) d₁ d₂ p h₁ h₂ (sym e₁) (omega (arith, room)) ∙ ap (λ k. putAt d at (0 ∷ 0 ∷ 1 ∷ k ∷ textIs t)) (sym n))
-
-pub columns-length : (n : ℕ) → length (columnsBytes n) ≡ 5 + 11 * n
-columns-length n =
-    let zeros : List ℕ = replicate (n * 11) 0 in
-    length-append (n ∷ zeros) (0 ∷ 1 ∷ 0 ∷ n ∷ []) ∙ rw (length-replicate {A = ℕ} (n * 11) 0) (omega arith)
+    let put = two d at head (textIs t) d₁ d₂ p h₁ h₂ (sym e₁) (omega (arith, room)) in
+    (omega (arith, e₁, e₂), put ∙ ap (λ k. putAt d at (0 ∷ 0 ∷ 1 ∷ k ∷ textIs t)) (sym n))
 
 module _ (c : Choice) where
   -- one cell, or two
@@ -186,7 +186,8 @@ columns-put d at n d₁ d₂ d₃ p q r room e₁ h₁ e₂ h₂ e₃ h₃ =
     let zeros : List ℕ = replicate (n * 11) 0 in
     let k = length-replicate {A = ℕ} (n * 11) 0 in
     let first = two d at (n ∷ []) zeros d₁ d₂ p h₁ h₂ (sym e₁) (omega (arith, room)) in
-    (omega (arith, e₁, e₂, e₃, columns-length n), two d at (n ∷ zeros) (0 ∷ 1 ∷ 0 ∷ n ∷ []) d₂ d₃ q first h₃ (omega (arith, e₁, e₂, k)) (omega (arith, room)))
+    let put = two d at (n ∷ zeros) (0 ∷ 1 ∷ 0 ∷ n ∷ []) d₂ d₃ q first h₃ (omega (arith, e₁, e₂, k)) (omega (arith, room)) in
+    (omega (arith, e₁, e₂, e₃, columns-length n), put)
 
 pub sheet-put : (d : List ℕ) (c : Choice) (d₁ d₂ d₃ : List ℕ) (p q : ℕ) → p ≡ length (headBytes (c .arrangement) (c .target))
     → d₁ ≡ over (headBytes (c .arrangement) (c .target)) d → q ≡ p + length (columnsBytes (c .columns)) → d₂ ≡ putAt d₁ p (columnsBytes (c .columns))

@@ -13,7 +13,8 @@ use Rattle.rules.specs.Limits.{ColumnLimits, TableLimits}
 use Rattle.laws.proofs.Lists.{all-getD, all-imp, all-map-imp}
 use Rattle.small.specs.Family.{Letter, SmallText, SmallColumn, SmallCell, SmallRow, Small}
 use Rattle.small.specs.Listing.{each, choices, letters, texts, cellOf, tableOf, tablesWith, tables}
-use Rattle.small_sheets.proofs.Choices.{In, Once, in-map, map-made, in-each, each-chosen, in-upFrom, upFrom-between, in-choices, choices-chosen}
+use Rattle.small_sheets.proofs.Choices.{In, Once, in-map, map-made, in-each, each-chosen}
+use Rattle.small_sheets.proofs.Choices.{in-upFrom, upFrom-between, in-choices, choices-chosen}
 use Rattle.small_sheets.proofs.Choices.{once-map, once-each, once-upFrom, once-choices, length-each, length-choices}
 
 -- ---- texts
@@ -232,8 +233,8 @@ cell-same e f g = cc
 row-same : {h k : ℕ} {l m : List Cell} → h ≡ k → l ≡ m → _≡_ {A = Row} (record { limit = h; cells = l }) (record { limit = k; cells = m })
 row-same e f = cc
 
-table-same : {a w d a′ w′ d′ e e′ : ℕ} {i i′ s s′ : List ℕ} {c c′ : List Column} {h h′ r r′ : List Row} → e ≡ e′ → a ≡ a′ → w ≡ w′ → d ≡ d′ → i ≡ i′ → s ≡ s′ → c ≡ c′
-    → h ≡ h′ → r ≡ r′
+table-same : {e a w d e′ a′ w′ d′ : ℕ} {i s i′ s′ : List ℕ} {c c′ : List Column} {h r h′ r′ : List Row}
+    → e ≡ e′ → a ≡ a′ → w ≡ w′ → d ≡ d′ → i ≡ i′ → s ≡ s′ → c ≡ c′ → h ≡ h′ → r ≡ r′
     → _≡_ {A = Table}
     (record { edition = e; arrangement = a; target = w; delimiter = d; indicator = i; style = s; columns = c; header = h; rows = r })
     (record { edition = e′; arrangement = a′; target = w′; delimiter = d′; indicator = i′; style = s′; columns = c′; header = h′; rows = r′ })

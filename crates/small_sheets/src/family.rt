@@ -1,4 +1,4 @@
-// The sheets of the family by their numbers: what each number chooses, and that sheet's bytes. They are listed in specs/Listing.antt.
+// The sheets of the family by their numbers: what each number chooses, and that sheet's bytes. They are listed in small/specs/Listing.antt.
 use rules::Printed;
 use rules::STYLE_CHARACTERS;
 ghost use mathlib.Core.Path.{_≡_};

@@ -19,7 +19,8 @@ put-cells-spec =
     let a = s .args in
     let first = c .before .before .before .before .before .before .before .before .put-cell in
     let second = c .before .before .put-cell2 in
-    cells-put-two (a .c) (now (a .sheet)) (a .at) (first .last .0) (second .last .0) (first .result) (c .before .before .before .before .if1 .taken) (s .pre .1)
+    cells-put-two (a .c) (now (a .sheet)) (a .at) (first .last .0) (second .last .0) (first .result)
+    (c .before .before .before .before .if1 .taken) (s .pre .1)
     (first .ensures .0) (first .ensures .1) (second .ensures .1))
     (λ c. search needs)
     (λ c. let s = c .before .before .before .before .before .before .before in

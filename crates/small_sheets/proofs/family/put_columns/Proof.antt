@@ -1,7 +1,8 @@
 use borrow.Author.Needs.{needs}
 use denote.Ref.{now}
 use native.Mathlib.Omega.{arith}
-use Rattle.small_sheets.proofs.Puts.{columns-put, columns-length}
+use Rattle.small_sheets.proofs.Puts.{columns-put}
+use Rattle.small_sheets.proofs.Bytes.{columns-length}
 use Rattle.small_sheets.proofs.family.put_columns.Statement.{statement}
 use Rattle.small_sheets.proofs.family.put_columns.Tie as tie
 
@@ -28,5 +29,6 @@ put-columns-spec =
     let count = c .before .before .before .before .before .before .before .before .before .before .before .copy in
     let zeros = c .before .before .before .before .before .before .before .fill in
     let row = c .before .before .copy2 in
-    columns-put (now (a .sheet)) (a .at) (a .columns) (count .last .0) (zeros .last .0) (row .last .0) (count .result) (zeros .result) (row .result) (s .pre .1)
+    columns-put (now (a .sheet)) (a .at) (a .columns) (count .last .0) (zeros .last .0) (row .last .0) (count .result) (zeros .result)
+    (row .result) (s .pre .1)
     (count .ensures .0) (count .ensures .1) (zeros .ensures .0) (zeros .ensures .1) (row .ensures .0) (row .ensures .1)))

@@ -29,5 +29,6 @@ put-sheet-spec =
     let head = c .before .before .before .before .before .before .before .before .before .before .put-head in
     let columns = c .before .before .before .before .before .before .put-columns in
     let cells = c .before .before .put-cells in
-    sheet-put (now (a .sheet)) (a .c) (head .last .0) (columns .last .0) (cells .last .0) (head .result) (columns .result) (head .ensures .0) (head .ensures .1)
+    sheet-put (now (a .sheet)) (a .c) (head .last .0) (columns .last .0) (cells .last .0) (head .result) (columns .result)
+    (head .ensures .0) (head .ensures .1)
     (columns .ensures .0) (columns .ensures .1) (cells .ensures)))

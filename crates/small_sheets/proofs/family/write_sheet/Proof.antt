@@ -24,7 +24,8 @@ write-sheet-spec =
     let needed = c .before .before .size in
     let chosen = c .before .before .before .choose in
     let e =
-    sheet-short (a .n) (now (a .sheet)) (chosen .result) (needed .result) (s .if1 .left) (chosen .ensures) (needed .ensures) (c .before .if2 .taken) in
+    sheet-short (a .n) (now (a .sheet)) (chosen .result) (needed .result) (s .if1 .left) (chosen .ensures) (needed .ensures)
+    (c .before .if2 .taken) in
     (c .refused2 .ensures ∙ sym (ap (λ (w : Written). w .answer) e), sym (ap (λ (w : Written). w .buffer) e)))
     (λ c κs. search needs)
     (λ c. search needs)
