@@ -7,7 +7,7 @@ use native.Mathlib.Omega.{arith}
 use lib.ListN.{length, take, drop}
 use lib.Seq.{drop-cons}
 use lib.Dec.{ltb, leb, eqb}
-use borrow.Author.Tests.{ltb-true, leb-true, eqb-true}
+use borrow.Author.Tests.{ltb-true, leb-true, eqb-true, le-leb}
 use Rattle.rules.specs.Text.{All}
 use Rattle.rules.specs.Field as field
 use Rattle.rules.specs.Field.{Read, got, refused, Reader, onward, byteAt, wordAt, between, printable, several}
@@ -37,6 +37,9 @@ pub between-both : (low high v : ℕ) → between low high v ≡ true → (low �
 between-both low high v e =
     let h = and-eq-true-iff (leb low v) (leb v high) .0 e in
     (leb-true low v (h .0), leb-true v high (h .1))
+
+pub between-true : (low high v : ℕ) → low ≤ v → v ≤ high → between low high v ≡ true
+between-true low high v h k = rw (le-leb low v h, le-leb v high k)
 
 -- what the tests ask of a value
 unfoldable pub keeps : {A : Type 0} → Format A → A → Type 0

@@ -7,7 +7,7 @@ use native.Mathlib.Omega.{arith}
 use lib.ListN.{length, getD, drop, length-append, length-drop, take-append-drop}
 use lib.Seq.{drop-cons, getD-drop, drop-drop, drop-length}
 use lib.Dec.{leb, eqb}
-use borrow.Author.Tests.{lt-ltb, le-ltb, le-leb, eq-eqb, ne-eqb}
+use borrow.Author.Tests.{lt-ltb, le-ltb, eq-eqb, ne-eqb}
 use Rattle.rules.specs.Text.{All, flat}
 use Rattle.rules.specs.Sheet.{Cell, Row, Table}
 use Rattle.rules.specs.declared.Width.{Width}
@@ -22,8 +22,8 @@ use Rattle.rules.specs.Limits.{IsByte, IsText, nothing, plain, degree, Printabl
 use Rattle.rules.specs.Format.{width, column, line, cellBy, cell, rowBy, row, tableBy, table, sheetBy, sheet, written}
 use Rattle.rules.specs.Places.{tableHere, endPlace}
 use Rattle.rules.proofs.Parts.{Whole, table-whole}
-use Rattle.laws.proofs.Lists.{all-getD}
-use Rattle.laws.proofs.Reading.{keeps}
+use Rattle.laws.proofs.Lists.{all-of, all-both, all-getD}
+use Rattle.laws.proofs.Reading.{between-true, keeps}
 use Rattle.laws.proofs.Accepted.{accepted-places, line-whole}
 use Rattle.laws.proofs.Stands.{parts-count, past-onward, stop-onward, text-length}
 
@@ -116,7 +116,7 @@ degree-gets : (s : List ℕ) → Gets description.degree s (194 + 176 * 256) (19
 degree-gets s = only-gets (eqb (194 + 176 * 256)) 6 field.word s (194 + 176 * 256) (194 ∷ 176 ∷ []) refl (word-gets s (194 + 176 * 256))
 
 printable-true : (b : ℕ) → Printable b → printable b ≡ true
-printable-true b h = rw (le-leb 32 b (h .0), le-leb b 126 (h .1))
+printable-true b h = between-true 32 126 b (h .0) (h .1)
 
 -- by whether a pair begins there
 module _ (s : List ℕ) (n p : ℕ) where
@@ -169,10 +169,6 @@ then-gets f g s n a l m h k p r e =
 length-gets : (low high : ℕ) (s : List ℕ) (n : ℕ) → between low high n ≡ true → Gets (textLength low high) s n (n ∷ [])
 length-gets low high s n h = only-gets (between low high) 5 field.byte s n (n ∷ []) h (byte-gets s n)
 
-both : {A : Type 0} (P Q R : A → Type 0) → ((a : A) → P a → Q a → R a) → (as′ : List A) → All P as′ → All Q as′ → All R as′
-both P Q R f [] h k = tt
-both P Q R f (a ∷ as′) h k = (f a (h .0) (k .0), both P Q R f as′ (h .1) (k .1))
-
 -- the law: from wherever its bytes stand, a value that keeps the limits is read again
 pub gets-written : {A : Type 0} (x : Format A) (a : A) → keeps x a → Made x a → (s : List ℕ) → Gets (reads x) s a (writes x a)
 unfolding reads writes keeps Made
@@ -189,7 +185,7 @@ gets-written (listed count x) as′ k m s =
     then-gets (reads count) (λ n. several n (reads x)) s (length as′) as′ (writes count (length as′)) (flat (map (λ a. writes x a) as′))
     (gets-written count (length as′) (k .0) (m .0) s)
     (several-gets (reads x) (λ a. writes x a) s as′
-    (both (keeps x) (Made x) (λ a. Gets (reads x) s a (writes x a)) (λ a h i. gets-written x a h i s) as′ (k .1) (m .1)))
+    (all-both (keeps x) (Made x) (λ a. Gets (reads x) s a (writes x a)) (λ a h i. gets-written x a h i s) as′ (k .1) (m .1)))
 gets-written (give a) u k m s = λ p r e. let z : p + 0 ≡ p = omega arith in rw (z, m)
 gets-written (next of x g) u k m s =
     then-gets (reads x) (λ a. reads (g a)) s (of u) u (writes x (of u)) (writes (g (of u)) u) (gets-written x (of u) (k .0) (m .0) s)
@@ -201,11 +197,6 @@ width-made : (used : Bool) (w : Width) → Made (width used) w
 unfolding Made width
 width-made true w = (tt, (tt, refl))
 width-made false w = (tt, (tt, refl))
-
--- of every entry
-all-of : {A : Type 0} (P : A → Type 0) → ((a : A) → P a) → (as′ : List A) → All P as′
-all-of P h [] = tt
-all-of P h (a ∷ as′) = (h a, all-of P h as′)
 
 column-made : (c : Column) → Made column c
 unfolding Made column

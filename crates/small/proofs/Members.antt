@@ -1,20 +1,19 @@
 -- Tables that are not of the family, and tables that are. Assumes nothing.
-use Prim.Native.Nat.{ℕ, zero, suc, _≤_}
+use Prim.Native.Nat.{ℕ, _≤_}
 use mathlib.Core.Path.{_≡_, refl}
 use mathlib.Core.Logic.{_⊎_, inl, inr}
 use mathlib.Core.List.{List, []}
 use native.Mathlib.Omega.{arith}
-use lib.ListN.{replicate}
-use Rattle.rules.specs.Text.{All}
 use Rattle.rules.specs.Quote.{ascii}
 use Rattle.rules.specs.Sheet.{noColumn}
+use Rattle.laws.proofs.Lists.{all-replicate}
 use Rattle.small.specs.Family.{Letter, SmallText, SmallColumn, SmallCell}
 use Rattle.small.specs.Listing.{cellOf, tableOf}
 use Rattle.small.specs.Examples.{Outsiders, Members}
 
-one-or-two : {n : ℕ} → (n ≡ 1) ⊎ (n ≡ 2) → (1 ≤ n) × (n ≤ 2)
-one-or-two (inl e) = (omega (arith, e), omega (arith, e))
-one-or-two (inr e) = (omega (arith, e), omega (arith, e))
+pub one-or-two : (n : ℕ) → (n ≡ 1) ⊎ (n ≡ 2) → (1 ≤ n) × (n ≤ 2)
+one-or-two n (inl e) = (omega (arith, e), omega (arith, e))
+one-or-two n (inr e) = (omega (arith, e), omega (arith, e))
 
 letter-b : Letter 98 → ⊥
 letter-b (inl e) = omega (arith, e)
@@ -23,8 +22,8 @@ letter-b (inr e) = omega (arith, e)
 pub outsiders : Outsiders
 unfolding tableOf
 outsiders = record {
-  none = λ h. let n = one-or-two (h .columns) in omega (arith, n .0);
-  three = λ h. let n = one-or-two (h .columns) in omega (arith, n .1);
+  none = λ h. let n = one-or-two 0 (h .columns) in omega (arith, n .0);
+  three = λ h. let n = one-or-two 3 (h .columns) in omega (arith, n .1);
   five = λ h. let l = h .rows .0 .each .0 .texts .0 .length in omega (arith, l);
   letter = λ h. letter-b (h .rows .0 .each .0 .texts .0 .letters .1 .0);
   target = λ h. let w = h .target in omega (arith, w);
@@ -47,10 +46,6 @@ aaaa = record { length = omega arith; letters = (inr refl, (inr refl, (inr refl,
 space-a : SmallText (ascii " a")
 space-a = record { length = omega arith; letters = (inl refl, (inr refl, tt)) }
 
-zeros : (n : ℕ) → All (λ (b : ℕ). b ≡ 0) (replicate n 0)
-zeros zero = tt
-zeros (suc n) = (refl, zeros n)
-
 pub members : Members
 unfolding tableOf
 members = record {
@@ -58,7 +53,7 @@ members = record {
     edition = refl;
     columns = inl refl;
     each-column = (small-column, tt);
-    style = zeros 22;
+    style = all-replicate (λ b. b ≡ 0) 0 22 refl;
     delimiter = refl;
     indicator = refl;
     header = refl;
@@ -71,7 +66,7 @@ members = record {
     edition = refl;
     columns = inr refl;
     each-column = (small-column, (small-column, tt));
-    style = zeros 22;
+    style = all-replicate (λ b. b ≡ 0) 0 22 refl;
     delimiter = refl;
     indicator = refl;
     header = refl;

@@ -3,6 +3,7 @@ use Prim.Native.Nat.{ℕ, _<_}
 use mathlib.Core.Path.{_≡_}
 use mathlib.Core.List.{List, []}
 use lib.ListN.{length, getD}
+use Rattle.rules.specs.Text.{All}
 use Rattle.small.specs.Family.{InFamily}
 use Rattle.small.specs.Listing.{tablesWith, sheets}
 
@@ -13,10 +14,11 @@ pub record Listed (s : List ℕ) : Type 0 where
   pub is : getD sheets number [] ≡ s
 
 pub record Promise : Type 0 where
-  -- "there are 32,736: 1,023 with one column and 31,713 with two"
+  -- "there are 32,736: 1,023 with one column and 31,713 with two", those listed as such
   pub count : length sheets ≡ 32736
   pub one-column : length (tablesWith 1) ≡ 1023
   pub two-columns : length (tablesWith 2) ≡ 31713
+  pub columns : (n : ℕ) → All (λ t. length (t .columns) ≡ n) (tablesWith n)
   -- "each is accepted", and of the family
   pub accepted : (n : ℕ) → n < length sheets → InFamily (getD sheets n [])
   -- "is listed once": two numbers, two sheets

@@ -6,19 +6,19 @@ use mathlib.Core.List.{List, [], _∷_, _++_, map, append-assoc, append-nil}
 use mathlib.Core.Bool.{true}
 use native.Mathlib.Omega.{arith}
 use lib.ListN.{length, replicate, length-append, length-replicate, length-map, replicate-append-replicate}
-use borrow.Author.Tests.{le-leb}
 use Rattle.rules.specs.Text.{flat, All}
 use Rattle.rules.specs.Sheet.{Row, Table, noColumn}
-use Rattle.rules.specs.Field.{got, between, printableOrZero}
+use Rattle.rules.specs.Field.{got, printableOrZero}
 use Rattle.rules.specs.Description.{writes}
 use Rattle.rules.specs.Format.{width, column, line, cellBy, cell, rowBy, row, tableBy, table, sheet, written}
-use Rattle.rules.specs.Limits.{IsByte, Printable, IsText, nothing, plain}
+use Rattle.rules.specs.Limits.{IsByte, Printable, IsText}
 use Rattle.laws.proofs.Lists.{all-append, all-replicate, all-imp, all-map-imp, all-flat}
-use Rattle.laws.proofs.Reading.{keeps}
+use Rattle.laws.proofs.Texts.{text-all}
+use Rattle.laws.proofs.Reading.{between-true, keeps}
 use Rattle.laws.proofs.Writing.{written-accepted}
 use Rattle.small.specs.Family.{Letter, SmallText, SmallColumn, SmallCell, Small, InFamily}
 use Rattle.small.specs.Listing.{cellOf, tableOf}
-use Rattle.small.proofs.Members.{small-column, small-cell}
+use Rattle.small.proofs.Members.{one-or-two, small-column, small-cell}
 use Rattle.small_sheets.specs.Parts.{cellBytes, headBytes, columnsBytes}
 use Rattle.small_sheets.proofs.Tables.{MadeWith}
 
@@ -102,11 +102,7 @@ letter-printable b (inl e) = (omega (arith, e), omega (arith, e))
 letter-printable b (inr e) = (omega (arith, e), omega (arith, e))
 
 letters-text : (x : List ℕ) → All Letter x → IsText x
-letters-text [] h = nothing
-letters-text (b ∷ x) h = plain b x (letter-printable b (h .0)) (letters-text x (h .1))
-
-between-true : (low high v : ℕ) → low ≤ v → v ≤ high → between low high v ≡ true
-between-true low high v h k = rw (le-leb low v h, le-leb v high k)
+letters-text x h = text-all x (all-imp Letter Printable letter-printable x h)
 
 cell-keeps : (x : List ℕ) → SmallText x → keeps cell (cellOf x)
 unfolding keeps cellBy line
@@ -120,16 +116,11 @@ column-keeps =
     ((refl, tt), ((refl, tt), ((refl, tt), ((refl, tt), ((refl, tt), (((refl, tt), (refl, tt)), (((refl, tt), (refl, tt)), tt)))))))
 
 letter-byte : (b : ℕ) → Letter b → IsByte b
-letter-byte b (inl e) = omega (arith, e)
-letter-byte b (inr e) = omega (arith, e)
+letter-byte b h = omega (arith, letter-printable b h .1)
 
 cell-is-bytes : (x : List ℕ) → SmallText x → All IsByte (cellBytes x)
 cell-is-bytes x h =
     (omega arith, (omega arith, (omega arith, (omega (arith, h .length), all-imp Letter IsByte letter-byte x (h .letters)))))
-
-pub at-most-two : (n : ℕ) → (n ≡ 1) ⊎ (n ≡ 2) → n ≤ 2
-at-most-two n (inl e) = omega (arith, e)
-at-most-two n (inr e) = omega (arith, e)
 
 module _ (a w : ℕ) (xs : List (List ℕ)) (arranged : a ≤ 2) (targeted : w ≤ 10) (few : length xs ≤ 2) (small : All SmallText xs) where
   abbrev n : ℕ
@@ -238,7 +229,7 @@ made-good columns t c m = subst Good (m .is) (go (subst (λ n. (n ≡ 1) ⊎ (n 
   where
     go : (length (m .texts-of) ≡ 1) ⊎ (length (m .texts-of) ≡ 2) → Good (tableOf (m .arrangement) (m .target) (m .texts-of))
     go k =
-        let few = at-most-two (length (m .texts-of)) k in
+        let few = one-or-two (length (m .texts-of)) k .1 in
         record {
           short = sheet-short (m .arrangement) (m .target) (m .texts-of) (m .arrangement-most) (m .target-most) few (m .small);
           accepted = table-accepted (m .arrangement) (m .target) (m .texts-of) (m .arrangement-most) (m .target-most) few (m .small);

@@ -173,7 +173,7 @@ chosen-range k m p c columns i h = record {
 pub one-choice : (n : ℕ) (p : Place) (c : Choice) → n < 1023 → IsPlace 1 n p → ChoiceAt 1 p c → IsChoice n c
 one-choice n p c l i h = record {
   table = rw tables-are (first-list (tablesWith 1) (tablesWith 2) 1023 n noTable one-column-count l ∙ (i .table ∙ chosen-table 1 p c h));
-  range = chosen-range 1 (n) p c (inl (h .columns)) i h;
+  range = chosen-range 1 n p c (inl (h .columns)) i h;
 }
 
 pub two-choice : (n : ℕ) (p : Place) (c : Choice) → 1023 ≤ n → IsPlace 2 (n - 1023) p → ChoiceAt 2 p c → IsChoice n c

@@ -4,18 +4,18 @@ use mathlib.Core.Path.{_≡_, refl, ap, sym, subst, _∙_}
 use mathlib.Core.Logic.{_⊎_, inl, inr}
 use mathlib.Core.List.{List, [], _++_, append-nil}
 use lib.ListN.{length, getD, length-append, length-map}
-use Rattle.rules.specs.Text.{flat}
+use Rattle.rules.specs.Text.{flat, All}
 use Rattle.rules.specs.Sheet.{Table}
 use Rattle.rules.specs.Field.{Read, got, refused}
 use Rattle.rules.specs.Format.{sheet, written}
-use Rattle.laws.proofs.Lists.{getD-map}
+use Rattle.laws.proofs.Lists.{all-places, getD-map}
 use Rattle.laws.proofs.Accepted.{accepted-limits}
 use Rattle.laws.proofs.Writing.{accepted-written}
 use Rattle.small.specs.Family.{InFamily}
 use Rattle.small.specs.Listing.{each, tablesWith, tables, sheets, noTable}
 use Rattle.small.specs.Promise.{Listed, Promise}
 use Rattle.small_sheets.proofs.Choices.{In, getD-in, in-number, once-number}
-use Rattle.small_sheets.proofs.Tables.{MadeWith, tables-made, made-tables, once-tables, small-made, with-count, one-row-count, two-rows-count}
+use Rattle.small_sheets.proofs.Tables.{MadeWith, columns-of, tables-made, made-tables, once-tables, small-made, with-count, one-row-count, two-rows-count}
 use Rattle.small_sheets.proofs.Bytes.{Good, made-good}
 
 pub one-column-count : length (tablesWith 1) ≡ 1023
@@ -23,6 +23,12 @@ one-column-count = with-count 1 ∙ rw one-row-count
 
 pub two-columns-count : length (tablesWith 2) ≡ 31713
 two-columns-count = with-count 2 ∙ rw two-rows-count
+
+-- each has so many columns
+with-columns : (n : ℕ) → All (λ (t : Table). length (t .columns) ≡ n) (tablesWith n)
+with-columns n =
+    all-places (λ (t : Table). length (t .columns) ≡ n) (tablesWith n) noTable
+    (λ i l. sym (columns-of n (getD (tablesWith n) i noTable) (getD-in (tablesWith n) i noTable l)))
 
 -- those with one column, then those with two
 pub tables-are : tables ≡ tablesWith 1 ++ tablesWith 2
@@ -89,6 +95,7 @@ promise = record {
   count = sheets-count;
   one-column = one-column-count;
   two-columns = two-columns-count;
+  columns = with-columns;
   accepted = λ n h. family-at n (rw sheets-count at h);
   once = λ m n h k e. once-at m n (rw sheets-count at h) (rw sheets-count at k) e;
   complete = complete;

@@ -139,7 +139,7 @@ made-with columns t m =
     (in-each (λ b. ofArrangement columns b) (upFrom 0 3) a (tableOf a w xs) (in-upFrom 0 3 a (omega arith) (omega (arith, m .arrangement-most)))
     (in-each (λ v. ofTarget columns a v) (upFrom 0 11) w (tableOf a w xs) (in-upFrom 0 11 w (omega arith) (omega (arith, m .target-most))) there))
 
-columns-of : (columns : ℕ) (t : Table) → In t (tablesWith columns) → columns ≡ length (t .columns)
+pub columns-of : (columns : ℕ) (t : Table) → In t (tablesWith columns) → columns ≡ length (t .columns)
 unfolding tableOf
 columns-of columns t h =
     let m = with-made columns t h in
@@ -221,7 +221,8 @@ all-zero (b ∷ l) h = let e = h .0 in let r = all-zero l (h .1) in cc
 width-same : {u v x y : ℕ} → u ≡ x → v ≡ y → _≡_ {A = Width} (record { unit = u; value = v }) (record { unit = x; value = y })
 width-same e f = cc
 
-column-same : {l r d a k : ℕ} {v w : Width} {l′ r′ d′ a′ k′ : ℕ} {v′ w′ : Width} → l ≡ l′ → r ≡ r′ → d ≡ d′ → a ≡ a′ → k ≡ k′ → v ≡ v′ → w ≡ w′
+column-same : {l r d a k l′ r′ d′ a′ k′ : ℕ} {v w v′ w′ : Width}
+    → l ≡ l′ → r ≡ r′ → d ≡ d′ → a ≡ a′ → k ≡ k′ → v ≡ v′ → w ≡ w′
     → _≡_ {A = Column} (record { left = l; right = r; delimiter = d; alignment = a; constraint = k; first = v; second = w })
     (record { left = l′; right = r′; delimiter = d′; alignment = a′; constraint = k′; first = v′; second = w′ })
 column-same e f g h i j k = cc

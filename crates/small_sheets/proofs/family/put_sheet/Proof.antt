@@ -1,7 +1,7 @@
 use borrow.Author.Needs.{needs}
 use denote.Ref.{now}
 use native.Mathlib.Omega.{arith}
-use Rattle.small_sheets.proofs.Bytes.{at-most-two}
+use Rattle.small.proofs.Members.{one-or-two}
 use Rattle.small_sheets.proofs.Puts.{parts-length, sheet-put}
 use Rattle.small_sheets.proofs.family.put_sheet.Statement.{statement}
 use Rattle.small_sheets.proofs.family.put_sheet.Tie as tie
@@ -14,7 +14,7 @@ put-sheet-spec =
     ((s .pre .0 .arrangement, s .pre .0 .target), omega (arith, s .pre .1, parts-length (s .args .c))))
     (λ c κs. let s = c .before .before .before .before .before .before in
     let head = c .before .before .before .put-head in (
-      at-most-two (s .args .c .columns) (s .pre .0 .columns),
+      one-or-two (s .args .c .columns) (s .pre .0 .columns) .1,
       omega (arith, s .pre .1, parts-length (s .args .c), head .ensures .0, head .kept .0),
     ))
     (λ c κs. let s = c .before .before .before .before .before .before .before .before .before .before in
