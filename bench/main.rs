@@ -73,6 +73,7 @@ struct Measured {
     page: usize,
     lines: usize,
     check: f64,
+    widths: f64,
     count: f64,
     print_page: f64,
     print_line: f64,
@@ -93,6 +94,7 @@ fn measure(named: &Named) -> Measured {
         page: page.len(),
         lines: answer.lines,
         check: time(|| black_box(&calls).check()),
+        widths: time(|| black_box(&calls).widths()),
         count: time(|| black_box(&calls).count()),
         print_page: time(|| black_box(&calls).page(&mut page)),
         print_line: time(|| black_box(&calls).line(middle, &mut line)),
@@ -106,13 +108,14 @@ fn print_head() {
         BATCH / 1_000_000
     );
     println!(
-        "{:18} {:>6} {:>8} {:>6} | {:>9} {:>7} | {:>9} | {:>10} {:>7} | {:>9} | {:>11} {:>7} | {:>6}",
+        "{:18} {:>6} {:>8} {:>6} | {:>9} {:>7} | {:>9} | {:>9} | {:>10} {:>7} | {:>9} | {:>11} {:>7} | {:>6}",
         "sheet",
         "bytes",
         "page",
         "lines",
         "check",
         "/byte",
+        "widths",
         "count",
         "print page",
         "/byte",
@@ -127,13 +130,14 @@ fn print_head() {
 fn print_row(m: &Measured) {
     let per = |time: f64, bytes: usize| time / bytes as f64;
     println!(
-        "{:18} {:6} {:8} {:6} | {:9.0} {:7.2} | {:9.0} | {:10.0} {:7.2} | {:9.0} | {:11.0} {:7.2} | {:6.1}",
+        "{:18} {:6} {:8} {:6} | {:9.0} {:7.2} | {:9.0} | {:9.0} | {:10.0} {:7.2} | {:9.0} | {:11.0} {:7.2} | {:6.1}",
         m.name,
         m.sheet,
         m.page,
         m.lines,
         m.check,
         per(m.check, m.sheet),
+        m.widths,
         m.count,
         m.print_page,
         per(m.print_page, m.page),
@@ -151,9 +155,10 @@ fn print_growth(rows: &[Measured]) {
         time(last) / time(first) / ((last.sheet + last.page) as f64 / (first.sheet + first.page) as f64)
     };
     println!(
-        "{:18} growth over that of sheet and page: check {:.2}, count {:.2}, print page {:.2}, mid line {:.2}, Rust {:.2}",
+        "{:18} growth over that of sheet and page: check {:.2}, widths {:.2}, count {:.2}, print page {:.2}, mid line {:.2}, Rust {:.2}",
         "",
         grown(|m| m.check),
+        grown(|m| m.widths),
         grown(|m| m.count),
         grown(|m| m.print_page),
         grown(|m| m.print_line),

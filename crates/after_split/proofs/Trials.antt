@@ -13,17 +13,12 @@ use Rattle.rules.specs.Text.{textWidth, greatest, flat, orElse, All}
 use Rattle.rules.specs.Sheet.{Cell, Row, Table, noCell, cellAt, allRows}
 use Rattle.rules.specs.Wrap.{split}
 use Rattle.rules.specs.Widths.{lifted, cellsOf, trialParts, cellParts, longestPart, shorterBy3}
-use Rattle.laws.proofs.Lists.{map-append, all-imp, all-map-imp}
+use Rattle.laws.proofs.Lists.{map-append, greatest-append, all-imp, all-map-imp}
 use Rattle.laws.proofs.Text.{width-le}
 use Rattle.laws.proofs.Bounds.{Most, greatest-le}
 use Rattle.laws.proofs.Split.{Short, split-fits}
 use Rattle.text_width.specs.Measure.{IsPlain}
 use Rattle.after_split.specs.Trial.{ofLine, ofLines, ofCells, ofRows, otherwise}
-
-greatest-append : (xs ys : List ℕ) → greatest (xs ++ ys) ≡ max (greatest xs) (greatest ys)
-unfolding greatest
-greatest-append [] ys = omega arith
-greatest-append (x ∷ xs) ys = omega (arith, greatest-append xs ys)
 
 -- parts of one thing, then of others
 parts-append : (ps qs : List (List ℕ)) → greatest (map textWidth (ps ++ qs)) ≡ max (greatest (map textWidth ps)) (greatest (map textWidth qs))

@@ -12,6 +12,7 @@ pub mod Fits
 pub mod Fitting
 pub mod Reading
 pub mod Accepted
+pub mod CellLines
 pub mod Stands
 pub mod Writing
 pub mod Plainly

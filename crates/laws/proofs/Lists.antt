@@ -1,5 +1,5 @@
 -- Every entry of a list. Assumes nothing.
-use Prim.Native.Nat.{ℕ, zero, suc, _+_, _≤_, _<_}
+use Prim.Native.Nat.{ℕ, zero, suc, _+_, _≤_, _<_, max}
 use mathlib.Core.Path.{_≡_, refl, ap, sym, _∙_}
 use mathlib.Core.List.{List, [], _∷_, _++_, map, append-assoc, append-nil}
 use mathlib.Core.Bool.{Bool, true, false}
@@ -45,6 +45,11 @@ pub all-map-imp : {A B : Type 0} (P : A → Type 0) (Q : B → Type 0) (f : A �
     (map f xs)
 all-map-imp P Q f g [] h = tt
 all-map-imp P Q f g (x ∷ xs) h = (g x (h .0), all-map-imp P Q f g xs (h .1))
+
+-- of all from which f makes something with the property
+pub all-unmap : {A B : Type 0} (P : B → Type 0) (f : A → B) (xs : List A) → All P (map f xs) → All (λ x. P (f x)) xs
+all-unmap P f [] h = tt
+all-unmap P f (x ∷ xs) h = (h .0, all-unmap P f xs (h .1))
 
 -- of two lists, one after the other
 pub all-append : {A : Type 0} (P : A → Type 0) (xs ys : List A) → All P xs → All P ys → All P (xs ++ ys)
@@ -105,6 +110,17 @@ getD-map f (x ∷ xs) (suc i) a b h = getD-map f xs i a b (le-of-suc-le-suc h)
 pub map-append : {A B : Type 0} (f : A → B) (xs ys : List A) → map f (xs ++ ys) ≡ map f xs ++ map f ys
 map-append f [] ys = refl
 map-append f (x ∷ xs) ys = ap (λ l. f x ∷ l) (map-append f xs ys)
+
+pub map-flat : {A B : Type 0} (f : A → B) (xs : List (List A)) → map f (flat xs) ≡ flat (map (map f) xs)
+unfolding flat
+map-flat f [] = refl
+map-flat f (x ∷ xs) = map-append f x (flat xs) ∙ ap (λ l. map f x ++ l) (map-flat f xs)
+
+-- the greatest of two lists, one after the other
+pub greatest-append : (xs ys : List ℕ) → greatest (xs ++ ys) ≡ max (greatest xs) (greatest ys)
+unfolding greatest
+greatest-append [] ys = omega arith
+greatest-append (x ∷ xs) ys = omega (arith, greatest-append xs ys)
 
 -- no entry is above the greatest
 pub le-greatest : {A : Type 0} (f : A → ℕ) (xs : List A) (i : ℕ) (a : A) → i < length xs → f (getD xs i a) ≤ greatest (map f xs)

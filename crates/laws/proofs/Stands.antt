@@ -1,7 +1,7 @@
 -- Columns, rows, cells and lines of an accepted sheet's table stand one after another, each whole inside the sheet. Assumes nothing.
 use Prim.Native.Nat.{ℕ, zero, suc, _+_, _*_, _≤_, _<_}
 use mathlib.Core.Path.{_≡_, refl, ap, sym, _∙_}
-use mathlib.Core.List.{List}
+use mathlib.Core.List.{List, _∷_, map}
 use mathlib.Core.Bool.{Bool, true, false}
 use native.Mathlib.Nat.{not-suc-le-zero, le-of-suc-le-suc}
 use native.Mathlib.Omega.{arith}
@@ -29,6 +29,19 @@ unfolding parts past
 parts-at d k zero here stop p l = absurd (not-suc-le-zero l)
 parts-at d zero (suc n) here stop p l = refl
 parts-at d (suc k) (suc n) here stop p l = parts-at d k n here stop (stop p) (le-of-suc-le-suc l)
+
+-- parts that stand elsewhere, each where g says, and of which f is made
+pub past-moved : (g stop stop' : ℕ → ℕ) → ((p : ℕ) → g (stop p) ≡ stop' (g p)) → (n p : ℕ) → g (past n stop p) ≡ past n stop' (g p)
+unfolding past
+past-moved g stop stop' h zero p = refl
+past-moved g stop stop' h (suc n) p = past-moved g stop stop' h n (stop p) ∙ ap (past n stop') (h p)
+
+pub parts-moved : {A B : Type 0} (f : A → B) (here : ℕ → A) (here' : ℕ → B) (g stop stop' : ℕ → ℕ) → ((p : ℕ) → f (here p) ≡ here' (g p))
+    → ((p : ℕ) → g (stop p) ≡ stop' (g p)) → (n p : ℕ) → map f (parts n here stop p) ≡ parts n here' stop' (g p)
+unfolding parts
+parts-moved f here here' g stop stop' k h zero p = refl
+parts-moved f here here' g stop stop' k h (suc n) p =
+    rw (k p) (ap (_∷_ (here' (g p))) (parts-moved f here here' g stop stop' k h n (stop p) ∙ ap (parts n here' stop') (h p)))
 
 -- no part ends before it begins
 abbrev pub Onward : (ℕ → ℕ) → Type 0

@@ -13,7 +13,8 @@ use Rattle.rules.specs.Field.{Read, got, refused, printable}
 use Rattle.rules.specs.Description.{text, reads}
 use Rattle.rules.specs.Format.{line, sheet, written}
 use Rattle.rules.specs.Wrap.{place, wrapLine, cutLine}
-use Rattle.rules.specs.Widths.{borders, widthOf, first, splitAtAverage, share, contents}
+use Rattle.rules.specs.Widths.{longest, borders, widthOf, first, splitAtAverage, share, contents}
+use Rattle.rules.specs.CellLines.{inColumn, linesOfCells, cellLines, longestOf}
 use Rattle.rules.specs.Style.{rowRule}
 use Rattle.rules.specs.Page.{area, ruled, page}
 use Rattle.rules.specs.Words.{Readable, widthsOf, linesOf, areaOf, characters, letters}
@@ -206,6 +207,31 @@ pub record Pairs : Type 0 where
   pub two-seconds : lineRead 3 (194 ∷ 176 ∷ 176 ∷ []) ≡ refused 6 3
   pub indicator : reads (text 0 8 printable) (2 ∷ 194 ∷ 176 ∷ []) 0 ≡ refused 6 1
 
+-- a table whose second column is hidden and whose third has no cell: a header, a row without cells, and a row with an empty line
+abbrev pub rooms : Table
+rooms = record {
+  edition = 1;
+  arrangement = 0;
+  target = 0;
+  delimiter = 0;
+  indicator = [];
+  style = bare;
+  columns = noColumn ∷ held 0 1 0 ∷ noColumn ∷ [];
+  header = rowOf (ascii "set") ∷ [];
+  rows = record { limit = 0; cells = [] } ∷ record {
+    limit = 0;
+    cells = record { delimiter = 0; alignment = 0; lines = setpoint ∷ ascii "on" ∷ [] } ∷ record { delimiter = 0; alignment = 0; lines = [] ∷ [] } ∷ [];
+  } ∷ [];
+}
+
+-- "each cell line of header and rows is taken exactly once", in the sheet's order, and the lengths are in characters: an empty line's is 1
+pub record Lines : Type 0 where
+  pub house : cellLines houseTable ≡ inColumn 0 (ascii "ab") ∷ inColumn 1 (ascii "the quick brown") ∷ []
+  pub all-lines : cellLines rooms ≡ inColumn 0 (ascii "set") ∷ inColumn 0 setpoint ∷ inColumn 0 (ascii "on") ∷ inColumn 1 [] ∷ []
+  pub no-cell : cellLines wide ≡ []
+  pub found : map (λ j. longestOf j (cellLines rooms)) (0 ∷ 1 ∷ 2 ∷ []) ≡ 6 ∷ 1 ∷ 0 ∷ []
+  pub longests : map (longest rooms) (0 ∷ 1 ∷ 2 ∷ []) ≡ 6 ∷ 1 ∷ 0 ∷ []
+
 pub examples : Examples
 unfolding rules
 examples = record {
@@ -301,3 +327,7 @@ pairs = record {
   two-seconds = refl;
   indicator = refl;
 }
+
+pub lines : Lines
+unfolding rules cellLines linesOfCells longestOf
+lines = record { house = refl; all-lines = refl; no-cell = refl; found = refl; longests = refl }

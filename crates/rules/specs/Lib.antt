@@ -9,6 +9,7 @@ pub mod Limits
 pub mod Style
 pub mod Wrap
 pub mod Widths
+pub mod CellLines
 pub mod Page
 pub mod Calls
 pub mod Words

@@ -1,4 +1,6 @@
 pub mod Held
 pub mod Copies
 pub mod Walks
-pub mod Longests
+pub mod Heads
+pub mod Rest
+pub mod Passes

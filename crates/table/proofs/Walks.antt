@@ -1,16 +1,16 @@
 -- Walking from one part to the next: positions, and what is still to come. Assumes nothing.
 use Prim.Native.Nat.{ℕ, zero, suc, _+_, _-_, _≤_, _<_}
 use mathlib.Core.Path.{_≡_, refl, sym, _∙_}
-use mathlib.Core.List.{List, [], _∷_}
+use mathlib.Core.List.{List, []}
 use native.Mathlib.Omega.{arith}
 use lib.ListN.{length, getD, take, drop, drop-of-length-le}
-use lib.Seq.{drop-cons, drop-drop}
+use lib.Seq.{drop-drop}
 use Rattle.rules.specs.Sheet.{noRow, noCell}
 use Rattle.rules.specs.Places.{past, parts, byteAt, textAt, lineStop, cellHere, cellStop, rowHere, rowStop, headerPlace, rowsPlace}
 use Rattle.laws.proofs.Stands as stands
 use Rattle.laws.proofs.Stands.{Onward, past-onward, cell-here, cell-stop, row-here, row-stop, cell-onward, row-onward, lines-onward, cells-onward, rows-onward}
 use Rattle.table.specs.Held.{IsAccepted, tableOf}
-use Rattle.table.specs.Walk.{rowsIn, cellsIn, linesIn, rowsEnd, cellsEnd, linesEnd, firstRow, firstLine, RowIs, CellIs, RowsNext, CellsNext, CellsSkipped, LinesNext}
+use Rattle.table.specs.Walk.{rowsIn, cellsIn, linesIn, rowsEnd, cellsEnd, linesEnd, firstLine, RowIs, CellIs, RowsNext, CellsNext, CellsSkipped, LinesNext}
 use Rattle.table.specs.declared.records.Rows.{Rows}
 use Rattle.table.specs.declared.records.Cells.{Cells}
 use Rattle.table.specs.declared.records.Lines.{Lines}
@@ -79,10 +79,6 @@ pub lines-number : (s : List ℕ) (c : Lines) → length (linesIn s c) ≡ c .le
 unfolding linesIn
 lines-number s c = stands.parts-count (c .left) (textAt s) (lineStop s) (c .at)
 
--- the first row and those after it make the whole
-pub rows-cons : (s : List ℕ) (c : Rows) → 0 < c .left → rowsIn s c ≡ firstRow s c ∷ drop 1 (rowsIn s c)
-rows-cons s c some = drop-cons (rowsIn s c) 0 noRow (omega (arith, rows-number s c))
-
 -- the first row, and those after it
 module _ (s : List ℕ) (c : Rows) (some : 0 < c .left) where
   pub row-inside : rowStop s (c .at) ≤ rowsEnd s c
@@ -150,9 +146,6 @@ module _ (s : List ℕ) (c : Lines) (some : 0 < c .left) where
   unfolding lineStop
   line-room h = let b = line-inside in omega arith
 
-  pub line-there : linesEnd s c ≤ length s → c .at < length s
-  line-there h = let a = line-room h in omega arith
-
   pub line-is : (n : ℕ) → n ≡ byteAt s (c .at) → take (c .at + 1 + n - (c .at + 1)) (drop (c .at + 1) s) ≡ firstLine s c
   unfolding linesIn textAt
   line-is n e =
@@ -187,10 +180,6 @@ unfolding rowsIn rowsEnd
 rows-are s p n h e i =
     let r = held s h in
     (rw (table-here s h, i, e) (sym (stands.rows-here s)), rw (i, e) (sym (stands.rows-end s) ∙ stands.end-place s (tableOf s) (r .end) (r .reads)))
-
-pub lines-none : (s : List ℕ) (c : Lines) → c .left ≤ 0 → linesEnd s c ≡ c .at
-unfolding linesEnd past
-lines-none s c h = let z : c .left ≡ 0 = omega arith in rw z
 
 pub cells-none : (s : List ℕ) (c : Cells) → c .left ≤ 0 → cellsEnd s c ≡ c .at
 unfolding cellsEnd past

@@ -1,3 +1,4 @@
 pub mod Held
 pub mod Walk
-pub mod Longest
+pub mod Step
+pub mod Pass

@@ -3,4 +3,5 @@ pub mod longest;
 mod places;
 pub mod records;
 pub mod settings;
+pub mod step;
 pub mod walk;

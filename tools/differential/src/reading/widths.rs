@@ -2,7 +2,7 @@
 
 use super::{HIDDEN, JUNCTIONS, LEFTS, RIGHTS, Reading};
 use crate::marks::{Rule, Slip};
-use crate::sheet::{PERCENT, SIGN, Width};
+use crate::sheet::{Cell, PERCENT, SIGN, Width};
 
 const ABSOLUTE: u8 = 3;
 
@@ -17,16 +17,40 @@ impl Reading<'_> {
     /// "A column's longest: greatest line length over header and rows, at least 1 per cell present;
     /// 0 with no cell."
     pub(super) fn longest(&self, at: usize) -> usize {
-        let left_out = usize::from(self.slips(Slip::HeaderNotMeasured) && self.table.header.is_some());
-        let lines = self.cells(at, left_out).flat_map(|cell| &cell.lines);
-        let length = |line: &[u8]| match self.slips(Slip::LongestInBytes) {
-            true => line.len(),
-            false => self.characters(line).len(),
-        };
-        let measured = |line: &Vec<u8>| (length(line).max(1), line.contains(&SIGN[0]));
-        let (longest, has_sign) = lines.map(measured).max().unwrap_or_default();
+        let lines = self.measured_cells(at).into_iter().flat_map(|cell| self.measured_lines(cell));
+        let (longest, has_sign) = lines.map(|line| self.measured(line)).max().unwrap_or_default();
         self.fire_if(has_sign, Rule::SignMeasured);
         longest
+    }
+
+    /// The cells whose lines are column `at`'s: its own, but for the slips.
+    fn measured_cells(&self, at: usize) -> Vec<&Cell> {
+        let left_out = usize::from(self.slips(Slip::HeaderNotMeasured) && self.table.header.is_some());
+        if self.slips(Slip::ColumnNotAdvanced) {
+            let columns = if at == 0 { self.table.columns.len() } else { 0 };
+            return (0..columns).flat_map(|at| self.cells(at, left_out)).collect();
+        }
+        if self.slips(Slip::HiddenNotMeasured) && self.hidden(at) {
+            return Vec::new();
+        }
+        if self.slips(Slip::EmptyRowLast) {
+            let rows = self.table.header.iter().chain(&self.table.rows);
+            return rows.take_while(|row| !row.cells.is_empty()).filter_map(|row| row.cells.get(at)).collect();
+        }
+        self.cells(at, left_out).collect()
+    }
+
+    fn measured_lines<'c>(&self, cell: &'c Cell) -> &'c [Vec<u8>] {
+        let lines = &cell.lines;
+        if lines.len() > 1 && self.slips(Slip::LineTwice) { &lines[..lines.len() - 1] } else { lines }
+    }
+
+    /// A line's length, and whether it has a degree sign.
+    fn measured(&self, line: &[u8]) -> (usize, bool) {
+        let length = if self.slips(Slip::LongestInBytes) { line.len() } else { self.characters(line).len() };
+        let more = usize::from(self.slips(Slip::LengthByteMeasured));
+        let least = usize::from(!self.slips(Slip::EmptyLineNothing));
+        ((length + more).max(least), line.contains(&SIGN[0]))
     }
 
     /// "Borders drawn: left if any `left` is set, right likewise, and visible columns less one, not

@@ -33,4 +33,4 @@ layout-spec =
     let left = c .before .before .before .has-left-border .ensures in
     let right = c .before .before .has-right-border .ensures in
     let junction = c .before .has-vertical-lines .ensures in
-    describes _ limits _ columns _ _ _ _ _ _ _ settings style (l .before .style-from .ensures) (l .longest .ensures) left right junction))
+    describes _ limits _ columns _ _ _ _ _ _ _ settings style (l .before .style-from .ensures) (l .longest .ensures .longest) left right junction))
