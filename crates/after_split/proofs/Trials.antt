@@ -6,7 +6,6 @@ use mathlib.Core.Bool.{Bool, true, false}
 use mathlib.Core.Option.{none, some}
 use native.Mathlib.Omega.{arith}
 use lib.ListN.{length, getD}
-use lib.Seq.{slice, take-length}
 use lib.Dec.{eqb, ltb}
 use borrow.Author.Tests.{eqb-true, ltb-true, ltb-false, le-leb, lt-leb, lt-ltb, le-ltb}
 use Rattle.rules.specs.Text.{textWidth, greatest, flat, orElse, All}
@@ -31,10 +30,6 @@ lines-cons a d l ls = parts-append (trialParts a d l) (flat (map (trialParts a d
 pub lines-nil : (a d : ℕ) → ofLines a d [] ≡ 0
 unfolding ofLines flat greatest
 lines-nil a d = refl
-
--- a whole line's columns, as they are counted
-pub line-columns : (n : ℕ) (l : List ℕ) → n ≡ textWidth (slice 0 (length l) l) → n ≡ textWidth l
-line-columns n l e = e ∙ ap textWidth (take-length l)
 
 -- with as many columns as bytes it has no pair
 pub line-plain : (n : ℕ) (l : List ℕ) → n ≡ textWidth l → IsPlain (eqb n (length l)) l

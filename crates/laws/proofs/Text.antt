@@ -5,6 +5,7 @@ use mathlib.Core.List.{List, [], _∷_, _++_}
 use mathlib.Core.Bool.{Bool, true, false, not}
 use native.Mathlib.Omega.{arith}
 use lib.ListN.{length, getD, take, drop, length-append, take-append-drop}
+use lib.Seq.{slice, take-length}
 use Rattle.rules.specs.Text.{keep, isSecond, charactersIn, textWidth, bytesOf, firstOf, restOf, blank}
 use Rattle.rules.specs.Limits.{Plain}
 use Rattle.laws.proofs.Lists.{keep-append}
@@ -37,6 +38,10 @@ width-cons b l h = rw (h, keep)
 pub width-blank : (n : ℕ) → textWidth (blank n) ≡ n
 width-blank zero = width-nil
 width-blank (suc n) = width-cons 32 (blank n) refl ∙ ap suc (width-blank n)
+
+-- a text measured as a whole
+pub width-whole : (n : ℕ) (l : List ℕ) → n ≡ textWidth (slice 0 (length l) l) → n ≡ textWidth l
+width-whole n l e = e ∙ ap textWidth (take-length l)
 
 -- no text takes more columns than it has bytes
 pub width-le : (l : List ℕ) → textWidth l ≤ length l

@@ -4,13 +4,13 @@ use mathlib.Core.Path.{_≡_, refl, ap, sym, subst, _∙_}
 use mathlib.Core.List.{List, [], _∷_, _++_, map, append-assoc}
 use native.Mathlib.Omega.{arith}
 use lib.ListN.{length, getD, take, drop}
-use lib.Seq.{slice, take-all}
+use lib.Seq.{slice}
 use Rattle.rules.specs.Text.{flat, textWidth}
 use Rattle.rules.specs.Sheet.{mostColumns}
 use Rattle.rules.specs.Widths.{lifted}
 use Rattle.rules.specs.CellLines.{InColumn, inColumn, linesOfCells, linesOfRows}
 use Rattle.rules.specs.Places.{byteAt, past, parts, textAt, lineStop, cellStop, rowStop}
-use Rattle.laws.proofs.Text.{width-le}
+use Rattle.laws.proofs.Text.{width-whole, width-le}
 use Rattle.laws.proofs.CellLines.{rows-append}
 use Rattle.laws.proofs.Stands.{Onward, past-onward, cell-stop, row-stop, cell-onward, row-onward, lines-onward, cells-onward, rows-onward}
 use Rattle.table.specs.Step.{linesAt, cellsAt, rowsAt, sectionStop, inSections, inRows, inCells, ahead, aheadEnd, Ready, SameAhead, HeadIs, Takes, AllNarrow}
@@ -19,6 +19,7 @@ use Rattle.table.specs.declared.step.Stand.{Stand}
 use Rattle.table.specs.declared.step.Taken.{Taken}
 use Rattle.table.specs.declared.step.Head.{Head}
 use Rattle.table.specs.declared.step.Head.the-variants.{To, Nothing}
+use Rattle.table.proofs.Walks.{other-past}
 
 -- ---- what is left goes on from where it stands
 
@@ -42,12 +43,6 @@ module _ (s : List ℕ) where
   unfolding aheadEnd
   ahead-end p c =
       omega (arith, past-onward (c .lines) (lineStop s) p (lines-onward s), cells-end (c .cells) (c .rows) (c .sections) (past (c .lines) (lineStop s) p))
-
-  -- the first of some parts, and the others
-  past-first : (n : ℕ) (stop : ℕ → ℕ) (p : ℕ) → 0 < n → past n stop p ≡ past (n - 1) stop (stop p)
-  unfolding past
-  past-first zero stop p h = absurd (omega arith)
-  past-first (suc n) stop p h = let z : suc n - 1 ≡ n = omega arith in rw z
 
   -- ---- a section's head, a row's, a cell's, and a line
 
@@ -104,7 +99,7 @@ module _ (s : List ℕ) (p : ℕ) (c : Left) (ready : Ready s p c) where
   unfolding aheadEnd past
   cell-room l h =
       let e : aheadEnd s p c ≤ length s = ready .inside in
-      let f = rw (l, past-first s (c .cells) (cellStop s) p h) at e in
+      let f = rw (l, sym (other-past (c .cells) (cellStop s) p h)) at e in
       omega (arith, cell-onward s p, cells-end s (c .cells - 1) (c .rows) (c .sections) (cellStop s p), f)
 
   pub cell-headed : (n : ℕ) → c .lines ≡ 0 → 0 < c .cells → n ≡ byteAt s (p + 2) → SameAhead s p c (record {
@@ -116,7 +111,7 @@ module _ (s : List ℕ) (p : ℕ) (c : Left) (ready : Ready s p c) where
       let z : c .begun + 1 - 1 ≡ c .begun = omega arith in
       record {
         same = rw (l, e, z) (cells-first s (c .begun) (c .cells) (c .rows) (c .sections) p h);
-        ends = rw (l, e, past-first s (c .cells) (cellStop s) p h, cell-stop s p);
+        ends = rw (l, e, sym (other-past (c .cells) (cellStop s) p h), cell-stop s p);
         counted = record { few = omega (arith, ready .counted .few); started = λ i. omega arith };
       }
 
@@ -125,7 +120,7 @@ module _ (s : List ℕ) (p : ℕ) (c : Left) (ready : Ready s p c) where
   unfolding aheadEnd past
   row-room l k h =
       let e : aheadEnd s p c ≤ length s = ready .inside in
-      let f = rw (l, k, past-first s (c .rows) (rowStop s) p h) at e in
+      let f = rw (l, k, sym (other-past (c .rows) (rowStop s) p h)) at e in
       omega (arith, row-onward s p, rows-end s (c .rows - 1) (c .sections) (rowStop s p), f)
 
   pub row-headed : (n : ℕ) → c .lines ≡ 0 → c .cells ≡ 0 → 0 < c .rows → n ≡ byteAt s (p + 1) → n < 256 → SameAhead s p c (record {
@@ -135,7 +130,7 @@ module _ (s : List ℕ) (p : ℕ) (c : Left) (ready : Ready s p c) where
   unfolding ahead aheadEnd inCells parts past linesOfCells
   row-headed n l k h e f = record {
     same = rw (l, k, e) (rows-first s (c .rows) (c .sections) p h);
-    ends = rw (l, k, e, past-first s (c .rows) (rowStop s) p h, row-stop s p);
+    ends = rw (l, k, e, sym (other-past (c .rows) (rowStop s) p h), row-stop s p);
     counted = record { few = omega arith; started = λ i. omega arith };
   }
 
@@ -144,7 +139,7 @@ module _ (s : List ℕ) (p : ℕ) (c : Left) (ready : Ready s p c) where
   unfolding aheadEnd past
   section-room l k m h =
       let e : aheadEnd s p c ≤ length s = ready .inside in
-      let f = rw (l, k, m, past-first s (c .sections) (sectionStop s) p h) at e in
+      let f = rw (l, k, m, sym (other-past (c .sections) (sectionStop s) p h)) at e in
       omega (arith, section-onward s p, past-onward (c .sections - 1) (sectionStop s) (sectionStop s p) (sections-onward s), f)
 
   pub section-headed : (n : ℕ) → c .lines ≡ 0 → c .cells ≡ 0 → c .rows ≡ 0 → 0 < c .sections → n ≡ byteAt s p → SameAhead s p c (record {
@@ -154,7 +149,7 @@ module _ (s : List ℕ) (p : ℕ) (c : Left) (ready : Ready s p c) where
   unfolding ahead aheadEnd inCells inRows parts past linesOfCells flat sectionStop
   section-headed n l k m h e = record {
     same = rw (l, k, m, e) (sections-first s (c .sections) p h);
-    ends = rw (l, k, m, e, past-first s (c .sections) (sectionStop s) p h);
+    ends = rw (l, k, m, e, sym (other-past (c .sections) (sectionStop s) p h));
     counted = record { few = omega arith; started = λ i. omega arith };
   }
 
@@ -163,7 +158,7 @@ module _ (s : List ℕ) (p : ℕ) (c : Left) (ready : Ready s p c) where
   unfolding aheadEnd
   line-room h =
       let e : aheadEnd s p c ≤ length s = ready .inside in
-      let f = rw (past-first s (c .lines) (lineStop s) p h) at e in
+      let f = rw (sym (other-past (c .lines) (lineStop s) p h)) at e in
       let q = past (c .lines - 1) (lineStop s) (lineStop s p) in
       omega (arith, past-onward (c .lines - 1) (lineStop s) (lineStop s p) (lines-onward s), cells-end s (c .cells) (c .rows) (c .sections) q, f)
 
@@ -187,7 +182,7 @@ module _ (s : List ℕ) (p : ℕ) (c : Left) (ready : Ready s p c) where
         onward = omega arith;
         ends = i;
         characters = k ∙ ap (λ l. max (getD before (c .begun - 1) 0) (lifted (textWidth l))) (line-lent s p n e);
-        inside = rw (i, past-first s (c .lines) (lineStop s) p h);
+        inside = rw (i, sym (other-past (c .lines) (lineStop s) p h));
         counted = record { few = ready .counted .few; started = λ j. ready .counted .started (omega arith) };
       }
 
@@ -198,9 +193,7 @@ pub line-shorter : (m : ℕ) (t : List ℕ) → max 1 (length t) ≤ m → m ≡
 line-shorter m t h = omega (arith, width-le t)
 
 pub line-counted : (t : List ℕ) (n : ℕ) → n ≡ textWidth (slice 0 (length t) t) → (n ≡ textWidth t) × (n ≤ length t)
-line-counted t n e =
-    let w : n ≡ textWidth t = e ∙ ap textWidth (take-all (length t) t (omega arith)) in
-    (w, omega (arith, w, width-le t))
+line-counted t n e = let w = width-whole n t e in (w, omega (arith, w, width-le t))
 
 -- ---- heads up to the next line
 

@@ -58,7 +58,7 @@ unfolding parts
 other-parts zero here stop p h = absurd (omega arith)
 other-parts (suc n) here stop p h = let z : suc n - 1 ≡ n = omega arith in rw z
 
-other-past : (n : ℕ) (stop : ℕ → ℕ) (p : ℕ) → 0 < n → past (n - 1) stop (stop p) ≡ past n stop p
+pub other-past : (n : ℕ) (stop : ℕ → ℕ) (p : ℕ) → 0 < n → past (n - 1) stop (stop p) ≡ past n stop p
 unfolding past
 other-past zero stop p h = absurd (omega arith)
 other-past (suc n) stop p h = let z : suc n - 1 ≡ n = omega arith in rw z
