@@ -2,3 +2,4 @@ pub mod Held
 pub mod Walk
 pub mod Step
 pub mod Pass
+pub mod Examples
