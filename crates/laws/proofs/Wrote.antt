@@ -9,12 +9,12 @@ use lib.Seq.{take-append-seam}
 use lib.Dec.{leb}
 use Rattle.rules.specs.Sheet.{Table}
 use Rattle.rules.specs.Page.{page}
-use Rattle.rules.specs.Calls.{put, printOf, printPage, over, notPrinted, Written}
+use Rattle.rules.specs.Calls.{putOr, put, printOf, printPage, over, notPrinted, Written}
 use Rattle.rules.specs.Words.{Accepted, wrote, Answered, Readable}
 use Rattle.rules.specs.Examples.{grid}
 
 put-wrote : (l b : List ℕ) → put l b .answer .number ≡ 0 → take (put l b .answer .written) (put l b .buffer) ≡ l
-unfolding put
+unfolding putOr
 put-wrote l b = go (leb (length l) (length b))
   where
     done : Bool → Written

@@ -16,7 +16,7 @@ use Rattle.rules.specs.Field.{Read, got, refused}
 use Rattle.rules.specs.Format.{sheet}
 use Rattle.rules.specs.Page.{closed, lineAt, lineCount, byteCount, page as pageOf, pageLines, wholeLines}
 use Rattle.rules.specs.Calls as calls
-use Rattle.rules.specs.Calls.{check, checkOf, count, countOf, put, notPrinted, printPage, printOf, printLine, printLineOf}
+use Rattle.rules.specs.Calls.{check, checkOf, count, countOf, putOr, put, notPrinted, printPage, printOf, printLine, printLineOf}
 use Rattle.laws.proofs.Counts.{line-count-bound}
 use Rattle.laws.proofs.Fitting.{fitting-few, fitting-none, fitting-more, fitting-stops, fitting-all}
 use Rattle.laws.proofs.Sizes.{closed-one, byte-count-closed}
@@ -127,13 +127,13 @@ module _ (s : List ℕ) (h : IsAccepted s) where
   wrote-all l b = record { answer = record { number = 0; place = 0; written = length l }; buffer = l ++ drop (length l) b }
 
   put-short : (l b : List ℕ) (n : ℕ) → n ≡ length l → length b < n → put l b ≡ notPrinted 20 n b
-  unfolding put
+  unfolding putOr
   put-short l b n e k = passed-over (leb (length l) (length b)) (wrote-all l b) (notPrinted 20 (length l) b)
       (le-false (length l) (length b) (omega arith)) ∙ ap (λ m. notPrinted 20 m b) (sym e)
 
   put-whole : (l b : List ℕ) (n : ℕ) → n ≡ length l → n ≤ length b → put l b ≡ record
       { answer = record { number = 0; place = 0; written = n }; buffer = over l b }
-  unfolding put over
+  unfolding putOr over
   put-whole l b n e k = chosen (leb (length l) (length b)) (wrote-all l b) (notPrinted 20 (length l) b) (le-true (length l) (length b) (omega arith)) ∙ ap
       (λ m. record { answer = record { number = 0; place = 0; written = m }; buffer = over l b }) (sym e)
 

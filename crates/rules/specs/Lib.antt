@@ -12,8 +12,12 @@ pub mod Widths
 pub mod CellLines
 pub mod Page
 pub mod Calls
+pub mod Editor
+pub mod Writer
+pub mod Saving
 pub mod Words
 pub mod Demand3
 pub mod Quote
 pub mod Opened
 pub mod Examples
+pub mod WriterExamples

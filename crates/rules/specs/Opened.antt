@@ -11,7 +11,7 @@ use Rattle.rules.specs.Widths.{fixAt, visit, pass, passes, aboveAverage,
 use Rattle.rules.specs.Widths.{shorterBy3, splitAtAverage, step1, step2, step3, share, shared, widened, step4, contents}
 use Rattle.rules.specs.Page.{area, visibleWidths, wrapped, cellLines, height, areaAt, areas, joinedMore, joined, lineOf, ruled, textLine}
 use Rattle.rules.specs.Page.{shown, headed, ruledMore, ruledRows, rowText, framed, pageLines, closed, page, lineAt, lineCount, byteCount}
-use Rattle.rules.specs.Calls.{countOf, count, put, printOf, printPage, printLineOf, printLine}
+use Rattle.rules.specs.Calls.{countOf, count, putOr, printOf, printPage, printLineOf, printLine}
 
 unfoldable texts : Unit {0}
 unfolding greatest sum upFrom keep flat charactersIn textWidth bytesOf firstOf restOf
@@ -46,7 +46,7 @@ unfolding framed pageLines closed page lineAt lineCount byteCount
 framing = tt
 
 unfoldable calls : Unit {0}
-unfolding countOf count put printOf printPage printLineOf printLine
+unfolding countOf count putOr printOf printPage printLineOf printLine
 calls = tt
 
 unfoldable pub rules : Unit {0}

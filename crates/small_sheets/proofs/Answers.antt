@@ -8,7 +8,7 @@ use lib.ListN.{length, getD}
 use borrow.Author.Tests.{lt-ltb, le-ltb, le-leb, lt-leb}
 use Rattle.rules.specs.Text.{flat}
 use Rattle.rules.specs.Format.{written}
-use Rattle.rules.specs.Calls.{put, over, notPrinted}
+use Rattle.rules.specs.Calls.{putOr, put, over, notPrinted}
 use Rattle.buffer.specs.Put as buffer
 use Rattle.small.specs.Listing.{sheets, writeSheet}
 use Rattle.small_sheets.specs.Parts.{cellBytes, headBytes, columnsBytes}
@@ -45,15 +45,15 @@ some-sheet n b c l h = rw (sheets-count, lt-ltb n 32736 l, writeSheet, sheet-is 
 
 pub sheet-short : (n : ℕ) (b : List ℕ) (c : Choice) (needed : ℕ) → n < 32736 → IsChoice n c → needed ≡ length (sheetIs c) → length b < needed
     → writeSheet n b ≡ notPrinted 20 needed b
-unfolding put
+unfolding putOr
 sheet-short n b c needed l h e k =
-    some-sheet n b c l h ∙ rw (lt-leb (length (sheetIs c)) (length b) (omega (arith, e, k)), put, e)
+    some-sheet n b c l h ∙ rw (lt-leb (length (sheetIs c)) (length b) (omega (arith, e, k)), putOr, e)
 
 pub sheet-whole : (n : ℕ) (b : List ℕ) (c : Choice) (needed : ℕ) → n < 32736 → IsChoice n c → needed ≡ length (sheetIs c) → needed ≤ length b
     → writeSheet n b ≡ record { answer = record { number = 0; place = 0; written = needed }; buffer = buffer.over (sheetIs c) b }
-unfolding put buffer.over
+unfolding putOr buffer.over
 sheet-whole n b c needed l h e k =
-    some-sheet n b c l h ∙ rw (le-leb (length (sheetIs c)) (length b) (omega (arith, e, k)), put, e)
+    some-sheet n b c l h ∙ rw (le-leb (length (sheetIs c)) (length b) (omega (arith, e, k)), putOr, e)
 
 -- every sheet fits 72 bytes
 pub sheet-fits : (n : ℕ) → n < 32736 → length (getD sheets n []) ≤ 72
@@ -64,6 +64,6 @@ pub sheet-printed : (n : ℕ) (b : List ℕ) → n < 32736 → 72 ≤ length b
       answer = record { number = 0; place = 0; written = length (getD sheets n []) };
       buffer = buffer.over (getD sheets n []) b;
     }
-unfolding writeSheet put buffer.over
+unfolding writeSheet putOr buffer.over
 sheet-printed n b l h =
-    rw (sheets-count, lt-ltb n 32736 l, writeSheet, le-leb (length (getD sheets n [])) (length b) (omega (arith, h, sheet-fits n l)), put)
+    rw (sheets-count, lt-ltb n 32736 l, writeSheet, le-leb (length (getD sheets n [])) (length b) (omega (arith, h, sheet-fits n l)), putOr)
