@@ -74,6 +74,12 @@ put-one d at v h =
     ap (λ (t : List ℕ). set t at v) (sym (put-nil d at))
     ∙ put-store d at [] v at (omega arith) h
 
+pub length-put : (d : List ℕ) (at : ℕ) (l : List ℕ) → at + length l ≤ length d → length (putAt d at l) ≡ length d
+length-put d at l h =
+    let front = length-append (take at d) l in
+    let taken = length-take-le at d (omega arith) in
+    ap length (put-over d at l (omega arith)) ∙ length-over (take at d ++ l) d (omega (arith, front, taken))
+
 -- writing from the start is a put at 0
 pub over-put-zero : (l d : List ℕ) → over l d ≡ putAt d 0 l
 unfolding over putAt

@@ -34,7 +34,7 @@ or-either false b e = inr e
 at-most : (low high v : ℕ) → between low high v ≡ true → v ≤ high
 at-most low high v e = between-both low high v e .1
 
-optional-either : (v : ℕ) → printableOrZero v ≡ true → Optional v
+pub optional-either : (v : ℕ) → printableOrZero v ≡ true → Optional v
 optional-either v e = go (or-either (eqb v 0) (printable v) e)
   where
     go : (eqb v 0 ≡ true) ⊎ (printable v ≡ true) → Optional v
@@ -45,7 +45,7 @@ optional-either v e = go (or-either (eqb v 0) (printable v) e)
 fixed-value : (u v : ℕ) → v ≤ cond (eqb u 0) 400 65535 → u ≡ 0 → v ≤ 400
 fixed-value u v h e = let i = eq-eqb u 0 e in rw i at h
 
-any-value : (u v : ℕ) → v ≤ cond (eqb u 0) 400 65535 → v ≤ 65535
+pub any-value : (u v : ℕ) → v ≤ cond (eqb u 0) 400 65535 → v ≤ 65535
 any-value u v h = go (eqb u 0) h
   where
     go : (b : Bool) → v ≤ cond b 400 65535 → v ≤ 65535

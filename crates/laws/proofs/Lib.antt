@@ -14,7 +14,10 @@ pub mod Reading
 pub mod Accepted
 pub mod CellLines
 pub mod Stands
+pub mod Judging
 pub mod Writing
+pub mod Editor
+pub mod Saved
 pub mod Plainly
 pub mod Settled
 pub mod Wrote

@@ -18,11 +18,6 @@ pub all-of : {A : Type 0} (P : A → Type 0) → ((x : A) → P x) → (xs : Lis
 all-of P h [] = tt
 all-of P h (x ∷ xs) = (h x, all-of P h xs)
 
--- from two properties
-pub all-both : {A : Type 0} (P Q R : A → Type 0) → ((x : A) → P x → Q x → R x) → (xs : List A) → All P xs → All Q xs → All R xs
-all-both P Q R f [] h k = tt
-all-both P Q R f (x ∷ xs) h k = (f x (h .0) (k .0), all-both P Q R f xs (h .1) (k .1))
-
 -- an entry that is there has it
 pub all-getD : {A : Type 0} (P : A → Type 0) (xs : List A) (i : ℕ) (d : A) → i < length xs → All P xs → P (getD xs i d)
 all-getD P [] i d k h = absurd (not-suc-le-zero k)

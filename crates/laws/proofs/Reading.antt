@@ -25,7 +25,11 @@ use Rattle.rules.specs.declared.Step.the-variants.{At, Refused}
 abbrev pub Number : ℕ → Type 0
 Number n = (1 ≤ n) × (n ≤ 9)
 
-fault-number : (f : Fault) → Number (numberOf f)
+-- a fault of a field's value 3 to 8
+abbrev pub FaultNumber : ℕ → Type 0
+FaultNumber n = (3 ≤ n) × (n ≤ 8)
+
+pub fault-number : (f : Fault) → FaultNumber (numberOf f)
 fault-number wrongEdition = (omega arith, omega arith)
 fault-number unknownCode = (omega arith, omega arith)
 fault-number beyondLimits = (omega arith, omega arith)
@@ -115,7 +119,7 @@ only-sound good fault x P s p (got v q) r = go (good v) refl
   where
     go : (b : Bool) → good v ≡ b → Sound (only good fault x) P s p (elim b as (λ z. Read ℕ) [ true ↦ got v q | false ↦ refused (numberOf fault) p ])
     go true e = record { value = r .value; end = r .end; onward = r .onward; inside = r .inside; kept = (e, r .kept); proper = r .proper }
-    go false e = fault-number fault
+    go false e = let n = fault-number fault in (omega (arith, n .0), omega (arith, n .1))
 only-sound good fault x P s p (refused n q) r = r
 
 -- ---- a text

@@ -2,7 +2,7 @@
 mod columns;
 mod field;
 mod rows;
-mod text;
+pub mod text;
 
 ghost use mathlib.Core.Path.{_≡_};
 ghost use Rattle.rules.specs.Field as fields;

@@ -176,7 +176,7 @@ pub fn text(sheet: &[u8], from: Step, most: u8) -> Step
 }
 
 // n bytes of a line from `start` on. Where all are printable, as nearly always, they are passed many at a time.
-fn line_bytes(sheet: &[u8], start: usize, n: u8, pairs: bool) -> Step
+pub fn line_bytes(sheet: &[u8], start: usize, n: u8, pairs: bool) -> Step
     requires { ⌜ start ≤ length (now sheet) ⌝ }
     ensures { λ r. ⌜ r ≡ bytesFrom pairs (now (sheet .entry)) (start + n) start ⌝ }
 {

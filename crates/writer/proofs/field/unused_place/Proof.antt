@@ -1,0 +1,13 @@
+-- `writer::field::unused_place` meets its contract. Assumes nothing.
+use borrow.Author.Needs.{needs}
+use Rattle.writer.proofs.Fields.{unused-next, unused-first}
+use Rattle.writer.proofs.field.unused_place.Statement.{statement}
+use Rattle.writer.proofs.field.unused_place.Tie as tie
+
+pub unused-place-spec : {M : Type 1} → statement M
+unused-place-spec =
+    tie.close
+    (tie.spec
+    (λ c κs. search needs)
+    (λ c. unused-next _ _ _ (c .before .if1 .taken) (c .further .ensures))
+    (λ c. unused-first _ _ (c .if1 .left)))
