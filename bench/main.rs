@@ -13,11 +13,14 @@ mod random;
 #[path = "../tools/differential/src/sheet.rs"]
 mod sheet;
 mod sheets;
+#[path = "../tools/differential/src/slices.rs"]
+mod slices;
 
 use std::hint::black_box;
 
 use archive::Calls;
 use sheets::{Kind, Named};
+use slices::{Slices, take_apart};
 
 /// Nanoseconds that a batch of calls takes at least.
 const BATCH: u64 = 4_000_000;
@@ -67,12 +70,29 @@ fn rust(sheet: &[u8]) -> usize {
     oracle::build(&table).lines().map(|line| line.len() + 1).sum()
 }
 
+/// An archive from before the writer has no such call: its rows leave it out.
+#[cfg(writer)]
+fn time_write(slices: &Slices, sheet: &[u8]) -> Option<f64> {
+    let mut buffer = vec![0; sheet.len()];
+    let mut write = || archive::write_sheet(black_box(&slices.numbers), black_box(&slices.text), &mut buffer);
+    assert!(write().number == 0, "the table is in order");
+    let time = time(write);
+    assert!(buffer == sheet, "another sheet than the one taken apart");
+    Some(time)
+}
+
+#[cfg(not(writer))]
+fn time_write(_: &Slices, _: &[u8]) -> Option<f64> {
+    None
+}
+
 struct Measured {
     name: String,
     sheet: usize,
     page: usize,
     lines: usize,
     check: f64,
+    write: Option<f64>,
     widths: f64,
     count: f64,
     print_page: f64,
@@ -94,6 +114,7 @@ fn measure(named: &Named) -> Measured {
         page: page.len(),
         lines: answer.lines,
         check: time(|| black_box(&calls).check()),
+        write: time_write(&take_apart(&named.sheet), &named.sheet),
         widths: time(|| black_box(&calls).widths()),
         count: time(|| black_box(&calls).count()),
         print_page: time(|| black_box(&calls).page(&mut page)),
@@ -108,12 +129,14 @@ fn print_head() {
         BATCH / 1_000_000
     );
     println!(
-        "{:18} {:>6} {:>8} {:>6} | {:>9} {:>7} | {:>9} | {:>9} | {:>10} {:>7} | {:>9} | {:>11} {:>7} | {:>6}",
+        "{:18} {:>6} {:>8} {:>6} | {:>9} {:>7} | {:>9} {:>7} | {:>9} | {:>9} | {:>10} {:>7} | {:>9} | {:>11} {:>7} | {:>6}",
         "sheet",
         "bytes",
         "page",
         "lines",
         "check",
+        "/byte",
+        "write",
         "/byte",
         "widths",
         "count",
@@ -126,17 +149,23 @@ fn print_head() {
     );
 }
 
-/// Check goes by bytes of the sheet, the others by bytes of the page.
+fn shown(value: Option<f64>, digits: usize) -> String {
+    value.map_or("-".to_string(), |value| format!("{value:.digits$}"))
+}
+
+/// Check and write go by bytes of the sheet, the others by bytes of the page.
 fn print_row(m: &Measured) {
     let per = |time: f64, bytes: usize| time / bytes as f64;
     println!(
-        "{:18} {:6} {:8} {:6} | {:9.0} {:7.2} | {:9.0} | {:9.0} | {:10.0} {:7.2} | {:9.0} | {:11.0} {:7.2} | {:6.1}",
+        "{:18} {:6} {:8} {:6} | {:9.0} {:7.2} | {:>9} {:>7} | {:9.0} | {:9.0} | {:10.0} {:7.2} | {:9.0} | {:11.0} {:7.2} | {:6.1}",
         m.name,
         m.sheet,
         m.page,
         m.lines,
         m.check,
         per(m.check, m.sheet),
+        shown(m.write, 0),
+        shown(m.write.map(|write| per(write, m.sheet)), 2),
         m.widths,
         m.count,
         m.print_page,
@@ -154,15 +183,18 @@ fn print_growth(rows: &[Measured]) {
     let grown = |time: fn(&Measured) -> f64| {
         time(last) / time(first) / ((last.sheet + last.page) as f64 / (first.sheet + first.page) as f64)
     };
+    let sheets = last.sheet as f64 / first.sheet as f64;
+    let write = last.write.zip(first.write).map(|(last, first)| last / first / sheets);
     println!(
-        "{:18} growth over that of sheet and page: check {:.2}, widths {:.2}, count {:.2}, print page {:.2}, mid line {:.2}, Rust {:.2}",
+        "{:18} growth over that of sheet and page: check {:.2}, widths {:.2}, count {:.2}, print page {:.2}, mid line {:.2}, Rust {:.2}; over that of the sheet: write {}",
         "",
         grown(|m| m.check),
         grown(|m| m.widths),
         grown(|m| m.count),
         grown(|m| m.print_page),
         grown(|m| m.print_line),
-        grown(|m| m.rust)
+        grown(|m| m.rust),
+        shown(write, 2)
     );
 }
 

@@ -1,12 +1,14 @@
 /* How deep each call goes into the stack: stack SHEET ..
  * The stack below the caller is painted, the call made, and the deepest byte looked for that lost its paint. A call
- * that stays within MARGIN bytes, which aren't painted, counts as MARGIN. */
+ * that stays within MARGIN bytes, which aren't painted, counts as MARGIN. Without WRITER the archive is one from before
+ * the writer. */
 #define _GNU_SOURCE
 #include <pthread.h>
 #include <stdio.h>
 #include <stdlib.h>
 #include <sys/mman.h>
 
+#include "apart.h"
 #include "cagwoni.h"
 
 enum { STACK = 1024 * 1024, MARGIN = 256, PAINT = 0xA5, LONGEST = 40000 };
@@ -15,6 +17,10 @@ struct sheet {
     uint8_t bytes[LONGEST];
     size_t length, lines, page_length;
     uint8_t *page;
+    /* The sheet taken apart, if it is accepted, and written back. */
+    uint16_t numbers[LONGEST];
+    uint8_t text[LONGEST], again[LONGEST];
+    struct slices slices;
 };
 
 static void check(struct sheet *s) { cagwoni_check(s->bytes, s->length); }
@@ -23,6 +29,12 @@ static void widths(struct sheet *s) { cagwoni_widths(s->bytes, s->length); }
 static void page(struct sheet *s) { cagwoni_print_page(s->bytes, s->length, s->page, s->page_length); }
 static void line(struct sheet *s) { cagwoni_print_line(s->bytes, s->length, s->lines / 2, s->page, s->page_length); }
 static void lines(struct sheet *s) { cagwoni_print_lines(s->bytes, s->length, s->lines / 2, s->page, s->page_length); }
+#ifdef WRITER
+static void save(struct sheet *s) {
+    const struct slices *t = &s->slices;
+    cagwoni_write_sheet(t->numbers, t->numbers_len, t->text, t->text_len, s->again, LONGEST);
+}
+#endif
 
 static struct {
     const char *name;
@@ -31,7 +43,11 @@ static struct {
     const char *where;
 } calls[] = {{"cagwoni_check", check, 0, ""},      {"cagwoni_count", count, 0, ""},
              {"cagwoni_widths", widths, 0, ""},    {"cagwoni_print_page", page, 0, ""},
-             {"cagwoni_print_line", line, 0, ""},  {"cagwoni_print_lines", lines, 0, ""}};
+             {"cagwoni_print_line", line, 0, ""},  {"cagwoni_print_lines", lines, 0, ""},
+#ifdef WRITER
+             {"cagwoni_write_sheet", save, 0, ""},
+#endif
+};
 
 enum { CALLS = sizeof calls / sizeof calls[0] };
 
@@ -67,6 +83,9 @@ static void load(struct sheet *sheet, const char *file) {
     sheet->page_length = (size_t)counted.bytes;
     free(sheet->page);
     sheet->page = malloc(sheet->page_length + 1);
+    sheet->slices = (struct slices){.numbers = sheet->numbers, .text = sheet->text};
+    if (counted.number == 0)
+        take_apart(sheet->bytes, &sheet->slices);
 }
 
 static void *measure(void *unused) {

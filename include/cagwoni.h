@@ -1,15 +1,19 @@
-/* Cagwoni: a sheet becomes a page of printable ASCII and degree signs, or is refused with a number and a place.
+/* Cagwoni: a sheet becomes a page of printable ASCII and degree signs, or is refused with a number and a place. And an
+ * editor's table becomes a sheet, or is refused likewise.
  *
  * A sheet is `sheet_len` bytes from `sheet` on (docs/FORMAT.md says what they mean); a page buffer is `page_len` bytes
- * from `page` on. A pointer may be null if its length is 0. No call reads a byte outside the sheet, or reads or writes
- * one outside the buffer. No call keeps a pointer, allocates, or has state of its own: calls may run in several threads
- * at once. Every call returns, whatever the bytes, lengths and positions are.
+ * from `page` on. `cagwoni_write_sheet` has no sheet to read: it reads a table, which is `numbers_len` numbers from
+ * `numbers` on and `text_len` bytes from `text` on, and its buffer is `sheet_len` bytes from `sheet` on. A pointer may
+ * be null if its length is 0; `numbers` is aligned as C aligns a uint16_t. No call reads outside its sheet or table, or
+ * reads or writes outside its buffer. No call keeps a pointer, allocates, or has state of its own: calls may run in
+ * several threads at once. Every call returns, whatever the bytes, numbers, lengths and positions are.
  *
  * The host sees to two things, on which all of this rests:
- *   - Sheet and buffer don't overlap.
- *   - While a call runs, nobody writes the sheet, and nobody reads or writes the buffer: no other thread, interrupt,
- *     signal handler or device. Several calls may read one sheet at once; each has a buffer of its own.
- * A call goes through the sheet more than once. If its bytes change in between, by an overlap or by somebody else,
+ *   - The buffer overlaps nothing that the call reads: not the sheet, or neither the numbers nor the text.
+ *   - While a call runs, nobody writes the sheet or the table, and nobody reads or writes the buffer: no other thread,
+ *     interrupt, signal handler or device. Several calls may read one sheet or table at once; each has a buffer of its
+ *     own.
+ * A call goes through its sheet or table more than once. If that changes in between, by an overlap or by somebody else,
  * nothing is promised any more: the call may write outside the buffer.
  *
  * A page is lines of characters, each closed by byte 0A. A character is a byte from 20 to 7E (hexadecimal) or the pair
@@ -19,12 +23,13 @@
  * lengths. Lines are counted from 0, and a line's bytes include its 0A.
  *
  * A refused call answers a number other than 0, a place and a written count of 0; its other counts and widths are 0,
- * no column is marked hidden, and the page buffer keeps every byte. Otherwise number and place are 0, and the bytes of
- * the buffer after the written count are untouched.
+ * no column is marked hidden, and the buffer keeps every byte. Otherwise number and place are 0, and the bytes of the
+ * buffer after the written count are untouched.
  *
- * From the input; every call gives these, and they come before 21 and 20. 2 is tested first, then fields left to
- * right, 1 before any other at a field, then 9. The place is the field's first byte unless said; each character is a
- * field of its own, and a pair in the text of a cell is one.
+ * From the input; every call that reads a sheet gives these, and they come before 21 and 20. 2 is tested first, then
+ * fields left to right, 1 before any other at a field, then 9. The place is the field's first byte unless said; each
+ * character is a field of its own, and a pair in the text of a cell is one. `cagwoni_write_sheet` gives 1 to 9 too, in
+ * another order, and says what they mean of a table.
  *   CAGWONI_ENDS_EARLY        1  sheet ends before a field is whole, an empty sheet included (place: its length)
  *   CAGWONI_TOO_LONG          2  sheet over 32,768 bytes (place 32,768)
  *   CAGWONI_EDITION           3  edition not 1
@@ -36,9 +41,10 @@
  *   CAGWONI_MORE_CELLS        7  more cells than columns (cell count at most 12)
  *   CAGWONI_UNUSED_NOT_ZERO   8  unused width byte not zero (place: that byte)
  *   CAGWONI_BYTES_AFTER       9  bytes after the last row (place: the first of them)
- * From the state of the call; 21 is tested before 20.
+ * From the state of the call; 21 is tested before 20. 22 comes from `cagwoni_write_sheet` alone.
  *   CAGWONI_BUFFER_SHORT     20  buffer shorter than the page or line (place: bytes needed)
  *   CAGWONI_PAST_END         21  position at or past the line count (place: that count)
+ *   CAGWONI_SHEET_NO_ROOM    22  buffer shorter than the sheet (place: bytes needed)
  *
  * A page can be far larger than its sheet: one of 142,653,555 bytes from a sheet of 32,424 was seen. `cagwoni_count`
  * gives the size, and the host compares it with what it has before it asks for a buffer. A buffer of a fixed size, at
@@ -91,7 +97,8 @@ enum {
     CAGWONI_UNUSED_NOT_ZERO = 8,
     CAGWONI_BYTES_AFTER = 9,
     CAGWONI_BUFFER_SHORT = 20,
-    CAGWONI_PAST_END = 21
+    CAGWONI_PAST_END = 21,
+    CAGWONI_SHEET_NO_ROOM = 22
 };
 
 enum {
@@ -111,7 +118,8 @@ enum {
     CAGWONI_COUNT_STACK = 8192,
     CAGWONI_PRINT_PAGE_STACK = 8192,
     CAGWONI_PRINT_LINE_STACK = 8192,
-    CAGWONI_PRINT_LINES_STACK = 8192
+    CAGWONI_PRINT_LINES_STACK = 8192,
+    CAGWONI_WRITE_SHEET_STACK = 1024
 };
 
 typedef struct {
@@ -137,8 +145,8 @@ typedef struct {
     uint64_t number, place, written, next;
 } cagwoni_printed_lines;
 
-/* Checks a sheet. It is accepted (number 0) when none of the numbers 1 to 9 applies to it; each call below refuses
- * the same sheets with the same number and place. */
+/* Checks a sheet. It is accepted (number 0) when none of the numbers 1 to 9 applies to it; each call below that reads
+ * a sheet refuses the same ones with the same number and place. */
 cagwoni_checked cagwoni_check(const uint8_t *sheet, size_t sheet_len);
 
 /* The page's line count and byte count, the closing bytes 0A included. */
@@ -164,6 +172,53 @@ cagwoni_printed cagwoni_print_line(const uint8_t *sheet, size_t sheet_len, size_
  * Refused, `next` is 0 too, and the buffer keeps every byte. */
 cagwoni_printed_lines cagwoni_print_lines(const uint8_t *sheet, size_t sheet_len, size_t line, uint8_t *page,
                                           size_t page_len);
+
+/* Writes the sheet of an editor's table. Reading what it wrote gives that table, and the table that is read from an
+ * accepted sheet is written as the same bytes.
+ *
+ * `numbers` has the table's numbers in the sheet's order, each 0 to 65,535, whether its field can hold it or not:
+ *   - edition, arrangement, target, delimiter;
+ *   - the indicator's length; the style's length;
+ *   - the column count, and nine for each column: left and right padding, delimiter, alignment, constraint, unit and
+ *     value of the first width, unit and value of the second;
+ *   - the header count, and its rows; the row count, and the rows. A row is its height limit, its cell count and its
+ *     cells; a cell is its delimiter, its alignment, its line count and each line's length.
+ * `text` has the bytes of the indicator, of the style and of each line, in that order, one after another. The trial
+ * desk's sheet:
+ *
+ *     static const uint16_t numbers[] = {
+ *         1, 1, 20, 0,                // edition, arrangement, target, delimiter
+ *         0, 22,                      // lengths of indicator and style
+ *         2,                          // columns
+ *         1, 1, 0, 0, 0, 0, 0, 0, 0,
+ *         1, 1, 0, 0, 0, 0, 0, 0, 0,
+ *         0,                          // headers
+ *         1,                          // rows
+ *         0, 2,                       // height limit, cells
+ *         0, 0, 1, 2,                 // delimiter, alignment, lines, length
+ *         0, 0, 1, 15,
+ *     };
+ *     static const uint8_t text[] = "+-++|||+=++|||+-+++-++" "ab" "the quick brown";
+ *     static uint8_t sheet[CAGWONI_LONGEST_SHEET];  // has room for any sheet
+ *     size_t numbers_len = sizeof numbers / sizeof *numbers, text_len = sizeof text - 1;
+ *     cagwoni_printed p = cagwoni_write_sheet(numbers, numbers_len, text, text_len, sheet, sizeof sheet);
+ *
+ * Number 0: the first `written` bytes of the buffer are the sheet, here 81, and those after them are untouched. Else
+ * the buffer keeps every byte, and the number is the first of these:
+ *   1      a number is missing, or bytes of a text. Both are taken from the left, and the first that is missing ends
+ *          it (place: how many numbers were taken; the length of a text that is missing is one of them)
+ *   9      numbers or bytes of text are left over (place: how many numbers were taken)
+ *   2      the table needs over 32,768 bytes, whether its fields are in order or not (place 32,768). Each number takes
+ *          one byte, a count or length over 255 too, but the target and the values of widths two; and there is the text
+ *   3 to 8 a field is at fault, the first from the left: the reader's number, as above, with the place that the field
+ *          would have in the sheet. A number that its field can't hold, such as 256, is an edition other than 1, an
+ *          unknown code, beyond its limits, or no character. An unused width gets 8 at its unit, or at the first byte
+ *          of its value that isn't 0, of which the low byte is the first
+ *   22     the table is in order, but `sheet_len` is below the sheet's length (place: that length)
+ *
+ * These print alike and are kept apart: delimiter 0 and a space, alignment 0 and 1, no header and one without cells. */
+cagwoni_printed cagwoni_write_sheet(const uint16_t *numbers, size_t numbers_len, const uint8_t *text, size_t text_len,
+                                    uint8_t *sheet, size_t sheet_len);
 
 #ifdef __cplusplus
 }

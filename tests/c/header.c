@@ -1,9 +1,11 @@
-/* What the header says beside the calls: layouts, the longest line, a large page, and every page by a fixed buffer. */
+/* What the header says beside the calls: layouts, the longest line, a large page, every page by a fixed buffer, and the
+ * desk's sheet written from its table. */
 #include <string.h>
 
 #include "cases.h"
 #include "check.h"
 #include "replay.h"
+#include "write.h"
 
 /* `longestLine` of crates/rules/specs/Limits.antt, which leaves the 0A aside. */
 _Static_assert(CAGWONI_LONGEST_LINE == CAGWONI_MOST_COLUMNS * 950 + 1, "the longest line is the one proved");
@@ -83,9 +85,35 @@ static void large_page(enum fence fence) {
     by_fixed_buffer(&e, fence);
 }
 
+/* As the header shows it. */
+static void written_desk(void) {
+    static const uint16_t numbers[] = {
+        1, 1, 20, 0,                // edition, arrangement, target, delimiter
+        0, 22,                      // lengths of indicator and style
+        2,                          // columns
+        1, 1, 0, 0, 0, 0, 0, 0, 0,
+        1, 1, 0, 0, 0, 0, 0, 0, 0,
+        0,                          // headers
+        1,                          // rows
+        0, 2,                       // height limit, cells
+        0, 0, 1, 2,                 // delimiter, alignment, lines, length
+        0, 0, 1, 15,
+    };
+    static const uint8_t text[] = "+-++|||+=++|||+-+++-++" "ab" "the quick brown";
+    static uint8_t sheet[CAGWONI_LONGEST_SHEET];  // has room for any sheet
+    size_t numbers_len = sizeof numbers / sizeof *numbers, text_len = sizeof text - 1;
+    cagwoni_printed p = cagwoni_write_sheet(numbers, numbers_len, text, text_len, sheet, sizeof sheet);
+    about_call("cagwoni_write_sheet", 0);
+    CHECK(p.number == 0 && p.place == 0 && p.written == sizeof desk_sheet);
+    CHECK(memcmp(sheet, desk_sheet, sizeof desk_sheet) == 0);
+    CHECK(numbers_len == 37 && memcmp(numbers, desk_numbers, sizeof numbers) == 0);
+    CHECK(text_len == 39 && memcmp(text, desk_text, text_len) == 0);
+}
+
 void header_cases(enum fence fence) {
     about_sheet("header", 0);
     layouts();
+    written_desk();
     if (fence == FENCE_ENDS)
         large_page(fence);
 }

@@ -4,6 +4,7 @@
 #include <string.h>
 
 #include "check.h"
+#include "write.h"
 
 /* A page's line: where it starts and how many bytes it has. */
 struct span {
@@ -263,6 +264,8 @@ static void every_call(const struct expected *e, enum fence fence) {
     lines_in_turn(e, lines, fence);
     lines_exactly(e, lines, fence);
     by_fixed_buffer(e, fence);
+    if (e->number == 0)
+        write_back(e->sheet, e->sheet_len, fence);
 }
 
 void replay(const struct expected *expected, enum fence fence) {

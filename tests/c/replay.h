@@ -1,4 +1,4 @@
-/* One sheet through every call. */
+/* One sheet through every call; an accepted one is also written back. */
 #ifndef REPLAY_H
 #define REPLAY_H
 

@@ -49,7 +49,7 @@ class Usage(DeskTest):
 
     def test_more_bad_usage(self):
         for words in [["tools/differential/run", "print", "--by-readin"], ["tools/differential/run", "--rust"],
-                      ["tools/differential/run"], ["bench/run", "--rust"], ["bench/run", "a", "b"],
+                      ["tools/differential/run"], ["tools/differential/run", "write", "--most"], ["bench/run", "--rust"], ["bench/run", "a", "b"],
                       ["tests/c/run", "a", "b"], ["tests/sheets/run", "nothing"], [".ci/run", "fast"]]:
             with self.subTest(words=words):
                 done = self.run_in(ROOT, *words)
@@ -58,12 +58,13 @@ class Usage(DeskTest):
 
     def test_sheets(self):
         for words, said in [
-            ([], "a command is wanted, one of make, text, print, explain, build, check, all, pages, replay"),
+            ([], "a command is wanted, one of make, text, print, explain, build, check, all, pages, replay, rewrite"),
             (["prin", "a"], "a command is wanted, one of make, text, "),
             (["print"], "print takes FILE;"),
             (["print", "a", "b"], "print takes FILE;"),
             (["check", "a"], "check takes no further word;"),
             (["replay"], "replay takes COMMAND ..;"),
+            (["rewrite", "a"], "rewrite takes no further word;"),
         ]:
             done = self.sheets(*words, root=ROOT)
             self.assertEqual((done.returncode, done.stdout), (2, b""))

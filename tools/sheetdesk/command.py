@@ -13,11 +13,12 @@ For the stored trial sheets in sheets/:
   sheets all DIRECTORY    writes every sheet and page there, long sheets too
   sheets pages COMMAND    runs COMMAND on each sheet and writes what it prints as sheets/NAME.page
   sheets replay COMMAND   runs COMMAND on each sheet and compares what it prints with sheets/NAME.page
+  sheets rewrite          has the library write each accepted sheet anew from its table, and compares
 
 print and explain take a sheet or a text form: NAME.txt is a text form, NAME.sheet a sheet, and any other file is a
-text form if its first byte is printable or white space. They ask the proved library, which `rt staticlib gateway`
-writes, and need gcc to link it. Columns, rows, cells, lines and characters are counted from 1; a place in a sheet, as
-in `refused 5 at 30`, is a byte counted from 0.
+text form if its first byte is printable or white space. They and rewrite ask the proved library, which `rt staticlib
+gateway` writes, and need gcc to link it. Columns, rows, cells, lines and characters are counted from 1; a place in a
+sheet, as in `refused 5 at 30`, is a byte counted from 0.
 
 A sheet of over 4,096 bytes isn't stored; build and check leave it out. COMMAND reads a sheet on standard input and
 writes the page, or `refused N at P`. sheets/README.md says what a text form is. Needs Python 3.8 or later.
@@ -88,6 +89,7 @@ COMMANDS = {
     "all": ("DIRECTORY", lambda name: folder.write_all(Path(name))),
     "pages": ("COMMAND ..", lambda *command: folder.pages(command)),
     "replay": ("COMMAND ..", lambda *command: folder.replay(command)),
+    "rewrite": ("", folder.rewrite),
 }
 
 

@@ -134,6 +134,22 @@ def read(sheet):
     return reader.table(), reader.at
 
 
+def apart(table):
+    """A table as an editor gives it to the library: numbers and text, in the sheet's order."""
+    numbers = [*table[:4], len(table.indicator), len(table.style), len(table.columns)]
+    texts = [table.indicator, table.style]
+    for column in table.columns:
+        numbers += [*column[:5], *column.widths[0], *column.widths[1]]
+    for rows in [table.header, table.rows]:
+        numbers.append(len(rows))
+        for row in rows:
+            numbers += [row.height, len(row.cells)]
+            for cell in row.cells:
+                numbers += [cell.delimiter, cell.alignment, len(cell.lines), *map(len, cell.lines)]
+                texts += cell.lines
+    return numbers, b"".join(texts)
+
+
 def field_at(sheet, place):
     """The field that holds the byte at this place, or None after the last row."""
     reader = Reader(sheet)

@@ -80,6 +80,15 @@ class Library:
     def widths(self, sheet):
         return self.calls.cagwoni_widths(sheet, len(sheet))
 
+    def written(self, numbers, text, size):
+        """The call's answer for an editor's table, and what a buffer of so many bytes, all FF, then holds."""
+        call, length = self.calls.cagwoni_write_sheet, ctypes.c_size_t
+        call.argtypes = [ctypes.c_void_p, length, ctypes.c_char_p, length, ctypes.c_void_p, length]
+        call.restype = Printed
+        words, buffer = (ctypes.c_uint16 * len(numbers))(*numbers), (ctypes.c_ubyte * size)(*[255] * size)
+        answer = call(words, len(numbers), text, len(text), buffer, size)
+        return (answer.number, answer.place, answer.written), bytes(buffer)
+
     def page(self, sheet):
         """The page of an accepted sheet."""
         size = self.count(sheet).bytes

@@ -2,6 +2,7 @@
 // None has a `requires`: whatever the host passes, the call answers.
 ghost use mathlib.Core.Path.{_≡_};
 ghost use Rattle.rules.specs.Calls as calls;
+ghost use Rattle.rules.specs.Writer.{writeSheet};
 ghost use Rattle.page.specs.Several.{printLines};
 use page::PrintedLines;
 use rules::Checked;
@@ -52,4 +53,12 @@ pub extern "C" fn cagwoni_print_lines(sheet: &[u8], line: usize, page: &mut [u8]
     ensures { λ _. ⌜ now (page .exit) ≡ printLines (now (sheet .entry)) line (now (page .entry)) .buffer ⌝ }
 {
     page::print_lines(sheet, line, page)
+}
+
+#[no_mangle]
+pub extern "C" fn cagwoni_write_sheet(numbers: &[u16], text: &[u8], sheet: &mut [u8]) -> Printed
+    ensures { λ r. ⌜ r ≡ writeSheet (now (numbers .entry)) (now (text .entry)) (now (sheet .entry)) .answer ⌝ }
+    ensures { λ _. ⌜ now (sheet .exit) ≡ writeSheet (now (numbers .entry)) (now (text .entry)) (now (sheet .entry)) .buffer ⌝ }
+{
+    writer::write_sheet(numbers, text, sheet)
 }

@@ -25,10 +25,11 @@ use Rattle.laws.proofs.Accepted.{line-whole}
 use Rattle.laws.proofs.Judging.{table-tests, judged-inside, judged-number, table-narrow, judged-bytes}
 use Rattle.buffer.specs.Put.{putAt, over}
 use Rattle.buffer.proofs.Laws.{over-put-zero}
-use Rattle.writer.specs.declared.walk.Walk.{Walk}
+use Rattle.editor.specs.declared.walk.Walk.{Walk}
 use Rattle.writer.specs.declared.Decided.{Decided}
-use Rattle.writer.specs.Walk.{cap, State, state, cursorOf, faultOf, placeOf, firstPlace, low, walked, begun, fitting, decided}
-use Rattle.writer.proofs.Entering.{cap-under}
+use Rattle.editor.specs.Walk.{cap, State, state, cursorOf, faultOf, placeOf, firstPlace, low, walked}
+use Rattle.writer.specs.Answer.{begun, fitting, decided}
+use Rattle.editor.proofs.Entering.{cap-under}
 use Rattle.writer.proofs.Whole.{Enters, Exact, walked-cursor, enters}
 
 -- ---- by the first run

@@ -8,6 +8,7 @@ use lib.ListN.{length}
 use lib.Dec.{leb, eqb}
 use borrow.Author.Tests.{leb-true}
 use Rattle.rules.specs.Sheet.{mostColumns}
+use Rattle.rules.specs.Style.{styleCharacters}
 use Rattle.rules.specs.Field.{between, printable, printableOrZero}
 use Rattle.rules.specs.Description.{Format, byte, word, only, zeroWord, text, cellText, listed, give, next, writes}
 use Rattle.rules.specs.Description.{within, code, wordTo, optional, counted, unknownCode, beyondLimits, badCharacter, notZero, wrongEdition}
@@ -17,11 +18,11 @@ use Rattle.rules.specs.Writer.{judges}
 use Rattle.rules.specs.declared.Step.{Step}
 use Rattle.buffer.specs.Put.{putAt}
 use Rattle.buffer.proofs.Laws.{length-put}
-use Rattle.writer.specs.declared.walk.Walk.{Walk}
-use Rattle.writer.specs.Walk.{cursorOf, moved, State, state, noted, advanced, stamped, low, entered, fieldEntered, byteEntered, again, valueAt, walked}
-use Rattle.writer.specs.Walk.{constraintWalked, headWalked, bodyWalked}
-use Rattle.writer.proofs.Entering.{missing-entered}
-use Rattle.writer.proofs.Fields.{byte-walked}
+use Rattle.editor.specs.declared.walk.Walk.{Walk}
+use Rattle.editor.specs.Walk.{cursorOf, moved, State, state, noted, advanced, stamped, low, entered, fieldEntered, byteEntered, again, valueAt, walked}
+use Rattle.writer.specs.Answer.{constraintWalked, headWalked, bodyWalked}
+use Rattle.editor.proofs.Entering.{missing-entered}
+use Rattle.editor.proofs.Fields.{byte-walked}
 
 -- ---- once something was missing
 
@@ -264,13 +265,13 @@ module _ (ns ts : List ℕ) where
 
   pub head-walked : (s t u v w x y : State) → t ≡ byteEntered (between 1 1) 3 ns s → u ≡ byteEntered (between 0 2) 4 ns t
       → v ≡ walked (wordTo 400) ns [] u → w ≡ byteEntered printableOrZero 6 ns v → x ≡ walked (text 0 8 printable) ns ts w
-      → y ≡ walked (text 22 22 printableOrZero) ns ts x → y ≡ headWalked ns ts s
+      → y ≡ walked (text styleCharacters styleCharacters printableOrZero) ns ts x → y ≡ headWalked ns ts s
   unfolding headWalked walked takes fieldEntered
   head-walked s t u v w x y e f g h i j =
       let t′ = e ∙ byte-walked (between 1 1) wrongEdition ns ts s in
       let u′ = f ∙ byte-walked (between 0 2) unknownCode ns ts t in
       let w′ = h ∙ byte-walked printableOrZero badCharacter ns ts v in
-      j ∙ ap (λ z. walked (text 22 22 printableOrZero) ns ts z) (i ∙ ap (λ z. walked (text 0 8 printable) ns ts z)
+      j ∙ ap (λ z. walked (text styleCharacters styleCharacters printableOrZero) ns ts z) (i ∙ ap (λ z. walked (text 0 8 printable) ns ts z)
       (w′ ∙ ap (λ z. walked optional ns ts z) (g ∙ ap (λ z. walked (wordTo 400) ns ts z) (u′ ∙ ap (λ z. walked (code 2) ns ts z) t′))))
 
   pub head-length : (w r : Walk) (d e : List ℕ) → state r e ≡ headWalked ns ts (state w d) → length e ≡ length d
@@ -281,7 +282,7 @@ module _ (ns ts : List ℕ) where
       let target = walked (wordTo 400) ns ts arrangement in
       let delimiter = walked optional ns ts target in
       ap (λ (s : State). length (s .sheet)) f
-      ∙ walked-length (text 22 22 printableOrZero) ns ts (walked (text 0 8 printable) ns ts delimiter) ∙ walked-length (text 0 8 printable) ns ts delimiter
+      ∙ walked-length (text styleCharacters styleCharacters printableOrZero) ns ts (walked (text 0 8 printable) ns ts delimiter) ∙ walked-length (text 0 8 printable) ns ts delimiter
       ∙ walked-length optional ns ts target ∙ walked-length (wordTo 400) ns ts arrangement ∙ walked-length (code 2) ns ts edition
       ∙ walked-length (only (between 1 1) wrongEdition byte) ns ts (state w d)
 

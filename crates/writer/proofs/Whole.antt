@@ -14,11 +14,11 @@ use Rattle.rules.specs.declared.Step.the-variants.{At, Refused}
 use Rattle.buffer.specs.Put.{putAt}
 use Rattle.buffer.proofs.Laws.{put-nil, put-put, length-put}
 use Rattle.laws.proofs.Judging.{judged-ends, judged-number}
-use Rattle.writer.specs.declared.walk.Walk.{Walk}
-use Rattle.writer.specs.Walk.{cap, cursorOf, moved, State, state, faultOf, firstPlace, placeOf, noted, advanced, stamped, low, entered}
-use Rattle.writer.specs.Walk.{fieldEntered, again, valueAt, walked}
-use Rattle.writer.proofs.Entering.{stamped-all}
-use Rattle.writer.proofs.Texts.{length-low}
+use Rattle.editor.specs.declared.walk.Walk.{Walk}
+use Rattle.editor.specs.Walk.{cap, cursorOf, moved, State, state, faultOf, firstPlace, placeOf, noted, advanced, stamped, low, entered}
+use Rattle.editor.specs.Walk.{fieldEntered, again, valueAt, walked}
+use Rattle.editor.proofs.Entering.{stamped-all}
+use Rattle.editor.proofs.Texts.{length-low}
 use Rattle.writer.proofs.Walks.{several-stays, takes-stays, several-count}
 
 -- ---- the cursor goes as the slices are taken

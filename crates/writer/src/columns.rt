@@ -6,12 +6,13 @@ ghost use lib.Dec.{eqb};
 ghost use Rattle.rules.specs.Sheet.{mostColumns};
 ghost use Rattle.rules.specs.Description as description;
 ghost use Rattle.rules.specs.Format as format;
-ghost use Rattle.rules.specs.Editor as editor;
-ghost use Rattle.writer.specs.Walk as definition;
-use super::field;
-use super::field::Field;
-use super::walk;
-use super::walk::Walk;
+ghost use Rattle.rules.specs.Editor as slices;
+ghost use Rattle.editor.specs.Walk as definition;
+ghost use Rattle.writer.specs.Answer as answer;
+use editor::field;
+use editor::field::Field;
+use editor::walk;
+use editor::walk::Walk;
 
 // Fixed is 0 to 400, percent any value.
 fn most_of(unit: u16) -> u16
@@ -39,7 +40,7 @@ fn width(numbers: &[u16], sheet: &mut [u8], from: Walk, used: bool) -> Walk
 
 // A constraint's code says which of the two widths behind it are used.
 fn constraint(numbers: &[u16], sheet: &mut [u8], from: Walk) -> Walk
-    ensures { λ r. ⌜ definition.state r (now (sheet .exit)) ≡ definition.constraintWalked (now (numbers .entry)) (definition.state from (now (sheet .entry))) ⌝ }
+    ensures { λ r. ⌜ definition.state r (now (sheet .exit)) ≡ answer.constraintWalked (now (numbers .entry)) (definition.state from (now (sheet .entry))) ⌝ }
 {
     let code = field::byte_between(numbers, sheet, from, 0, 6, 4);
     let kind = code.value;
@@ -61,7 +62,7 @@ fn column(numbers: &[u16], sheet: &mut [u8], from: Walk) -> Walk
 // The columns, with their count: rows are held to it.
 pub fn columns(numbers: &[u16], sheet: &mut [u8], from: Walk) -> Field
     ensures { λ r. ⌜ definition.state (r .walk) (now (sheet .exit)) ≡ definition.walked (description.counted 0 mostColumns format.column) (now (numbers .entry)) [] (definition.state from (now (sheet .entry))) ⌝ }
-    ensures { λ r. ⌜ r .value ≡ editor.numberAt (now (numbers .entry)) (definition.cursorOf from) .value ⌝ }
+    ensures { λ r. ⌜ r .value ≡ slices.numberAt (now (numbers .entry)) (definition.cursorOf from) .value ⌝ }
 {
     let count = field::byte_between(numbers, sheet, from, 0, field::MOST, 5);
     let n = count.value;

@@ -2,12 +2,12 @@
 ghost use mathlib.Core.Path.{_≡_};
 ghost use Rattle.rules.specs.Description as description;
 ghost use Rattle.rules.specs.Format as format;
-ghost use Rattle.writer.specs.Walk as definition;
-use super::field;
-use super::text;
-use super::text::Kind;
-use super::walk;
-use super::walk::Walk;
+ghost use Rattle.editor.specs.Walk as definition;
+use editor::field;
+use editor::text;
+use editor::text::Kind;
+use editor::walk;
+use editor::walk::Walk;
 
 // A cell's lines.
 fn lines(numbers: &[u16], text: &[u8], sheet: &mut [u8], from: Walk) -> Walk

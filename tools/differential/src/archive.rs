@@ -57,6 +57,21 @@ unsafe extern "C" {
         page: *mut u8,
         page_len: usize,
     ) -> PrintedLines;
+    fn cagwoni_write_sheet(
+        numbers: *const u16,
+        numbers_len: usize,
+        text: *const u8,
+        text_len: usize,
+        sheet: *mut u8,
+        sheet_len: usize,
+    ) -> Printed;
+}
+
+/// Writes the table that the editor's numbers and text describe.
+pub fn write_sheet(numbers: &[u16], text: &[u8], sheet: &mut [u8]) -> Printed {
+    let (lengths, buffer) = ((numbers.len(), text.len(), sheet.len()), sheet.as_mut_ptr());
+    // Safety: as that of the calls below.
+    unsafe { cagwoni_write_sheet(numbers.as_ptr(), lengths.0, text.as_ptr(), lengths.1, buffer, lengths.2) }
 }
 
 /// The calls on one sheet.

@@ -2,11 +2,11 @@
 
 use std::panic::{AssertUnwindSafe, catch_unwind};
 
-use crate::marks::{RefusalSlip, Rule, Rules, Slip};
+use crate::marks::{RefusalSlip, Rule, Rules, Slip, WriterSlip};
 use crate::oracle::{self, Answer};
 use crate::reading::Reading;
 use crate::sheet::{self, SIGN, Table};
-use crate::{damage, generate, second};
+use crate::{damage, generate, second, writer};
 
 /// Widths come first: a mistaken width can make a page of any size.
 pub fn agrees(table: &Table, answer: &Answer, slip: Option<Slip>) -> (bool, Rules) {
@@ -120,8 +120,9 @@ pub fn damaged(seed: u64, count: u64) -> bool {
     tally.report(&format!("damaged sheets from seed {seed}"))
 }
 
-/// For each planted mistake the number of sheets until the first difference, accepted sheets for those
-/// of the page and damaged ones for those of the refusals. True if all were found.
+/// For each planted mistake the number of sheets until the first difference, accepted sheets for those of
+/// the page, damaged ones for those of the refusals, damaged tables for those of the writer. True if all
+/// were found.
 pub fn slips(seed: u64, most: u64) -> bool {
     let pages = sheets_until(Slip::ALL, most, |index, left| {
         let table = generate::table(seed, index);
@@ -133,13 +134,19 @@ pub fn slips(seed: u64, most: u64) -> bool {
         let refusal = sheet::decode(&sheet).err();
         left.retain(|slip| second::refusal_with(&sheet, Some(*slip)) == refusal);
     });
+    let writers = sheets_until(WriterSlip::ALL, most, |index, left| {
+        let (slices, room) = writer::damage::trial(seed, index);
+        let saved = writer::save(&slices, room);
+        left.retain(|slip| writer::second::save_with(&slices, room, Some(*slip)) == saved);
+    });
     let words = Slip::ALL.iter().map(|slip| slip.words()).chain(RefusalSlip::ALL.iter().map(|slip| slip.words()));
-    let found: Vec<Option<u64>> = pages.into_iter().chain(refusals).collect();
+    let words = words.chain(WriterSlip::ALL.iter().map(|slip| slip.words()));
+    let found: Vec<Option<u64>> = pages.into_iter().chain(refusals).chain(writers).collect();
     for (words, sheets) in words.zip(&found) {
         println!("{:>8} {words}", sheets.map_or("-".to_string(), |sheets| sheets.to_string()));
     }
     let count = found.iter().flatten().count();
-    println!("{count} of {} planted mistakes found within {most} sheets from seed {seed}", found.len());
+    println!("{count} of {} planted mistakes found within {most} sheets or tables from seed {seed}", found.len());
     count == found.len()
 }
 

@@ -1,9 +1,10 @@
-//! Document 01's trial desk sheet, its page, its other examples, and those of document 02's order 1.
+//! Document 01's trial desk sheet, its page, its other examples, and those of document 02's orders 1 and 4.
 
 use crate::compare::agrees;
 use crate::oracle;
 use crate::second;
 use crate::sheet::{Cell, Column, Refusal, Row, SIGN, STYLE_BYTES, Table, Width, decode, encode};
+use crate::writer;
 
 const PAGE: &[u8] = b"\
 +----+-------------+
@@ -214,7 +215,7 @@ fn pairs() -> Vec<(&'static str, bool)> {
 
 /// True if every example comes out.
 pub fn all_pass() -> bool {
-    let examples = [wrapping(), widths(), limits(), signs(), pairs()].concat();
+    let examples = [wrapping(), widths(), limits(), signs(), pairs(), writer::examples::all()].concat();
     for (words, _) in examples.iter().filter(|(_, passed)| !passed) {
         println!("example fails: {words}");
     }

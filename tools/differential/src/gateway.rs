@@ -2,18 +2,20 @@
 
 use std::ops::Range;
 
-use crate::archive::{Calls, Checked, Counted, Measured, Printed, PrintedLines};
+use crate::archive::{Calls, Checked, Counted, Measured, Printed, PrintedLines, write_sheet};
 use crate::compare::Tally;
 use crate::oracle::Answer;
 use crate::random::Random;
 use crate::record::{Record, answered};
 use crate::sheet::{MOST_COLUMNS, Refusal, encode};
+use crate::slices::Slices;
 use crate::{damage, generate, second};
 
 /// Bytes on either side of what is lent.
 const FENCE: usize = 64;
 
-/// A buffer whose bytes all differ from what a page can hold: C2 and B0 aren't among them.
+/// A buffer whose bytes all differ from what a page can hold: C2 and B0 aren't among them. A sheet can hold
+/// some of them, in numbers of two bytes and lengths.
 struct Buffer {
     bytes: Vec<u8>,
     /// What the bytes are between calls.
@@ -212,6 +214,28 @@ impl Trials {
     /// The first call on sheet number `index` that answers otherwise than the record says.
     pub fn difference(&mut self, index: u64, record: &Record) -> Option<&'static str> {
         difference(record, &mut Random::new(self.seed ^ 0x5EED, index), &mut self.buffer)
+    }
+}
+
+/// The call that writes a sheet, by one buffer.
+pub struct Writing {
+    buffer: Buffer,
+}
+
+impl Writing {
+    pub fn new() -> Self {
+        Writing { buffer: Buffer::new() }
+    }
+
+    /// Lends so much room. What the call answers, unless it answers so and every byte is as it should be.
+    pub fn difference(&mut self, slices: &Slices, room: usize, saved: &Result<Vec<u8>, Refusal>) -> Option<String> {
+        let (sheet, answer) = match saved {
+            Ok(sheet) => (&sheet[..], written(sheet.len())),
+            Err(refusal) => (&b""[..], refused(*refusal)),
+        };
+        let call = |sheet: &mut [u8]| write_sheet(&slices.numbers, &slices.text, sheet);
+        let same = self.buffer.holds(room, sheet, call, answer);
+        (!same).then(|| format!("the archive's call, {:?} or other bytes", call(&mut vec![0; room])))
     }
 }
 

@@ -19,7 +19,9 @@ mod sample;
 mod second;
 mod sheet;
 mod signs;
+mod slices;
 mod small;
+mod writer;
 
 use std::io::{self, Read, Write};
 use std::process::ExitCode;
@@ -39,6 +41,7 @@ fn main() -> ExitCode {
         Some("emit") => emit(&arguments),
         Some("gateway") => run_gateway(&arguments),
         Some("small") => run_small(),
+        Some("write") => run_write(&arguments),
         _ => Err(USAGE.to_string()),
     };
     match done {
@@ -122,6 +125,24 @@ fn run_small() -> Done {
 #[cfg(not(gateway))]
 fn run_small() -> Done {
     Ok(small::agrees(&input()?, None))
+}
+
+#[cfg(gateway)]
+fn run_write(arguments: &[String]) -> Done {
+    let (seed, count) = both(arguments, "--count")?;
+    let mut call = gateway::Writing::new();
+    Ok(writer::compare::agrees(
+        seed,
+        count,
+        damaged(arguments),
+        Some(&mut |slices, room, saved| call.difference(slices, room, saved)),
+    ))
+}
+
+#[cfg(not(gateway))]
+fn run_write(arguments: &[String]) -> Done {
+    let (seed, count) = both(arguments, "--count")?;
+    Ok(writer::compare::agrees(seed, count, damaged(arguments), None))
 }
 
 fn emit(arguments: &[String]) -> Done {

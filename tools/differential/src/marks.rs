@@ -102,6 +102,47 @@ listed! {
 }
 
 listed! {
+    /// A plausible mistake that the second reading of the writer makes on request.
+    WriterSlip {
+        LeftFirst "9 tested before 1"
+        TextLeft "text left over let pass"
+        NumbersLeft "numbers left over let pass"
+        ShortText "a text cut short taken as it is"
+        LengthNotTaken "the length of a missing text not counted in 1's place"
+        TextBytesTaken "bytes of text counted in 9's place"
+        LongLast "2 tested after the fields"
+        LongAtLimit "2 for exactly 32,768 bytes"
+        LongCountTwo "a count over 255 counted as two bytes of what is needed"
+        WordOne "a two-byte number counted as one byte of what is needed"
+        RoomFirst "22 tested before the fields"
+        RoomAtLimit "22 for a buffer that the sheet just fills"
+        RoomPlace "22 with the buffer's length as its place"
+        AfterIndicator "places one too high after the indicator"
+        PaddingsExchanged "left and right padding exchanged"
+        CellFieldsExchanged "a cell's delimiter and alignment exchanged"
+        PaddingUntested "a padding's limit left untested"
+        StyleUntested "the style's length left untested"
+        NoLineUntested "a cell without lines let pass"
+        LimitUntested "a height limit over 255 let pass"
+        CellsExchanged "5 and 7 exchanged at the cell count"
+        CellsInColumnsOnly "7 also for a cell count over 12"
+        UnusedUnitCode "4 for an unused unit"
+        UnusedHighFirst "high byte of an unused value before its low byte"
+        UnusedValuePlace "8 at an unused value's first byte always"
+        PercentLimited "a percent over 400 refused"
+        LastFirst "C2 at a line's end let pass"
+        PairAcrossLines "C2 at a line's end let pass where B0 begins the next line"
+        LoneSecond "a lone B0 let pass"
+        SignInIndicator "a pair let pass in the indicator"
+        Modulo "numbers taken modulo 256"
+        HighFirst "two-byte numbers written high byte first"
+        DelimiterSpace "a delimiter of 0 written as a space"
+        AlignmentLeft "an alignment of 0 written as 1"
+        BareHeaderLeftOut "a header without cells left out"
+    }
+}
+
+listed! {
     /// A plausible mistake of a program that writes the small sheets.
     ListSlip {
         TextLeftOut "a text left out"

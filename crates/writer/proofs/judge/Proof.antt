@@ -1,7 +1,7 @@
 -- `writer::judge` meets its contract. Assumes nothing.
 use mathlib.Core.Path.{ap}
 use borrow.Author.Needs.{needs}
-use Rattle.writer.specs.Walk.{State}
+use Rattle.editor.specs.Walk.{State}
 use Rattle.writer.proofs.judge.Statement.{statement}
 use Rattle.writer.proofs.judge.Tie as tie
 

@@ -5,7 +5,7 @@ use borrow.Author.Needs.{needs}
 use Rattle.rules.specs.Sheet.{mostColumns}
 use Rattle.rules.specs.Description.{counted}
 use Rattle.rules.specs.Format.{column}
-use Rattle.writer.specs.Walk.{state, again, walked}
+use Rattle.editor.specs.Walk.{state, again, walked}
 use Rattle.writer.proofs.Walks.{Left, left-begin, left-again, left-done, still-less, counted-walked, kept-length}
 use Rattle.writer.proofs.columns.columns.Statement.{statement}
 use Rattle.writer.proofs.columns.columns.Tie as tie

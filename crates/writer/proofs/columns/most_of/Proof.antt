@@ -1,5 +1,5 @@
 -- `writer::columns::most_of` meets its contract. Assumes nothing.
-use Rattle.writer.proofs.Fields.{most-fixed, most-percent}
+use Rattle.editor.proofs.Fields.{most-fixed, most-percent}
 use Rattle.writer.proofs.columns.most_of.Statement.{statement}
 use Rattle.writer.proofs.columns.most_of.Tie as tie
 

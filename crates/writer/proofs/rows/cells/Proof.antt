@@ -3,7 +3,7 @@ use mathlib.Core.Path.{refl}
 use borrow.Author.Needs.{needs}
 use Rattle.rules.specs.Description.{listed}
 use Rattle.rules.specs.Format.{cellCount, cell}
-use Rattle.writer.specs.Walk.{state, again, walked}
+use Rattle.editor.specs.Walk.{state, again, walked}
 use Rattle.writer.proofs.Walks.{Left, left-begin, left-again, left-done, still-less, cells-walked, kept-length}
 use Rattle.writer.proofs.rows.cells.Statement.{statement}
 use Rattle.writer.proofs.rows.cells.Tie as tie

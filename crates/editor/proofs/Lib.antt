@@ -1,0 +1,4 @@
+pub mod Taking
+pub mod Entering
+pub mod Fields
+pub mod Texts

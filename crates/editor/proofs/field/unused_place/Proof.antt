@@ -1,0 +1,13 @@
+-- `editor::field::unused_place` meets its contract. Assumes nothing.
+use borrow.Author.Needs.{needs}
+use Rattle.editor.proofs.Fields.{unused-next, unused-first}
+use Rattle.editor.proofs.field.unused_place.Statement.{statement}
+use Rattle.editor.proofs.field.unused_place.Tie as tie
+
+pub unused-place-spec : {M : Type 1} → statement M
+unused-place-spec =
+    tie.close
+    (tie.spec
+    (λ c κs. search needs)
+    (λ c. unused-next _ _ _ (c .before .if1 .taken) (c .further .ensures))
+    (λ c. unused-first _ _ (c .if1 .left)))
