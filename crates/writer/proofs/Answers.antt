@@ -37,6 +37,19 @@ use Rattle.writer.proofs.Whole.{Enters, Exact, walked-cursor, enters}
 abbrev told : ℕ → ℕ → Decided
 told n p = record { number = n; place = p }
 
+pub fit-fault : (n at place room : ℕ) → (n ≡ 0 → ⊥) → told n at ≡ fitting n at place room
+unfolding fitting
+fit-fault zero at place room h = absurd (h refl)
+fit-fault (suc n) at place room h = refl
+
+pub fit-short : (n at place room : ℕ) → n ≡ 0 → room < place → told 22 place ≡ fitting n at place room
+unfolding fitting
+fit-short n at place room h i = rw (h, fitting, lt-leb place room i)
+
+pub fit-fine : (n at place room : ℕ) → n ≡ 0 → place ≤ room → told 0 0 ≡ fitting n at place room
+unfolding fitting
+fit-fine n at place room h i = rw (h, fitting, le-leb place room i)
+
 module _ (w : Walk) (numbers bytes room : ℕ) where
   pub decided-missing : w .missing ≡ true → told 1 (w .numbers) ≡ decided w numbers bytes room
   unfolding decided
@@ -52,25 +65,9 @@ module _ (w : Walk) (numbers bytes room : ℕ) where
       unfolding decided
       decided-long h = rw (m, decided, ← e, f, lt-ltb 32768 (w .place) h)
 
-      whole : w .place ≤ 32768 → fitting (w .fault) (w .at) (w .place) room ≡ decided w numbers bytes room
+      pub decided-fit : w .place ≤ 32768 → fitting (w .fault) (w .at) (w .place) room ≡ decided w numbers bytes room
       unfolding decided
-      whole h = rw (m, decided, ← e, f, le-ltb 32768 (w .place) h)
-
-      some-fault : (n at place : ℕ) → (n ≡ 0 → ⊥) → told n at ≡ fitting n at place room
-      unfolding fitting
-      some-fault zero at place h = absurd (h refl)
-      some-fault (suc n) at place h = refl
-
-      pub decided-fault : w .place ≤ 32768 → (w .fault ≡ 0 → ⊥) → told (w .fault) (w .at) ≡ decided w numbers bytes room
-      decided-fault h k = some-fault (w .fault) (w .at) (w .place) k ∙ whole h
-
-      pub decided-short : w .place ≤ 32768 → w .fault ≡ 0 → room < w .place → told 22 (w .place) ≡ decided w numbers bytes room
-      unfolding fitting
-      decided-short h k i = (rw (k, fitting, lt-leb (w .place) room i)) ∙ whole h
-
-      pub decided-fine : w .place ≤ 32768 → w .fault ≡ 0 → w .place ≤ room → told 0 0 ≡ decided w numbers bytes room
-      unfolding fitting
-      decided-fine h k i = (rw (k, fitting, le-leb (w .place) room i)) ∙ whole h
+      decided-fit h = rw (m, decided, ← e, f, le-ltb 32768 (w .place) h)
 
 -- ---- what the first run tells of the table that the slices describe
 
@@ -155,6 +152,9 @@ module _ (ns ts b : List ℕ) (w : Walk) (g : Taken Table) (told-so : Told w g) 
     none-over : false ≡ (ltb (w .numbers) (length ns) || ltb (w .text) (length ts))
     none-over = sym (over-as ∙ e)
 
+    fitted : fitting (w .fault) (w .at) (w .place) (length b) ≡ answered
+    fitted = decided-fit w (length ns) (length ts) (length b) here false none-over refl (omega (arith, size-as))
+
     by-judgement : (y : Step) → judges table (g .value) 0 ≡ y → Came (saveOf y (g .value) b)
     unfolding saveOf putOr firstPlace written
     by-judgement (Refused n p) j =
@@ -165,7 +165,7 @@ module _ (ns ts b : List ℕ) (w : Walk) (g : Taken Table) (told-so : Told w g) 
         let some : w .fault ≡ 0 → ⊥ = λ z. absurd (omega (arith, f, z, number .0)) in
         inl (turned n p b answered (notPrinted n p b) (λ z. absurd (omega (arith, z, number .0)))
         (ap (λ k. told k p) (sym f) ∙ ap (told (w .fault)) (sym a)
-        ∙ decided-fault w (length ns) (length ts) (length b) here false none-over refl (omega (arith, size-as)) some) refl)
+        ∙ fit-fault (w .fault) (w .at) (w .place) (length b) some ∙ fitted) refl)
     by-judgement (At q) j = go (leb (length (written (g .value))) (length b)) refl
       where
         f : w .fault ≡ 0
@@ -178,11 +178,11 @@ module _ (ns ts b : List ℕ) (w : Walk) (g : Taken Table) (told-so : Told w g) 
             ])
         go true z =
             let room = leb-true (length (written (g .value))) (length b) z in
-            let d = decided-fine w (length ns) (length ts) (length b) here false none-over refl (omega (arith, size-as)) f (omega (arith, size-as)) in
+            let d = fit-fine (w .fault) (w .at) (w .place) (length b) f (omega (arith, size-as)) ∙ fitted in
             inr (record { number = sym (ap (λ (x : Decided). x .number) d); there = m; end = q; fine = j; short = short; room = room; size = size-as; is = refl })
         go false z =
             let room = leb-false (length (written (g .value))) (length b) z in
-            let d = decided-short w (length ns) (length ts) (length b) here false none-over refl (omega (arith, size-as)) f (omega (arith, size-as, room)) in
+            let d = fit-short (w .fault) (w .at) (w .place) (length b) f (omega (arith, size-as, room)) ∙ fitted in
             inl (turned 22 (length (written (g .value))) b answered (notPrinted 22 (length (written (g .value))) b) (λ i. absurd (omega arith))
             (ap (told 22) (sym size-as) ∙ d) refl)
 

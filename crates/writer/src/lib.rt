@@ -69,6 +69,25 @@ fn judge(numbers: &[u16], text: &[u8]) -> Walk
     table(numbers, text, &mut none)
 }
 
+// A table that isn't too long: its first fault; 22 where its sheet doesn't fit.
+fn fit(fault: u64, at: usize, place: usize, room: usize) -> Decided
+    ensures { λ r. ⌜ r ≡ answer.fitting fault at place room ⌝ }
+{
+    if fault != 0 {
+        return Decided {
+            number: fault,
+            place: at,
+        };
+    }
+    if room < place {
+        return Decided { number: 22, place };
+    }
+    Decided {
+        number: 0,
+        place: 0,
+    }
+}
+
 // By the first run: 1 and 9, for then there is no table; 2; the first fault; 22.
 fn decide(walked: Walk, numbers: usize, text: usize, room: usize) -> Decided
     ensures { λ r. ⌜ r ≡ answer.decided walked numbers text room ⌝ }
@@ -93,19 +112,7 @@ fn decide(walked: Walk, numbers: usize, text: usize, room: usize) -> Decided
             place: 32768,
         };
     }
-    if walked.fault != 0 {
-        return Decided {
-            number: walked.fault,
-            place: walked.at,
-        };
-    }
-    if room < place {
-        return Decided { number: 22, place };
-    }
-    Decided {
-        number: 0,
-        place: 0,
-    }
+    fit(walked.fault, walked.at, place, room)
 }
 
 // Writes the sheet of the table that the slices describe, or refuses it and leaves the buffer as it is.

@@ -1,6 +1,7 @@
 -- `writer::decide` meets its contract. Assumes nothing.
+use mathlib.Core.Path.{_∙_}
 use borrow.Author.Needs.{needs}
-use Rattle.writer.proofs.Answers.{decided-missing, decided-over, decided-long, decided-fault, decided-short, decided-fine}
+use Rattle.writer.proofs.Answers.{decided-missing, decided-over, decided-long, decided-fit}
 use Rattle.writer.proofs.decide.Statement.{statement}
 use Rattle.writer.proofs.decide.Tie as tie
 
@@ -14,12 +15,8 @@ decide-spec =
     (λ c. let over = c .before in
     let either = over .before in
     decided-long _ _ _ _ (either .before .before .if1 .left) _ (either .either .ensures) (over .if2 .left) (c .if3 .taken))
-    (λ c. let over = c .before .before .before in
+    (λ c κs. search needs)
+    (λ c. let short = c .before in
+    let over = short .before in
     let either = over .before in
-    decided-fault _ _ _ _ (either .before .before .if1 .left) _ (either .either .ensures) (over .if2 .left) (c .before .before .if3 .left) (c .if4 .taken))
-    (λ c. let over = c .before .before .before .before in
-    let either = over .before in
-    decided-short _ _ _ _ (either .before .before .if1 .left) _ (either .either .ensures) (over .if2 .left) (c .before .before .before .if3 .left) (c .before .if4 .left) (c .if5 .taken))
-    (λ c. let over = c .before .before .before .before in
-    let either = over .before in
-    decided-fine _ _ _ _ (either .before .before .if1 .left) _ (either .either .ensures) (over .if2 .left) (c .before .before .before .if3 .left) (c .before .if4 .left) (c .if5 .left)))
+    c .fit .ensures ∙ decided-fit _ _ _ _ (either .before .before .if1 .left) _ (either .either .ensures) (over .if2 .left) (short .if3 .left)))
