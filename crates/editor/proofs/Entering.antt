@@ -1,21 +1,19 @@
 -- A field that was taken, judged and put: one law for each way out of the code. Assumes nothing.
-use Prim.Native.Nat.{ℕ, zero, suc, _+_, _-_, _/_, _%_, _≤_, _<_, min}
+use Prim.Native.Nat.{ℕ, zero, suc, _+_, _-_, _/_, _%_, _≤_, _<_}
 use mathlib.Core.Path.{_≡_, refl, sym, ap, _∙_}
-use mathlib.Core.List.{List, [], _∷_, _++_, map}
+use mathlib.Core.List.{List, [], _∷_, map}
 use mathlib.Core.Bool.{Bool, true, false}
 use native.Mathlib.Omega.{arith}
 use lib.ListN.{length, set, length-set}
-use lib.Dec.{leb}
 use borrow.Author.Tests.{le-leb, lt-leb}
 use Rattle.rules.specs.Text.{orElse}
 use Rattle.rules.specs.Description.{word, writes}
 use Rattle.rules.specs.Writer.{passes}
 use Rattle.rules.specs.declared.Step.{Step}
-use Rattle.rules.specs.declared.Step.the-variants.{At, Refused}
 use Rattle.buffer.specs.Put.{putAt}
 use Rattle.buffer.proofs.Laws.{put-one, put-put}
 use Rattle.editor.specs.declared.walk.Walk.{Walk}
-use Rattle.editor.specs.Walk.{cap, State, state, faultOf, placeOf, firstPlace, noted, advanced, stamped, low, entered}
+use Rattle.editor.specs.Walk.{cap, State, state, firstPlace, noted, advanced, stamped, low, entered}
 
 -- ---- places
 

@@ -1,10 +1,9 @@
 -- Tests and fields of one or two bytes, one law for each way out of the code; and what a field comes to by the description. Assumes nothing.
-use Prim.Native.Nat.{ℕ, zero, suc, _+_, _-_, _/_, _%_, _≤_, _<_}
+use Prim.Native.Nat.{ℕ, _+_, _-_, _/_, _%_, _≤_, _<_}
 use mathlib.Core.Path.{_≡_, refl, sym, ap, _∙_}
 use mathlib.Core.List.{List, [], _∷_, map}
 use mathlib.Core.Bool.{Bool, true, false, _&&_, cond}
 use native.Mathlib.Omega.{arith}
-use lib.ListN.{length}
 use lib.Dec.{leb, eqb}
 use borrow.Author.Tests.{le-leb, lt-leb, eq-eqb, ne-eqb, eqb-true, eqb-false}
 use Rattle.rules.specs.Field.{between, printable, printableOrZero}

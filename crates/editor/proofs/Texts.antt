@@ -1,13 +1,15 @@
 -- Texts, one law for each way out of the code: their characters, their first fault, their bytes put where there is room. Assumes nothing.
-use Prim.Native.Nat.{ℕ, suc, _+_, _-_, _%_, _≤_, _<_}
-use mathlib.Core.Path.{_≡_, refl, sym, ap, _∙_}
-use mathlib.Core.List.{List, [], _∷_, _++_, map}
+use Prim.Native.Nat.{ℕ, zero, suc, _+_, _-_, _%_, _≤_, _<_}
+use mathlib.Core.Path.{_≡_, refl, sym, ap, subst, _∙_}
+use mathlib.Core.List.{List, [], _∷_, map}
 use mathlib.Core.Bool.{Bool, true, false, not, _&&_, and-eq-true-iff}
+use mathlib.Core.Logic.{⊎-elim}
+use native.Mathlib.Nat.{eq-or-lt-of-le, le-of-suc-le-suc}
 use native.Mathlib.Omega.{arith}
 use lib.ListN.{length, getD, take, drop, set, length-set, drop-of-length-le}
 use lib.Seq.{drop-cons}
 use lib.Dec.{leb, eqb}
-use borrow.Author.Tests.{le-leb, lt-leb, leb-true}
+use borrow.Author.Tests.{le-leb, lt-leb, leb-true, eq-eqb, ne-eqb, eqb-true, eqb-false}
 use Rattle.buffer.specs.Put.{putAt}
 use Rattle.buffer.proofs.Laws.{put-one, put-put, length-put}
 use Rattle.rules.specs.Field.{between, printable, printableOrZero}
@@ -17,13 +19,12 @@ use Rattle.rules.specs.Editor.{Cursor, Taken, lacking, numberAt, bytesAt, textT
 use Rattle.rules.specs.Writer.{thence, passes, inTurn, characterJudged, charactersJudged, judges}
 use Rattle.rules.specs.declared.Step.{Step}
 use Rattle.rules.specs.declared.Step.the-variants.{At, Refused}
-use Rattle.rules.specs.Steps.{readFrom}
-use Rattle.sheet.specs.Steps.{bytesFrom}
-use Rattle.laws.proofs.Writing.{characters-alone}
+use Rattle.sheet.specs.Steps.{printables}
+use Rattle.laws.proofs.Reading.{between-both}
 use Rattle.editor.specs.declared.walk.Walk.{Walk}
 use Rattle.editor.specs.declared.text.Kind.{Kind}
 use Rattle.editor.specs.declared.text.Kind.the-variants.{Indicator, Style, Line}
-use Rattle.editor.specs.Walk.{cap, cursorOf, moved, State, state, noted, advanced, stamped, low, entered, fieldEntered, walked, letter, textFormat, charactersOf, least, most}
+use Rattle.editor.specs.Walk.{cap, cursorOf, moved, State, state, noted, advanced, stamped, low, entered, fieldEntered, walked, letter, textFormat, charactersOf, CharacterIs, least, most}
 use Rattle.editor.proofs.Entering.{stamped-short, stamped-all, missing-entered}
 
 -- ---- characters
@@ -79,6 +80,128 @@ pub passed-all : (zeros : Bool) (l : List ℕ) (i : ℕ) → length l ≤ i → 
 unfolding inTurn
 passed-all zeros l i h p = let d = drop-of-length-le l {i = i} h in rw d at (p .rest)
 
+-- ---- characters of a line
+
+-- by whether a pair begins there
+by-first : (b c p : ℕ) (l : List ℕ) (x : Bool) → eqb b 194 ≡ x
+    → charactersJudged (b ∷ c ∷ l) p ≡ elim x as (λ y. Step) [
+      | true ↦ thence (passes (eqb c 176) 6 p (p + 2)) (charactersJudged l)
+      | false ↦ thence (characterJudged printable b p) (charactersJudged (c ∷ l))
+    ]
+unfolding charactersJudged
+by-first b c p l x e =
+    ap (λ (z : Bool). elim z as (λ y. Step) [
+      | true ↦ thence (passes (eqb c 176) 6 p (p + 2)) (charactersJudged l)
+      | false ↦ thence (characterJudged printable b p) (charactersJudged (c ∷ l))
+    ]) e
+
+-- a character by itself, with others behind it or not
+one-judged : (b p : ℕ) (l : List ℕ) → printable b ≡ true → charactersJudged (b ∷ l) p ≡ charactersJudged l (p + 1)
+unfolding charactersJudged thence passes
+one-judged b p [] h = rw (h, passes)
+one-judged b p (c ∷ l) h =
+    let s = between-both 32 126 b h in
+    by-first b c p l false (ne-eqb b 194 (λ e. absurd (omega (arith, s .1)))) ∙ rw (h, passes, thence)
+
+other-judged : (b p : ℕ) (l : List ℕ) → printable b ≡ false → (b ≡ 194 → ⊥) → Refused 6 p ≡ charactersJudged (b ∷ l) p
+unfolding charactersJudged thence passes
+other-judged b p [] h k = rw (h, passes)
+other-judged b p (c ∷ l) h k = (rw (h, passes, thence)) ∙ sym (by-first b c p l false (ne-eqb b 194 k))
+
+module _ (l : List ℕ) (p : ℕ) where
+  abbrev first : ℕ
+  first = getD l p 0
+
+  abbrev second : ℕ
+  second = getD l (p + 1) 0
+
+  begins : p < length l → drop p l ≡ first ∷ drop (p + 1) l
+  begins h = let z : suc p ≡ p + 1 = omega arith in drop-cons l p 0 h ∙ ap (λ k. first ∷ drop k l) z
+
+  pub character-plain : (b : Bool) → p < length l → b ≡ printable first → b ≡ true → CharacterIs l p (At (p + 1))
+  character-plain b h e t =
+      (omega arith, (omega arith, ap (λ m. charactersJudged m p) (begins h) ∙ one-judged first p (drop (p + 1) l) (sym e ∙ t)))
+
+  pub character-other : (b : Bool) → p < length l → b ≡ printable first → b ≡ false → (first ≡ 194 → ⊥) → CharacterIs l p (Refused 6 p)
+  character-other b h e t k = other-judged first p (drop (p + 1) l) (sym e ∙ t) k ∙ ap (λ m. charactersJudged m p) (sym (begins h))
+
+  -- C2 as the last byte
+  pub character-last : (b : Bool) → p < length l → b ≡ printable first → b ≡ false → length l - p < 2 → CharacterIs l p (Refused 6 p)
+  unfolding charactersJudged passes
+  character-last b h e t k =
+      let d : drop (p + 1) l ≡ [] = drop-of-length-le l {i = p + 1} (omega arith) in
+      (rw (← e, t, passes)) ∙ ap (λ m. charactersJudged (first ∷ m) p) (sym d) ∙ ap (λ m. charactersJudged m p) (sym (begins h))
+
+  -- C2 with another byte behind it
+  follows : p < length l → 2 ≤ length l - p → drop p l ≡ first ∷ second ∷ drop (p + 2) l
+  follows h k =
+      let z : suc (p + 1) ≡ p + 2 = omega arith in
+      begins h ∙ ap (λ m. first ∷ m) (drop-cons l (p + 1) 0 (omega arith) ∙ ap (λ i. second ∷ drop i l) z)
+
+  pub character-half : p < length l → 2 ≤ length l - p → first ≡ 194 → (second ≡ 176 → ⊥) → CharacterIs l p (Refused 6 p)
+  unfolding charactersJudged thence passes
+  character-half h k e t =
+      (rw (ne-eqb second 176 t, passes, thence)) ∙ sym (by-first first second p (drop (p + 2) l) true (eq-eqb first 194 e))
+      ∙ ap (λ m. charactersJudged m p) (sym (follows h k))
+
+  pub character-pair : p < length l → 2 ≤ length l - p → first ≡ 194 → second ≡ 176 → CharacterIs l p (At (p + 2))
+  unfolding charactersJudged thence passes
+  character-pair h k e t =
+      let pair = by-first first second p (drop (p + 2) l) true (eq-eqb first 194 e) in
+      (omega arith, (omega arith, ap (λ m. charactersJudged m p) (follows h k) ∙ pair ∙ rw (eq-eqb second 176 t, passes, thence)))
+
+-- with the bytes before i passed, what is left comes to what there was
+pub record Judged (l : List ℕ) (i : ℕ) : Type 0 where
+  pub within : i ≤ length l
+  pub rest : charactersJudged (drop i l) i ≡ charactersJudged l 0
+
+pub judged-begin : (l : List ℕ) → Judged l 0
+judged-begin l = record { within = omega arith; rest = refl }
+
+pub judged-again : (l : List ℕ) (i j : ℕ) (y : Step) → Judged l i → CharacterIs l i y → y ≡ At j → Judged l j
+judged-again l i j y p c e =
+    let d = subst (CharacterIs l i) e c in
+    record { within = d .1 .0; rest = sym (d .1 .1) ∙ p .rest }
+
+pub judged-onward : (l : List ℕ) (i j : ℕ) (y : Step) → CharacterIs l i y → y ≡ At j → i < j
+judged-onward l i j y c e = subst (CharacterIs l i) e c .0
+
+pub judged-bad : (l : List ℕ) (i n q : ℕ) (y : Step) → Judged l i → CharacterIs l i y → y ≡ Refused n q → y ≡ charactersJudged l 0
+judged-bad l i n q y p c e = e ∙ subst (CharacterIs l i) e c ∙ p .rest
+
+pub judged-all : (l : List ℕ) (i : ℕ) → length l ≤ i → Judged l i → At i ≡ charactersJudged l 0
+unfolding charactersJudged
+judged-all l i h p = let d = drop-of-length-le l {i = i} h in rw d at (p .rest)
+
+-- where every byte is printable
+below : (i n : ℕ) → i < suc n → (i ≡ n → ⊥) → i < n
+below i n h k = ⊎-elim (λ e. absurd (k e)) (λ l. l) (eq-or-lt-of-le (le-of-suc-le-suc h))
+
+each-printable : (l : List ℕ) (n : ℕ) → printables l 0 n ≡ true → (i : ℕ) → i < n → printable (getD l i 0) ≡ true
+unfolding printables
+each-printable l zero e i h = absurd (omega (arith, h))
+each-printable l (suc n) e i h = go (eqb i n) refl (each-printable l n (both .0))
+  where
+    both : (printables l 0 n ≡ true) × (printable (getD l (0 + n) 0) ≡ true)
+    both = and-eq-true-iff (printables l 0 n) (printable (getD l (0 + n) 0)) .0 e
+
+    go : (b : Bool) → eqb i n ≡ b → ((j : ℕ) → j < n → printable (getD l j 0) ≡ true) → printable (getD l i 0) ≡ true
+    go true k others = let z : 0 + n ≡ i = omega (arith, eqb-true i n k) in rw z at (both .1)
+    go false k others = others i (below i n h (eqb-false i n k))
+
+plain-judged : (l : List ℕ) (p : ℕ) → ((i : ℕ) → i < length l → printable (getD l i 0) ≡ true) → At (p + length l) ≡ charactersJudged l p
+unfolding charactersJudged
+plain-judged [] p h = let z : p + 0 ≡ p = omega arith in rw z
+plain-judged (b ∷ l) p h =
+    let z : p + suc (length l) ≡ p + 1 + length l = omega arith in
+    rw z (plain-judged l (p + 1) (λ i k. h (suc i) (omega arith)) ∙ sym (one-judged b p l (h 0 (omega arith))))
+
+pub printable-judged : (l : List ℕ) (b : Bool) → b ≡ printables l 0 (length l - 0) → b ≡ true → At (length l) ≡ charactersJudged l 0
+printable-judged l b e t =
+    let z : length l - 0 ≡ length l = omega arith in
+    let y : 0 + length l ≡ length l = omega arith in
+    rw y at (plain-judged l 0 (each-printable l (length l) (sym (e ∙ ap (printables l 0) z) ∙ t)))
+
 -- which characters, by what the text is
 pub of-indicator : (k : Kind) (l : List ℕ) (y : Step) → k ≡ Indicator → y ≡ judgedFrom false l 0 → y ≡ charactersOf k l 0
 of-indicator k l y e f = f ∙ rw e
@@ -88,12 +211,6 @@ of-style k l y e f = f ∙ rw e
 
 pub of-line : (k : Kind) (l : List ℕ) (y : Step) → k ≡ Line → y ≡ charactersJudged l 0 → y ≡ charactersOf k l 0
 of-line k l y e f = f ∙ rw e
-
-pub line-most : (k : Kind) (n : ℕ) → k ≡ Line → n ≤ most k → n ≤ 200
-line-most k n e h = rw e at h
-
-pub up-to : (n m k : ℕ) → n ≤ m → m ≡ k → n ≤ k
-up-to n m k h e = omega arith
 
 -- ---- the first fault of a text
 
@@ -227,12 +344,6 @@ pub text-length : (d e l : List ℕ) (p v : ℕ) → length l < length d - p →
 text-length d e l p v h f =
     let s = length-set d p v in
     ap length f ∙ length-put (set d p v) (p + 1) l (omega arith) ∙ s
-
--- ---- a line, by the reader's own check
-
-pub line-steps : (l : List ℕ) (n : ℕ) (r : Step) → n ≡ length l → r ≡ bytesFrom true l (0 + n) 0 → r ≡ charactersJudged l 0
-unfolding bytesFrom readFrom
-line-steps l n r e f = let z : 0 + n - 0 ≡ length l = omega arith in f ∙ (rw z (characters-alone l))
 
 -- ---- the whole text
 

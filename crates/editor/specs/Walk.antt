@@ -1,8 +1,9 @@
 -- A walk over the fields of the editor's table in the sheet's order: what the code's one walk finds, and what it puts where there is room. Assumes nothing.
-use Prim.Native.Nat.{ℕ, zero, suc, _+_, _%_, min}
+use Prim.Native.Nat.{ℕ, zero, suc, _+_, _%_, _≤_, _<_, min}
+use mathlib.Core.Path.{_≡_}
 use mathlib.Core.List.{List, [], _∷_, map}
 use mathlib.Core.Bool.{Bool, true, false}
-use lib.ListN.{length}
+use lib.ListN.{length, drop}
 use lib.Dec.{leb, eqb}
 use Rattle.rules.specs.Text.{orElse}
 use Rattle.rules.specs.Style.{styleCharacters}
@@ -139,6 +140,11 @@ abbrev pub charactersOf : Kind → List ℕ → ℕ → Step
 charactersOf Indicator l p = inTurn (characterJudged (letter false)) l p
 charactersOf Style l p = inTurn (characterJudged (letter true)) l p
 charactersOf Line l p = charactersJudged l p
+
+-- what the character at p of a line comes to: the line's refusal, or the place where the others begin
+abbrev pub CharacterIs : List ℕ → ℕ → Step → Type 0
+CharacterIs l p (At q) = (p < q) × ((q ≤ length l) × (charactersJudged (drop p l) p ≡ charactersJudged (drop q l) q))
+CharacterIs l p (Refused n q) = Refused n q ≡ charactersJudged (drop p l) p
 
 -- the shortest and the longest of them
 abbrev pub least : Kind → ℕ

@@ -1,7 +1,7 @@
 // The texts of the editor's table: a length from the numbers, the bytes from the other slice.
 ghost use mathlib.Core.Path.{_≡_};
 ghost use mathlib.Core.List.{_∷_, map};
-ghost use Prim.Native.Nat.{_≤_};
+ghost use Prim.Native.Nat.{_<_};
 ghost use lib.ListN.{length};
 ghost use Rattle.rules.specs.Editor as slices;
 ghost use Rattle.rules.specs.Writer as writer;
@@ -71,16 +71,62 @@ fn characters(part: &[u8], zero: bool) -> Step
     Step::At(i)
 }
 
-// The same of a line, as the reader says it.
-fn line_characters(part: &[u8]) -> Step
-    requires { ⌜ length (now part) ≤ 200 ⌝ }
+// What the character at `at` of a line comes to. C2 begins a pair, unless it is the last byte: no B0 can follow it there.
+fn character(part: &[u8], at: usize) -> Step
+    requires { ⌜ at < length (now part) ⌝ }
+    ensures { λ r. ⌜ definition.CharacterIs (now (part .entry)) at r ⌝ }
+{
+    let value = part[at];
+    if letter(value, false) {
+        return Step::At(at + 1);
+    }
+    if value != 194 {
+        return Step::Refused {
+            number: 6,
+            place: at,
+        };
+    }
+    if part.len() - at < 2 {
+        return Step::Refused {
+            number: 6,
+            place: at,
+        };
+    }
+    if part[at + 1] != 176 {
+        return Step::Refused {
+            number: 6,
+            place: at,
+        };
+    }
+    Step::At(at + 2)
+}
+
+// The first character of a line that is refused, or the end.
+fn pairs(part: &[u8]) -> Step
     ensures { λ r. ⌜ r ≡ writer.charactersJudged (now (part .entry)) 0 ⌝ }
 {
-    sheet::text::line_bytes(part, 0, part.len() as u8, true)
+    let mut i = 0;
+    while i < part.len() {
+        let step = character(part, i);
+        let Step::At(next) = step else {
+            return step;
+        };
+        i = next;
+    }
+    Step::At(i)
+}
+
+// The same. Most lines have no pair: all bytes are tested first, many at a time.
+fn line_characters(part: &[u8]) -> Step
+    ensures { λ r. ⌜ r ≡ writer.charactersJudged (now (part .entry)) 0 ⌝ }
+{
+    if sheet::text::all_printable(part, 0, part.len()) {
+        return Step::At(part.len());
+    }
+    pairs(part)
 }
 
 fn characters_of(part: &[u8], kind: Kind) -> Step
-    requires { ⌜ length (now part) ≤ definition.most kind ⌝ }
     ensures { λ r. ⌜ r ≡ definition.charactersOf kind (now (part .entry)) 0 ⌝ }
 {
     match kind {

@@ -23,7 +23,6 @@ use Rattle.rules.specs.Format.{width, column, line, cellBy, cell, rowBy, row, t
 use Rattle.rules.specs.Places.{tableHere, endPlace}
 use Rattle.rules.specs.declared.Step.{Step}
 use Rattle.rules.specs.declared.Step.the-variants.{At, Refused}
-use Rattle.rules.specs.Steps.{stepOf}
 use Rattle.rules.specs.Writer.{thence, passes, inTurn, lengthJudged, characterJudged, charactersJudged, judges, judged}
 use Rattle.rules.proofs.Parts.{Whole, table-whole}
 use Rattle.laws.proofs.Lists.{all-of, all-imp, all-getD}
@@ -265,14 +264,6 @@ characters-says s (b ∷ c ∷ l) = λ p r e. go p r e (eqb b 194) refl (charact
         by-first s (length l) p false (rw (front s p b (c ∷ l ++ r) e .is) i)
         ∙ cons-says (character printable) (characters (suc (length l))) s b (c ∷ l) (b ∷ []) (c ∷ l)
         (characterJudged printable b) (charactersJudged (c ∷ l)) (passes-ends (b ∷ []) (printable b) 6) (tested-says printable 6 s b) more p r e
-
--- a cell's text that stands by itself
-step-answer : {A : Type 0} (a : A) (y : Step) → stepOf (answer a y) ≡ y
-step-answer a (At q) = refl
-step-answer a (Refused n q) = refl
-
-pub characters-alone : (l : List ℕ) → stepOf (characters (length l) l 0) ≡ charactersJudged l 0
-characters-alone l = ap stepOf (characters-says l l 0 [] (sym (append-nil l))) ∙ step-answer l (charactersJudged l 0)
 
 -- the law, whatever a value's numbers are
 says : {A : Type 0} (x : Format A) (a : A) → Made x a → (s : List ℕ) → Says (reads x) s a (writes x a) (judges x a)

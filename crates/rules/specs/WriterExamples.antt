@@ -2,18 +2,17 @@
 use Prim.Native.Nat.{ℕ}
 use mathlib.Core.Path.{_≡_, refl, ap}
 use mathlib.Core.List.{List, [], _∷_, _++_}
-use mathlib.Core.Bool.{true, false}
 use native.Mathlib.Omega.{arith}
 use lib.ListN.{length, getD, take, replicate}
 use Rattle.rules.specs.Opened.{rules}
 use Rattle.rules.specs.Quote.{ascii}
 use Rattle.rules.specs.Sheet.{Column, Row, Table, noWidth, noColumn}
 use Rattle.rules.specs.Format.{table, written}
-use Rattle.rules.specs.Steps.{Step, At, Refused}
+use Rattle.rules.specs.Steps.{At, Refused}
 use Rattle.rules.specs.Calls.{Written, notPrinted}
-use Rattle.rules.specs.Editor.{start, numberAt, bytesAt, textTaken, severalTaken, takes, numbersOf, textOf}
+use Rattle.rules.specs.Editor.{numberAt, bytesAt, textTaken, severalTaken, takes, numbersOf, textOf}
 use Rattle.rules.specs.Writer.{thence, passes, inTurn, charactersJudged, judges, judged, saveOf, save, saveTaken, writeSheet}
-use Rattle.rules.specs.Examples.{grid, bare, house, houseTable, rowOf, held, sign, setpoint}
+use Rattle.rules.specs.Examples.{grid, bare, house, houseTable, rowOf, sign, setpoint}
 
 -- the desk's sheet as the editor's slices
 abbrev pub plainNumbers : List ℕ

@@ -38,7 +38,7 @@ fn still_printable(all: bool, value: u8) -> bool
 }
 
 // Whether every byte from `start` up to `end` is printable. A bad one doesn't end the loop, so that it is compiled to test many at a time.
-fn all_printable(sheet: &[u8], start: usize, end: usize) -> bool
+pub fn all_printable(sheet: &[u8], start: usize, end: usize) -> bool
     requires { ⌜ (start ≤ end) × (end ≤ length (now sheet)) ⌝ }
     ensures { λ r. ⌜ r ≡ printables (now (sheet .entry)) start (end - start) ⌝ }
 {
@@ -176,7 +176,7 @@ pub fn text(sheet: &[u8], from: Step, most: u8) -> Step
 }
 
 // n bytes of a line from `start` on. Where all are printable, as nearly always, they are passed many at a time.
-pub fn line_bytes(sheet: &[u8], start: usize, n: u8, pairs: bool) -> Step
+fn line_bytes(sheet: &[u8], start: usize, n: u8, pairs: bool) -> Step
     requires { ⌜ start ≤ length (now sheet) ⌝ }
     ensures { λ r. ⌜ r ≡ bytesFrom pairs (now (sheet .entry)) (start + n) start ⌝ }
 {

@@ -2,7 +2,7 @@
 use Prim.Native.Nat.{ℕ, zero, suc, _+_, _≤_, _<_}
 use mathlib.Core.Path.{_≡_, refl, sym, ap, _∙_}
 use mathlib.Core.Logic.{_⊎_, inl, inr}
-use mathlib.Core.List.{List, [], _∷_, _++_, map}
+use mathlib.Core.List.{List, [], _∷_, map}
 use mathlib.Core.Bool.{Bool, true, false, _||_}
 use native.Mathlib.Omega.{arith}
 use lib.ListN.{length}
@@ -17,7 +17,6 @@ use Rattle.rules.specs.Calls.{Written, notPrinted, putOr}
 use Rattle.rules.specs.Calls as calls
 use Rattle.rules.specs.Editor.{Cursor, Taken, start, takes}
 use Rattle.rules.specs.Writer.{judges, judged, saveOf, save, saveTaken, writeSheet}
-use Rattle.rules.specs.declared.Printed.{Printed}
 use Rattle.rules.specs.declared.Step.{Step}
 use Rattle.rules.specs.declared.Step.the-variants.{At, Refused}
 use Rattle.rules.proofs.Parts.{Whole, table-whole}
@@ -30,7 +29,7 @@ use Rattle.writer.specs.declared.Decided.{Decided}
 use Rattle.editor.specs.Walk.{cap, State, state, cursorOf, faultOf, placeOf, firstPlace, low, walked}
 use Rattle.writer.specs.Answer.{begun, fitting, decided}
 use Rattle.editor.proofs.Entering.{cap-under}
-use Rattle.writer.proofs.Whole.{Enters, Exact, walked-cursor, enters}
+use Rattle.writer.proofs.Whole.{Enters, walked-cursor, enters}
 
 -- ---- by the first run
 

@@ -1,7 +1,7 @@
 -- Laws of the walk: once something was missing it stands still, and the buffer keeps its length; sections as the code walks them; loops. Assumes nothing.
 use Prim.Native.Nat.{ℕ, zero, suc, _+_, _-_, _≤_, _<_}
 use mathlib.Core.Path.{_≡_, refl, sym, ap, _∙_}
-use mathlib.Core.List.{List, [], _∷_, map}
+use mathlib.Core.List.{List, [], map}
 use mathlib.Core.Bool.{Bool, true, false, cond}
 use native.Mathlib.Omega.{arith}
 use lib.ListN.{length}
@@ -13,7 +13,7 @@ use Rattle.rules.specs.Field.{between, printable, printableOrZero}
 use Rattle.rules.specs.Description.{Format, byte, word, only, zeroWord, text, cellText, listed, give, next, writes}
 use Rattle.rules.specs.Description.{within, code, wordTo, optional, counted, unknownCode, beyondLimits, badCharacter, notZero, wrongEdition}
 use Rattle.rules.specs.Format.{width, column, line, cellBy, cell, cellCount, rowBy, row, tableBy, table}
-use Rattle.rules.specs.Editor.{Cursor, Taken, lacking, numberAt, bytesAt, textTaken, severalTaken, takes}
+use Rattle.rules.specs.Editor.{Cursor, Taken, numberAt, bytesAt, textTaken, severalTaken, takes}
 use Rattle.rules.specs.Writer.{judges}
 use Rattle.rules.specs.declared.Step.{Step}
 use Rattle.buffer.specs.Put.{putAt}

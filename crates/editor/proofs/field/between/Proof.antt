@@ -1,5 +1,4 @@
 -- `editor::field::between` meets its contract. Assumes nothing.
-use native.Mathlib.Omega.{arith}
 use Rattle.editor.proofs.Fields.{between-below, between-from}
 use Rattle.editor.proofs.field.between.Statement.{statement}
 use Rattle.editor.proofs.field.between.Tie as tie

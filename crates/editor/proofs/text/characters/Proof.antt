@@ -1,7 +1,6 @@
 -- `editor::text::characters` meets its contract. Assumes nothing.
 use Prim.Native.Nat.{_-_}
 use lib.ListN.{length}
-use native.Mathlib.Omega.{arith}
 use borrow.Author.Needs.{needs}
 use Rattle.editor.proofs.Texts.{Passed, passed-begin, passed-again, passed-bad, passed-all}
 use Rattle.editor.proofs.text.characters.Statement.{statement}

@@ -1,6 +1,6 @@
 -- `editor::text::judge` meets its contract. Assumes nothing.
 use borrow.Author.Needs.{needs}
-use Rattle.editor.proofs.Texts.{up-to, short-noted, long-noted, fine-noted, bad-noted}
+use Rattle.editor.proofs.Texts.{short-noted, long-noted, fine-noted, bad-noted}
 use Rattle.editor.proofs.text.judge.Statement.{statement}
 use Rattle.editor.proofs.text.judge.Tie as tie
 
@@ -19,7 +19,7 @@ judge-spec =
     let a = least .before .before .before .args in
     long-noted (a .kind) (a .part .now) _ _ _ _ (least .before .least .ensures) (most .most .ensures) (least .if1 .left) (c .before .if2 .taken)
     (c .note2 .ensures))
-    (λ c κs. up-to _ _ _ (c .if2 .left) (c .before .most .ensures))
+    (λ c κs. search needs)
     (λ c. search needs)
     (λ c. search needs)
     (λ c κs. search needs)

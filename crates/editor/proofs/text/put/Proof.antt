@@ -1,6 +1,4 @@
 -- `editor::text::put` meets its contract. Assumes nothing.
-use mathlib.Core.Path.{_∙_}
-use lib.ListN.{length-set}
 use native.Mathlib.Omega.{arith}
 use borrow.Author.Needs.{needs}
 use Rattle.editor.proofs.Texts.{text-short, text-room, text-length, text-put}

@@ -1,6 +1,5 @@
 -- `editor::walk::put_byte` meets its contract. Assumes nothing.
 use borrow.Author.Needs.{needs}
-use native.Mathlib.Omega.{arith}
 use Rattle.editor.proofs.Entering.{byte-put, stamped-past}
 use Rattle.editor.proofs.walk.put_byte.Statement.{statement}
 use Rattle.editor.proofs.walk.put_byte.Tie as tie
