@@ -21,13 +21,26 @@ pub cap-over : (n : ℕ) → 32769 ≤ n → 32769 ≡ cap n
 unfolding cap
 cap-over n h = omega arith
 
-pub cap-under : (n : ℕ) → n ≤ 32768 → n ≡ cap n
+pub cap-under : (n : ℕ) → n ≤ 32769 → n ≡ cap n
 unfolding cap
 cap-under n h = omega arith
 
+pub cap-most : (n : ℕ) → cap n ≤ 32769
+unfolding cap
+cap-most n = omega arith
+
+-- from a place that is one number for all, further on
+pub cap-more : (a b : ℕ) → cap (cap a + b) ≡ cap (a + b)
+unfolding cap
+cap-more a b = omega arith
+
+pub cap-twice : (n : ℕ) → cap (cap n) ≡ cap n
+unfolding cap
+cap-twice n = omega arith
+
 -- ---- the first fault
 
-or-none : (f : ℕ) → f ≡ orElse f 0
+pub or-none : (f : ℕ) → f ≡ orElse f 0
 or-none zero = refl
 or-none (suc f) = refl
 

@@ -14,7 +14,7 @@ use Rattle.rules.specs.Writer.{thence, passes, judges}
 use Rattle.rules.specs.Sheet.{mostColumns}
 use Rattle.editor.specs.declared.walk.Walk.{Walk}
 use Rattle.editor.specs.Walk.{cap, cursorOf, moved, State, state, low, noted, entered, fieldEntered, byteEntered, walked, unusedPlace, countFault}
-use Rattle.editor.proofs.Entering.{noted-alike, passes-any}
+use Rattle.editor.proofs.Entering.{cap-twice, noted-alike, passes-any}
 
 pub between-below : (low high v : ℕ) → v < low → false ≡ between low high v
 between-below low high v h = rw (lt-leb low v h)
@@ -62,10 +62,6 @@ byte-walked good fault ns ts s =
     (low (g .value) ∷ []) (state (moved (g .after) (s .walk)) (s .sheet))
 
 -- ---- other fields of one number
-
-cap-twice : (n : ℕ) → cap (cap n) ≡ cap n
-unfolding cap
-cap-twice n = omega arith
 
 -- an unused width: the code's test of the whole value and the definition's of its two bytes
 both-zero : (v : ℕ) → eqb v 0 ≡ (eqb (v % 256) 0 && eqb (v / 256) 0)

@@ -6,12 +6,14 @@ use mathlib.Core.Bool.{Bool, true, false, not, _&&_, and-eq-true-iff}
 use mathlib.Core.Logic.{⊎-elim}
 use native.Mathlib.Nat.{eq-or-lt-of-le, le-of-suc-le-suc}
 use native.Mathlib.Omega.{arith}
-use lib.ListN.{length, getD, take, drop, set, length-set, drop-of-length-le}
+use lib.ListN.{length, getD, take, drop, set, length-map, length-set, drop-of-length-le}
 use lib.Seq.{drop-cons}
 use lib.Dec.{leb, eqb}
 use borrow.Author.Tests.{le-leb, lt-leb, leb-true, eq-eqb, ne-eqb, eqb-true, eqb-false}
 use Rattle.buffer.specs.Put.{putAt}
 use Rattle.buffer.proofs.Laws.{put-one, put-put, length-put}
+use Rattle.rules.specs.Text.{All}
+use Rattle.rules.specs.Limits.{IsByte}
 use Rattle.rules.specs.Field.{between, printable, printableOrZero}
 use Rattle.rules.specs.Description.{writes}
 use Rattle.rules.specs.Format.{line}
@@ -24,8 +26,9 @@ use Rattle.laws.proofs.Reading.{between-both}
 use Rattle.editor.specs.declared.walk.Walk.{Walk}
 use Rattle.editor.specs.declared.text.Kind.{Kind}
 use Rattle.editor.specs.declared.text.Kind.the-variants.{Indicator, Style, Line}
-use Rattle.editor.specs.Walk.{cap, cursorOf, moved, State, state, noted, advanced, stamped, low, entered, fieldEntered, walked, letter, textFormat, charactersOf, CharacterIs, least, most}
-use Rattle.editor.proofs.Entering.{stamped-short, stamped-all, missing-entered}
+use Rattle.editor.specs.Walk.{cap, cursorOf, moved, State, state, noted, advanced, stamped, low, entered, fieldEntered, walked}
+use Rattle.editor.specs.Walk.{letter, textFormat, charactersOf, CharacterIs, least, most}
+use Rattle.editor.proofs.Entering.{cap-more, cap-twice, stamped-short, stamped-all, missing-entered}
 
 -- ---- characters
 
@@ -304,27 +307,26 @@ unfolding passes noted
 fine-noted k l w r y q low high e g h i f j n =
     n ∙ ap (λ z. noted (shifted (w .place + 1) z) w) (sym j) ∙ within-noted k l w y low high e g h i f
 
-cap-thrice : (p q : ℕ) → cap (cap (cap (p + 1) + q)) ≡ cap (p + 1 + q)
-unfolding cap
-cap-thrice p q = omega arith
-
 pub bad-noted : (k : Kind) (l : List ℕ) (w r : Walk) (y : Step) (n q low high a b : ℕ) → low ≡ least k → high ≡ most k → low ≤ length l
     → length l ≤ high → y ≡ charactersOf k l 0 → y ≡ Refused n q → a ≡ cap (w .place + 1) → b ≡ cap (a + q) → r ≡ noted (passes false n b 0) w
     → r ≡ noted (judges (textFormat k) l (w .place)) w
 unfolding passes noted
 bad-noted k l w r y n q low high a b e g h i f j u v m =
-    m ∙ rw (v, u, cap-thrice (w .place) q) (ap (λ z. noted (shifted (w .place + 1) z) w) (sym j) ∙ within-noted k l w y low high e g h i f)
+    m ∙ rw (v, u, cap-twice (cap (w .place + 1) + q), cap-more (w .place + 1) q) (ap (λ z. noted (shifted (w .place + 1) z) w) (sym j) ∙ within-noted k l w y low high e g h i f)
 
 -- ---- its bytes
 
 -- a byte stays what it is
-low-bytes : (l : List ℕ) → ((i : ℕ) → getD l i 0 < 256) → map low l ≡ l
+pub low-bytes : (l : List ℕ) → All IsByte l → map low l ≡ l
 low-bytes [] h = refl
-low-bytes (b ∷ l) h = let z : b % 256 ≡ b = omega (arith, h 0) in rw (z, low-bytes l (λ i. h (suc i)))
+low-bytes (b ∷ l) h = let z : b % 256 ≡ b = omega (arith, h .0) in rw (z, low-bytes l (h .1))
+
+all-bytes : (l : List ℕ) → ((i : ℕ) → getD l i 0 < 256) → All IsByte l
+all-bytes [] h = tt
+all-bytes (b ∷ l) h = (h 0, all-bytes l (λ i. h (suc i)))
 
 pub length-low : (l : List ℕ) → length (map low l) ≡ length l
-length-low [] = refl
-length-low (b ∷ l) = ap suc (length-low l)
+length-low l = length-map l low
 
 pub text-short : (d : List ℕ) (p n : ℕ) (l : List ℕ) → p < length d → length d - p ≤ length l → d ≡ stamped d p (n ∷ map low l)
 text-short d p n l h k = stamped-short d p n (map low l) h (omega (arith, length-low l))
@@ -332,7 +334,7 @@ text-short d p n l h k = stamped-short d p n (map low l) h (omega (arith, length
 pub text-put : (d e l : List ℕ) (p : ℕ) → ((i : ℕ) → getD l i 0 < 256) → length l < length d - p → p < length d
     → e ≡ putAt (set d p (length l % 256)) (p + 1) l → e ≡ stamped d p (low (length l) ∷ map low l)
 text-put d e l p b h k f =
-    let m = low-bytes l b in
+    let m = low-bytes l (all-bytes l b) in
     f ∙ ap (λ x. putAt x (p + 1) l) (put-one d p (length l % 256) k)
     ∙ put-put d p (length l % 256 ∷ []) l (p + 1) refl (omega arith)
     ∙ rw m (stamped-all d p (length l % 256 ∷ l) (omega arith))
@@ -347,16 +349,13 @@ text-length d e l p v h f =
 
 -- ---- the whole text
 
-cap-twice : (p n m : ℕ) → m ≡ n → cap (cap (p + 1) + n) ≡ cap (p + suc m)
-unfolding cap
-cap-twice p n m e = omega arith
-
 pub text-advanced : (w r u v : Walk) (y : Step) (l : List ℕ) → r ≡ noted y w → u ≡ advanced 1 r → v ≡ advanced (length l) u
     → v ≡ advanced (length (low (length l) ∷ map low l)) (noted y w)
 unfolding advanced
 text-advanced w r u v y l e f g =
     let p = noted y w .place in
-    let c : cap (cap (p + 1) + length l) ≡ cap (p + suc (length (map low l))) = cap-twice p (length l) (length (map low l)) (length-low l) in
+    let n : p + 1 + length l ≡ p + suc (length (map low l)) = omega (arith, length-low l) in
+    let c : cap (cap (p + 1) + length l) ≡ cap (p + suc (length (map low l))) = cap-more (p + 1) (length l) ∙ ap cap n in
     g ∙ ap (advanced (length l)) (f ∙ ap (advanced 1) e) ∙ rw c
 
 -- what a text comes to, whichever it is

@@ -5,6 +5,7 @@ ghost use Rattle.rules.specs.Field as field;
 ghost use Rattle.rules.specs.Description as description;
 ghost use Rattle.rules.specs.Format as format;
 ghost use Rattle.rules.specs.Editor as slices;
+ghost use Rattle.editor.specs.Walk.{state, walked, byteEntered, cursorOf};
 ghost use Rattle.editor.specs.Walk as definition;
 use super::walk;
 use super::walk::Walk;
@@ -46,8 +47,9 @@ pub fn byte_between(
     high: u16,
     fault: u64,
 ) -> Field
-    ensures { λ r. ⌜ definition.state (r .walk) (now (sheet .exit)) ≡ definition.byteEntered (field.between low high) fault (now (numbers .entry)) (definition.state from (now (sheet .entry))) ⌝ }
-    ensures { λ r. ⌜ r .value ≡ slices.numberAt (now (numbers .entry)) (definition.cursorOf from) .value ⌝ }
+    ensures { λ r. ⌜ state (r .walk) (now (sheet .exit))
+        ≡ byteEntered (field.between low high) fault (now (numbers .entry)) (state from (now (sheet .entry))) ⌝ }
+    ensures { λ r. ⌜ r .value ≡ slices.numberAt (now (numbers .entry)) (cursorOf from) .value ⌝ }
 {
     let taken = walk::number(numbers, from);
     let value = taken.value;
@@ -68,7 +70,8 @@ pub fn within(
     high: u16,
     fault: u64,
 ) -> Walk
-    ensures { λ r. ⌜ definition.state r (now (sheet .exit)) ≡ definition.byteEntered (field.between low high) fault (now (numbers .entry)) (definition.state from (now (sheet .entry))) ⌝ }
+    ensures { λ r. ⌜ state r (now (sheet .exit))
+        ≡ byteEntered (field.between low high) fault (now (numbers .entry)) (state from (now (sheet .entry))) ⌝ }
 {
     let read = byte_between(numbers, sheet, from, low, high, fault);
     read.walk
@@ -76,7 +79,7 @@ pub fn within(
 
 // A printable byte, or 0 for none.
 pub fn optional(numbers: &[u16], sheet: &mut [u8], from: Walk) -> Walk
-    ensures { λ r. ⌜ definition.state r (now (sheet .exit)) ≡ definition.byteEntered field.printableOrZero 6 (now (numbers .entry)) (definition.state from (now (sheet .entry))) ⌝ }
+    ensures { λ r. ⌜ state r (now (sheet .exit)) ≡ byteEntered field.printableOrZero 6 (now (numbers .entry)) (state from (now (sheet .entry))) ⌝ }
 {
     let taken = walk::number(numbers, from);
     let value = taken.value;
@@ -87,7 +90,7 @@ pub fn optional(numbers: &[u16], sheet: &mut [u8], from: Walk) -> Walk
 
 // Two bytes, up to `most`.
 pub fn word_to(numbers: &[u16], sheet: &mut [u8], from: Walk, most: u16) -> Walk
-    ensures { λ r. ⌜ definition.state r (now (sheet .exit)) ≡ definition.walked (description.wordTo most) (now (numbers .entry)) [] (definition.state from (now (sheet .entry))) ⌝ }
+    ensures { λ r. ⌜ state r (now (sheet .exit)) ≡ walked (description.wordTo most) (now (numbers .entry)) [] (state from (now (sheet .entry))) ⌝ }
 {
     let taken = walk::number(numbers, from);
     let value = taken.value;
@@ -108,7 +111,7 @@ fn unused_place(place: usize, value: u16) -> usize
 
 // Two bytes of an unused width.
 pub fn zero_word(numbers: &[u16], sheet: &mut [u8], from: Walk) -> Walk
-    ensures { λ r. ⌜ definition.state r (now (sheet .exit)) ≡ definition.walked description.zeroWord (now (numbers .entry)) [] (definition.state from (now (sheet .entry))) ⌝ }
+    ensures { λ r. ⌜ state r (now (sheet .exit)) ≡ walked description.zeroWord (now (numbers .entry)) [] (state from (now (sheet .entry))) ⌝ }
 {
     let taken = walk::number(numbers, from);
     let value = taken.value;
@@ -129,8 +132,9 @@ fn count_fault(limited: bool) -> u64
 
 // A cell count.
 pub fn cell_count(numbers: &[u16], sheet: &mut [u8], from: Walk, columns: u16) -> Field
-    ensures { λ r. ⌜ definition.state (r .walk) (now (sheet .exit)) ≡ definition.walked (format.cellCount columns) (now (numbers .entry)) [] (definition.state from (now (sheet .entry))) ⌝ }
-    ensures { λ r. ⌜ r .value ≡ slices.numberAt (now (numbers .entry)) (definition.cursorOf from) .value ⌝ }
+    ensures { λ r. ⌜ state (r .walk) (now (sheet .exit))
+        ≡ walked (format.cellCount columns) (now (numbers .entry)) [] (state from (now (sheet .entry))) ⌝ }
+    ensures { λ r. ⌜ r .value ≡ slices.numberAt (now (numbers .entry)) (cursorOf from) .value ⌝ }
 {
     let taken = walk::number(numbers, from);
     let value = taken.value;

@@ -5,6 +5,7 @@ ghost use Prim.Native.Nat.{_<_};
 ghost use lib.ListN.{length};
 ghost use Rattle.rules.specs.Editor as slices;
 ghost use Rattle.rules.specs.Writer as writer;
+ghost use Rattle.editor.specs.Walk.{state, walked, entered, cursorOf, moved, noted, stamped};
 ghost use Rattle.editor.specs.Walk as definition;
 use super::field;
 use super::walk;
@@ -21,7 +22,7 @@ pub enum Kind {
 
 // The next n bytes of the text.
 fn bytes(text: &[u8], from: Walk, n: u16) -> Walk
-    ensures { λ r. ⌜ r ≡ definition.moved (slices.bytesAt n (now (text .entry)) (definition.cursorOf from) .after) from ⌝ }
+    ensures { λ r. ⌜ r ≡ moved (slices.bytesAt n (now (text .entry)) (cursorOf from) .after) from ⌝ }
 {
     let start = from.text;
     let size = n as usize;
@@ -158,7 +159,7 @@ fn most(kind: Kind) -> usize
 
 // The first fault of a text: its length's, or a character's, which stands behind the length.
 fn judge(part: &[u8], from: Walk, kind: Kind) -> Walk
-    ensures { λ r. ⌜ r ≡ definition.noted (writer.judges (definition.textFormat kind) (now (part .entry)) (from .place)) from ⌝ }
+    ensures { λ r. ⌜ r ≡ noted (writer.judges (definition.textFormat kind) (now (part .entry)) (from .place)) from ⌝ }
 {
     let place = from.place;
     let n = part.len();
@@ -181,7 +182,7 @@ fn judge(part: &[u8], from: Walk, kind: Kind) -> Walk
 
 // A text and its length, where there is room for both.
 fn put(sheet: &mut [u8], at: usize, part: &[u8])
-    ensures { λ _. ⌜ now (sheet .exit) ≡ definition.stamped (now (sheet .entry)) at (map definition.low (length (now (part .entry)) ∷ now (part .entry))) ⌝ }
+    ensures { λ _. ⌜ now (sheet .exit) ≡ stamped (now (sheet .entry)) at (map definition.low (length (now (part .entry)) ∷ now (part .entry))) ⌝ }
 {
     if sheet.len() <= at {
         return;
@@ -195,7 +196,9 @@ fn put(sheet: &mut [u8], at: usize, part: &[u8])
 
 // A text that was taken.
 fn enter(sheet: &mut [u8], part: &[u8], from: Walk, kind: Kind) -> Walk
-    ensures { λ r. ⌜ definition.state r (now (sheet .exit)) ≡ definition.entered (writer.judges (definition.textFormat kind) (now (part .entry)) (from .place)) (map definition.low (length (now (part .entry)) ∷ now (part .entry))) (definition.state from (now (sheet .entry))) ⌝ }
+    ensures { λ r. ⌜ state r (now (sheet .exit))
+        ≡ entered (writer.judges (definition.textFormat kind) (now (part .entry)) (from .place))
+        (map definition.low (length (now (part .entry)) ∷ now (part .entry))) (state from (now (sheet .entry))) ⌝ }
 {
     if from.missing {
         return from;
@@ -208,7 +211,8 @@ fn enter(sheet: &mut [u8], part: &[u8], from: Walk, kind: Kind) -> Walk
 
 // A text: its length, and as many bytes.
 pub fn text(numbers: &[u16], text: &[u8], sheet: &mut [u8], from: Walk, kind: Kind) -> Walk
-    ensures { λ r. ⌜ definition.state r (now (sheet .exit)) ≡ definition.walked (definition.textFormat kind) (now (numbers .entry)) (now (text .entry)) (definition.state from (now (sheet .entry))) ⌝ }
+    ensures { λ r. ⌜ state r (now (sheet .exit))
+        ≡ walked (definition.textFormat kind) (now (numbers .entry)) (now (text .entry)) (state from (now (sheet .entry))) ⌝ }
 {
     let length = walk::number(numbers, from);
     let before = length.next;

@@ -7,6 +7,7 @@ ghost use Prim.Native.Nat.{_+_, _%_};
 ghost use Rattle.rules.specs.Description as description;
 ghost use Rattle.rules.specs.Editor as slices;
 ghost use Rattle.rules.specs.Writer as writer;
+ghost use Rattle.editor.specs.Walk.{state, entered, cursorOf, moved, noted, advanced, stamped};
 ghost use Rattle.editor.specs.Walk as definition;
 
 // `missing`: a number or text was missing, and nothing is taken any more. `fault`: the first fault's number, 0 for none; `at`: its place.
@@ -27,7 +28,7 @@ pub struct Taken {
 
 // Where something was missing.
 pub fn lacking(from: Walk) -> Walk
-    ensures { λ r. ⌜ r ≡ definition.moved (slices.lacking (definition.cursorOf from)) from ⌝ }
+    ensures { λ r. ⌜ r ≡ moved (slices.lacking (cursorOf from)) from ⌝ }
 {
     Walk {
         numbers: from.numbers,
@@ -41,8 +42,8 @@ pub fn lacking(from: Walk) -> Walk
 
 // The next number.
 pub fn number(numbers: &[u16], from: Walk) -> Taken
-    ensures { λ r. ⌜ r .value ≡ slices.numberAt (now (numbers .entry)) (definition.cursorOf from) .value ⌝ }
-    ensures { λ r. ⌜ r .next ≡ definition.moved (slices.numberAt (now (numbers .entry)) (definition.cursorOf from) .after) from ⌝ }
+    ensures { λ r. ⌜ r .value ≡ slices.numberAt (now (numbers .entry)) (cursorOf from) .value ⌝ }
+    ensures { λ r. ⌜ r .next ≡ moved (slices.numberAt (now (numbers .entry)) (cursorOf from) .after) from ⌝ }
 {
     if from.missing {
         return Taken {
@@ -95,7 +96,7 @@ pub fn still(from: Walk, left: u16) -> u16
 
 // The first fault is kept.
 pub fn note(from: Walk, good: bool, fault: u64, place: usize) -> Walk
-    ensures { λ r. ⌜ r ≡ definition.noted (writer.passes good fault place 0) from ⌝ }
+    ensures { λ r. ⌜ r ≡ noted (writer.passes good fault place 0) from ⌝ }
 {
     if good {
         return from;
@@ -115,7 +116,7 @@ pub fn note(from: Walk, good: bool, fault: u64, place: usize) -> Walk
 
 // The next field starts so many bytes further on.
 pub fn advance(from: Walk, size: usize) -> Walk
-    ensures { λ r. ⌜ r ≡ definition.advanced size from ⌝ }
+    ensures { λ r. ⌜ r ≡ advanced size from ⌝ }
 {
     Walk {
         numbers: from.numbers,
@@ -129,7 +130,7 @@ pub fn advance(from: Walk, size: usize) -> Walk
 
 // One byte, where there is room for it.
 pub fn put_byte(sheet: &mut [u8], at: usize, value: u16)
-    ensures { λ _. ⌜ now (sheet .exit) ≡ definition.stamped (now (sheet .entry)) at (value % 256 ∷ []) ⌝ }
+    ensures { λ _. ⌜ now (sheet .exit) ≡ stamped (now (sheet .entry)) at (value % 256 ∷ []) ⌝ }
 {
     if at < sheet.len() {
         sheet[at] = (value % 256) as u8;
@@ -138,7 +139,7 @@ pub fn put_byte(sheet: &mut [u8], at: usize, value: u16)
 
 // Two bytes, low byte first, where there is room for both.
 pub fn put_word(sheet: &mut [u8], at: usize, value: u16)
-    ensures { λ _. ⌜ now (sheet .exit) ≡ definition.stamped (now (sheet .entry)) at (map definition.low (description.writes description.word value)) ⌝ }
+    ensures { λ _. ⌜ now (sheet .exit) ≡ stamped (now (sheet .entry)) at (map definition.low (description.writes description.word value)) ⌝ }
 {
     if sheet.len() <= at {
         return;
@@ -152,7 +153,8 @@ pub fn put_word(sheet: &mut [u8], at: usize, value: u16)
 
 // A field of one byte that was taken.
 pub fn enter_byte(sheet: &mut [u8], from: Walk, value: u16, good: bool, fault: u64) -> Walk
-    ensures { λ r. ⌜ definition.state r (now (sheet .exit)) ≡ definition.entered (writer.passes good fault (from .place) 0) (value % 256 ∷ []) (definition.state from (now (sheet .entry))) ⌝ }
+    ensures { λ r. ⌜ state r (now (sheet .exit))
+        ≡ entered (writer.passes good fault (from .place) 0) (value % 256 ∷ []) (state from (now (sheet .entry))) ⌝ }
 {
     if from.missing {
         return from;
@@ -172,7 +174,8 @@ pub fn enter_word(
     fault: u64,
     at: usize,
 ) -> Walk
-    ensures { λ r. ⌜ definition.state r (now (sheet .exit)) ≡ definition.entered (writer.passes good fault at 0) (map definition.low (description.writes description.word value)) (definition.state from (now (sheet .entry))) ⌝ }
+    ensures { λ r. ⌜ state r (now (sheet .exit))
+        ≡ entered (writer.passes good fault at 0) (map definition.low (description.writes description.word value)) (state from (now (sheet .entry))) ⌝ }
 {
     if from.missing {
         return from;

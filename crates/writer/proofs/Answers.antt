@@ -2,17 +2,15 @@
 use Prim.Native.Nat.{ℕ, zero, suc, _+_, _≤_, _<_}
 use mathlib.Core.Path.{_≡_, refl, sym, ap, _∙_}
 use mathlib.Core.Logic.{_⊎_, inl, inr}
-use mathlib.Core.List.{List, [], _∷_, map}
+use mathlib.Core.List.{List, []}
 use mathlib.Core.Bool.{Bool, true, false, _||_}
 use native.Mathlib.Omega.{arith}
 use lib.ListN.{length}
 use lib.Dec.{leb, ltb}
 use borrow.Author.Tests.{le-leb, lt-leb, lt-ltb, le-ltb, ltb-true, ltb-false, leb-true, leb-false}
-use Rattle.rules.specs.Text.{All}
 use Rattle.rules.specs.Sheet.{Table}
 use Rattle.rules.specs.Description.{writes}
 use Rattle.rules.specs.Format.{line, table, written}
-use Rattle.rules.specs.Limits.{IsByte}
 use Rattle.rules.specs.Calls.{Written, notPrinted, putOr}
 use Rattle.rules.specs.Calls as calls
 use Rattle.rules.specs.Editor.{Cursor, Taken, start, takes}
@@ -26,9 +24,10 @@ use Rattle.buffer.specs.Put.{putAt, over}
 use Rattle.buffer.proofs.Laws.{over-put-zero}
 use Rattle.editor.specs.declared.walk.Walk.{Walk}
 use Rattle.writer.specs.declared.Decided.{Decided}
-use Rattle.editor.specs.Walk.{cap, State, state, cursorOf, faultOf, placeOf, firstPlace, low, walked}
+use Rattle.editor.specs.Walk.{cap, State, state, cursorOf, faultOf, placeOf, firstPlace, walked}
 use Rattle.writer.specs.Answer.{begun, fitting, decided}
 use Rattle.editor.proofs.Entering.{cap-under}
+use Rattle.editor.proofs.Texts.{low-bytes}
 use Rattle.writer.proofs.Whole.{Enters, walked-cursor, enters}
 
 -- ---- by the first run
@@ -143,7 +142,7 @@ module _ (ns ts b : List ℕ) (w : Walk) (g : Taken Table) (told-so : Told w g) 
   module _ (m : g .after .missing ≡ false) (e : (ltb (g .after .numbers) (length ns) || ltb (g .after .text) (length ts)) ≡ false)
       (short : length (written (g .value)) ≤ 32768) where
     size-as : w .place ≡ length (written (g .value))
-    size-as = told-so .size m ∙ sym (cap-under (length (written (g .value))) short)
+    size-as = told-so .size m ∙ sym (cap-under (length (written (g .value))) (omega arith))
 
     here : w .missing ≡ false
     here = missing-as ∙ m
@@ -217,10 +216,6 @@ module _ (ns ts b : List ℕ) (w : Walk) (g : Taken Table) (told-so : Told w g) 
 
 -- ---- the call
 
-low-written : (l : List ℕ) → All IsByte l → map low l ≡ l
-low-written [] h = refl
-low-written (v ∷ l) h = let z : low v ≡ v = omega (arith, h .0) in rw (z, low-written l (h .1))
-
 module _ (ns ts b : List ℕ) (w : Walk) (a : Decided) (f : w ≡ walked table ns ts (state begun []) .walk)
     (e : a ≡ decided w (length ns) (length ts) (length b)) where
   first-run : Turned b a (writeSheet ns ts b) ⊎ Fits w (takes table ns ts start) b a (writeSheet ns ts b)
@@ -246,7 +241,7 @@ module _ (ns ts b : List ℕ) (w : Walk) (a : Decided) (f : w ≡ walked table n
       go (inl x) = absurd (x .number h)
       go (inr x) =
           let t = takes table ns ts start .value in
-          let bytes = low-written (writes table t) (judged-bytes table table-narrow t 0 (x .end) (x .fine)) in
+          let bytes = low-bytes (writes table t) (judged-bytes table table-narrow t 0 (x .end) (x .fine)) in
           let put = run-enters ns ts b (x .there) .exact (omega (arith, x .short)) .sheet (omega (arith, x .room)) in (
             ap (λ n. record { number = 0; place = 0; written = n }) (x .size) ∙ sym (ap (λ (y : Written). y .answer) (x .is)),
             ap (λ (s : State). s .sheet) k ∙ put ∙ ap (putAt b 0) bytes ∙ sym (over-put-zero (writes table t) b) ∙ sym (ap (λ (y : Written). y .buffer) (x .is)),

@@ -1,7 +1,7 @@
 -- What the walk over fields comes to: the place behind their bytes, the first fault of their value, and their bytes where there is room. Assumes nothing.
 use Prim.Native.Nat.{ℕ, zero, suc, _+_, _≤_}
 use mathlib.Core.Path.{_≡_, refl, sym, ap, subst, _∙_}
-use mathlib.Core.List.{List, [], _∷_, _++_, map}
+use mathlib.Core.List.{List, [], _++_, map}
 use mathlib.Core.Bool.{Bool, true, false}
 use native.Mathlib.Omega.{arith}
 use lib.ListN.{length, length-append}
@@ -13,11 +13,12 @@ use Rattle.rules.specs.declared.Step.{Step}
 use Rattle.rules.specs.declared.Step.the-variants.{At, Refused}
 use Rattle.buffer.specs.Put.{putAt}
 use Rattle.buffer.proofs.Laws.{put-nil, put-put, length-put}
+use Rattle.laws.proofs.Lists.{map-append}
 use Rattle.laws.proofs.Judging.{judged-ends, judged-number}
 use Rattle.editor.specs.declared.walk.Walk.{Walk}
 use Rattle.editor.specs.Walk.{cap, cursorOf, moved, State, state, faultOf, firstPlace, placeOf, noted, advanced, stamped, low, entered}
 use Rattle.editor.specs.Walk.{fieldEntered, again, valueAt, walked}
-use Rattle.editor.proofs.Entering.{stamped-all}
+use Rattle.editor.proofs.Entering.{cap-under, cap-most, cap-more, or-none, stamped-all}
 use Rattle.editor.proofs.Texts.{length-low}
 use Rattle.writer.proofs.Walks.{several-stays, takes-stays, several-count}
 
@@ -79,14 +80,6 @@ record Judged (y : Step) (p n : ℕ) : Type 0 where
   ends : (q : ℕ) → y ≡ At q → q ≡ p + n
   number : (m q : ℕ) → y ≡ Refused m q → 1 ≤ m
 
-map-append : (l m : List ℕ) → map low (l ++ m) ≡ map low l ++ map low m
-map-append [] m = refl
-map-append (b ∷ l) m = ap (λ k. low b ∷ k) (map-append l m)
-
-none-after : (f : ℕ) → orElse f 0 ≡ f
-none-after zero = refl
-none-after (suc f) = refl
-
 first-of : (m : ℕ) → 1 ≤ m → (f z : ℕ) → orElse (orElse f m) z ≡ orElse f m
 first-of zero h f z = absurd (omega (arith, h))
 first-of (suc m) h zero z = refl
@@ -103,26 +96,17 @@ first-at (suc m) h (suc f) a q (Refused n p) = refl
 -- the first fault of both parts
 then-fault : (y : Step) (k : ℕ → Step) (p n f : ℕ) → Judged y p n → orElse (orElse f (faultOf y)) (faultOf (k (p + n))) ≡ orElse f (faultOf (thence y k))
 unfolding thence
-then-fault (At q) k p n f j = let e = j .ends q refl in rw (none-after f, e)
+then-fault (At q) k p n f j = let e = j .ends q refl in rw (← or-none f, e)
 then-fault (Refused m q) k p n f j = first-of m (j .number m q refl) f (faultOf (k (p + n)))
 
 then-at : (y : Step) (k : ℕ → Step) (p n f a : ℕ) → Judged y p n
     → placeOf (k (p + n)) (orElse f (faultOf y)) (placeOf y f a) ≡ placeOf (thence y k) f a
 unfolding thence
-then-at (At q) k p n f a j = let e = j .ends q refl in rw (none-after f, e)
+then-at (At q) k p n f a j = let e = j .ends q refl in rw (← or-none f, e)
 then-at (Refused m q) k p n f a j = first-at m (j .number m q refl) f a (cap q) (k (p + n))
 
 cap-then : (p a b : ℕ) → cap (cap (p + a) + b) ≡ cap (p + (a + b))
-unfolding cap
-cap-then p a b = omega arith
-
-cap-same : (n : ℕ) → n ≤ 32769 → n ≡ cap n
-unfolding cap
-cap-same n h = omega arith
-
-cap-most : (n : ℕ) → cap n ≤ 32769
-unfolding cap
-cap-most n = omega arith
+cap-then p a b = let z : p + a + b ≡ p + (a + b) = omega arith in cap-more (p + a) b ∙ ap cap z
 
 then-enters : (y : Step) (k : ℕ → Step) (l m : List ℕ) (s t u : State) → Judged y (s .walk .place) (length l) → Enters y l s t
     → Enters (k (t .walk .place)) m t u → Enters (thence y k) (l ++ m) s u
@@ -138,7 +122,7 @@ then-enters y k l m s t u j a b =
     exactly short short′ =
         let p = s .walk .place in
         let first = a .exact (omega arith) in
-        let here : t .walk .place ≡ p + length l = a .place ∙ sym (cap-same (p + length l) (omega arith)) in
+        let here : t .walk .place ≡ p + length l = a .place ∙ sym (cap-under (p + length l) (omega arith)) in
         let second = subst (λ q. Exact (k q) m t u) here (b .exact (omega (arith, here))) in
         record {
           fault = second .fault ∙ ap (λ f. orElse f (faultOf (k (p + length l)))) (first .fault) ∙ then-fault y k p (length l) (s .walk .fault) j;
@@ -156,7 +140,7 @@ then-enters y k l m s t u j a b =
             let ll = length-low l in
             let kept = ap length e ∙ length-put (s .sheet) p (map low l) (omega arith) in
             f (omega (arith, here, kept)) ∙ ap (λ q. putAt (t .sheet) q (map low m)) here ∙ ap (λ d. putAt d (p + length l) (map low m)) e
-            ∙ put-put (s .sheet) p (map low l) (map low m) (p + length l) (omega arith) (omega arith) ∙ ap (putAt (s .sheet) p) (sym (map-append l m))
+            ∙ put-put (s .sheet) p (map low l) (map low m) (p + length l) (omega arith) (omega arith) ∙ ap (putAt (s .sheet) p) (sym (map-append low l m))
 
 -- ---- fields, parts and items
 
@@ -164,8 +148,8 @@ none-enters : (s : State) → s .walk .place ≤ 32769 → Enters (At (s .walk .
 none-enters s h =
     let z : s .walk .place + 0 ≡ s .walk .place = omega arith in
     record {
-      place = rw z (cap-same (s .walk .place) h);
-      exact = λ i. record { fault = sym (none-after (s .walk .fault)); at = refl; sheet = λ r. sym (put-nil (s .sheet) (s .walk .place)) };
+      place = rw z (cap-under (s .walk .place) h);
+      exact = λ i. record { fault = or-none (s .walk .fault); at = refl; sheet = λ r. sym (put-nil (s .sheet) (s .walk .place)) };
     }
 
 -- a field that was there

@@ -7,7 +7,7 @@ ghost use Rattle.rules.specs.Sheet.{mostColumns};
 ghost use Rattle.rules.specs.Description as description;
 ghost use Rattle.rules.specs.Format as format;
 ghost use Rattle.rules.specs.Editor as slices;
-ghost use Rattle.editor.specs.Walk as definition;
+ghost use Rattle.editor.specs.Walk.{state, walked, cursorOf};
 ghost use Rattle.writer.specs.Answer as answer;
 use editor::field;
 use editor::field::Field;
@@ -26,7 +26,7 @@ fn most_of(unit: u16) -> u16
 
 // A width, of which an unused one is all zero.
 fn width(numbers: &[u16], sheet: &mut [u8], from: Walk, used: bool) -> Walk
-    ensures { λ r. ⌜ definition.state r (now (sheet .exit)) ≡ definition.walked (format.width used) (now (numbers .entry)) [] (definition.state from (now (sheet .entry))) ⌝ }
+    ensures { λ r. ⌜ state r (now (sheet .exit)) ≡ walked (format.width used) (now (numbers .entry)) [] (state from (now (sheet .entry))) ⌝ }
 {
     if used {
         let unit = field::byte_between(numbers, sheet, from, 0, 1, 4);
@@ -40,7 +40,7 @@ fn width(numbers: &[u16], sheet: &mut [u8], from: Walk, used: bool) -> Walk
 
 // A constraint's code says which of the two widths behind it are used.
 fn constraint(numbers: &[u16], sheet: &mut [u8], from: Walk) -> Walk
-    ensures { λ r. ⌜ definition.state r (now (sheet .exit)) ≡ answer.constraintWalked (now (numbers .entry)) (definition.state from (now (sheet .entry))) ⌝ }
+    ensures { λ r. ⌜ state r (now (sheet .exit)) ≡ answer.constraintWalked (now (numbers .entry)) (state from (now (sheet .entry))) ⌝ }
 {
     let code = field::byte_between(numbers, sheet, from, 0, 6, 4);
     let kind = code.value;
@@ -50,7 +50,7 @@ fn constraint(numbers: &[u16], sheet: &mut [u8], from: Walk) -> Walk
 }
 
 fn column(numbers: &[u16], sheet: &mut [u8], from: Walk) -> Walk
-    ensures { λ r. ⌜ definition.state r (now (sheet .exit)) ≡ definition.walked format.column (now (numbers .entry)) [] (definition.state from (now (sheet .entry))) ⌝ }
+    ensures { λ r. ⌜ state r (now (sheet .exit)) ≡ walked format.column (now (numbers .entry)) [] (state from (now (sheet .entry))) ⌝ }
 {
     let left = field::within(numbers, sheet, from, 0, 20, 5);
     let right = field::within(numbers, sheet, left, 0, 20, 5);
@@ -61,8 +61,9 @@ fn column(numbers: &[u16], sheet: &mut [u8], from: Walk) -> Walk
 
 // The columns, with their count: rows are held to it.
 pub fn columns(numbers: &[u16], sheet: &mut [u8], from: Walk) -> Field
-    ensures { λ r. ⌜ definition.state (r .walk) (now (sheet .exit)) ≡ definition.walked (description.counted 0 mostColumns format.column) (now (numbers .entry)) [] (definition.state from (now (sheet .entry))) ⌝ }
-    ensures { λ r. ⌜ r .value ≡ slices.numberAt (now (numbers .entry)) (definition.cursorOf from) .value ⌝ }
+    ensures { λ r. ⌜ state (r .walk) (now (sheet .exit))
+        ≡ walked (description.counted 0 mostColumns format.column) (now (numbers .entry)) [] (state from (now (sheet .entry))) ⌝ }
+    ensures { λ r. ⌜ r .value ≡ slices.numberAt (now (numbers .entry)) (cursorOf from) .value ⌝ }
 {
     let count = field::byte_between(numbers, sheet, from, 0, field::MOST, 5);
     let n = count.value;

@@ -4,7 +4,7 @@ ghost use mathlib.Core.Path.{_≡_};
 ghost use mathlib.Core.List.{[]};
 ghost use Rattle.rules.specs.Writer as calls;
 ghost use Rattle.rules.specs.Format as format;
-ghost use Rattle.editor.specs.Walk as definition;
+ghost use Rattle.editor.specs.Walk.{state, walked};
 ghost use Rattle.writer.specs.Answer as answer;
 
 mod columns;
@@ -24,7 +24,7 @@ pub struct Decided {
 
 // Edition, arrangement, target, delimiter, indicator, style.
 fn head(numbers: &[u16], text: &[u8], sheet: &mut [u8], from: Walk) -> Walk
-    ensures { λ r. ⌜ definition.state r (now (sheet .exit)) ≡ answer.headWalked (now (numbers .entry)) (now (text .entry)) (definition.state from (now (sheet .entry))) ⌝ }
+    ensures { λ r. ⌜ state r (now (sheet .exit)) ≡ answer.headWalked (now (numbers .entry)) (now (text .entry)) (state from (now (sheet .entry))) ⌝ }
 {
     let edition = field::within(numbers, sheet, from, 1, 1, 3);
     let arrangement = field::within(numbers, sheet, edition, 0, 2, 4);
@@ -36,7 +36,7 @@ fn head(numbers: &[u16], text: &[u8], sheet: &mut [u8], from: Walk) -> Walk
 
 // Columns, header, rows.
 fn body(numbers: &[u16], text: &[u8], sheet: &mut [u8], from: Walk) -> Walk
-    ensures { λ r. ⌜ definition.state r (now (sheet .exit)) ≡ answer.bodyWalked (now (numbers .entry)) (now (text .entry)) (definition.state from (now (sheet .entry))) ⌝ }
+    ensures { λ r. ⌜ state r (now (sheet .exit)) ≡ answer.bodyWalked (now (numbers .entry)) (now (text .entry)) (state from (now (sheet .entry))) ⌝ }
 {
     let columns = columns::columns(numbers, sheet, from);
     let count = columns.value;
@@ -47,7 +47,8 @@ fn body(numbers: &[u16], text: &[u8], sheet: &mut [u8], from: Walk) -> Walk
 
 // The whole table, from its first field.
 fn table(numbers: &[u16], text: &[u8], sheet: &mut [u8]) -> Walk
-    ensures { λ r. ⌜ definition.state r (now (sheet .exit)) ≡ definition.walked format.table (now (numbers .entry)) (now (text .entry)) (definition.state answer.begun (now (sheet .entry))) ⌝ }
+    ensures { λ r. ⌜ state r (now (sheet .exit))
+        ≡ walked format.table (now (numbers .entry)) (now (text .entry)) (state answer.begun (now (sheet .entry))) ⌝ }
 {
     let start = Walk {
         numbers: 0,
@@ -63,7 +64,7 @@ fn table(numbers: &[u16], text: &[u8], sheet: &mut [u8]) -> Walk
 
 // The first run, with no buffer.
 fn judge(numbers: &[u16], text: &[u8]) -> Walk
-    ensures { λ r. ⌜ r ≡ definition.walked format.table (now (numbers .entry)) (now (text .entry)) (definition.state answer.begun []) .walk ⌝ }
+    ensures { λ r. ⌜ r ≡ walked format.table (now (numbers .entry)) (now (text .entry)) (state answer.begun []) .walk ⌝ }
 {
     let mut none = [0u8; 0];
     table(numbers, text, &mut none)

@@ -2,7 +2,7 @@
 ghost use mathlib.Core.Path.{_≡_};
 ghost use Rattle.rules.specs.Description as description;
 ghost use Rattle.rules.specs.Format as format;
-ghost use Rattle.editor.specs.Walk as definition;
+ghost use Rattle.editor.specs.Walk.{state, walked};
 use editor::field;
 use editor::text;
 use editor::text::Kind;
@@ -11,7 +11,8 @@ use editor::walk::Walk;
 
 // A cell's lines.
 fn lines(numbers: &[u16], text: &[u8], sheet: &mut [u8], from: Walk) -> Walk
-    ensures { λ r. ⌜ definition.state r (now (sheet .exit)) ≡ definition.walked (description.counted 1 8 format.line) (now (numbers .entry)) (now (text .entry)) (definition.state from (now (sheet .entry))) ⌝ }
+    ensures { λ r. ⌜ state r (now (sheet .exit))
+        ≡ walked (description.counted 1 8 format.line) (now (numbers .entry)) (now (text .entry)) (state from (now (sheet .entry))) ⌝ }
 {
     let count = field::byte_between(numbers, sheet, from, 1, 8, 5);
     let mut at = count.walk;
@@ -24,7 +25,7 @@ fn lines(numbers: &[u16], text: &[u8], sheet: &mut [u8], from: Walk) -> Walk
 }
 
 fn cell(numbers: &[u16], text: &[u8], sheet: &mut [u8], from: Walk) -> Walk
-    ensures { λ r. ⌜ definition.state r (now (sheet .exit)) ≡ definition.walked format.cell (now (numbers .entry)) (now (text .entry)) (definition.state from (now (sheet .entry))) ⌝ }
+    ensures { λ r. ⌜ state r (now (sheet .exit)) ≡ walked format.cell (now (numbers .entry)) (now (text .entry)) (state from (now (sheet .entry))) ⌝ }
 {
     let delimiter = field::optional(numbers, sheet, from);
     let alignment = field::within(numbers, sheet, delimiter, 0, 3, 4);
@@ -33,7 +34,8 @@ fn cell(numbers: &[u16], text: &[u8], sheet: &mut [u8], from: Walk) -> Walk
 
 // A row's cells, which are held to the column count.
 fn cells(numbers: &[u16], text: &[u8], sheet: &mut [u8], from: Walk, columns: u16) -> Walk
-    ensures { λ r. ⌜ definition.state r (now (sheet .exit)) ≡ definition.walked (description.listed (format.cellCount columns) format.cell) (now (numbers .entry)) (now (text .entry)) (definition.state from (now (sheet .entry))) ⌝ }
+    ensures { λ r. ⌜ state r (now (sheet .exit))
+        ≡ walked (description.listed (format.cellCount columns) format.cell) (now (numbers .entry)) (now (text .entry)) (state from (now (sheet .entry))) ⌝ }
 {
     let count = field::cell_count(numbers, sheet, from, columns);
     let mut at = count.walk;
@@ -46,7 +48,8 @@ fn cells(numbers: &[u16], text: &[u8], sheet: &mut [u8], from: Walk, columns: u1
 }
 
 fn row(numbers: &[u16], text: &[u8], sheet: &mut [u8], from: Walk, columns: u16) -> Walk
-    ensures { λ r. ⌜ definition.state r (now (sheet .exit)) ≡ definition.walked (format.row columns) (now (numbers .entry)) (now (text .entry)) (definition.state from (now (sheet .entry))) ⌝ }
+    ensures { λ r. ⌜ state r (now (sheet .exit))
+        ≡ walked (format.row columns) (now (numbers .entry)) (now (text .entry)) (state from (now (sheet .entry))) ⌝ }
 {
     let limit = field::within(numbers, sheet, from, 0, 255, 5);
     cells(numbers, text, sheet, limit, columns)
@@ -61,7 +64,8 @@ pub fn rows(
     columns: u16,
     most: u16,
 ) -> Walk
-    ensures { λ r. ⌜ definition.state r (now (sheet .exit)) ≡ definition.walked (description.counted 0 most (format.row columns)) (now (numbers .entry)) (now (text .entry)) (definition.state from (now (sheet .entry))) ⌝ }
+    ensures { λ r. ⌜ state r (now (sheet .exit))
+        ≡ walked (description.counted 0 most (format.row columns)) (now (numbers .entry)) (now (text .entry)) (state from (now (sheet .entry))) ⌝ }
 {
     let count = field::byte_between(numbers, sheet, from, 0, most, 5);
     let mut at = count.walk;

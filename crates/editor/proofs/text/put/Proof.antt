@@ -24,4 +24,5 @@ put-spec =
     (λ c. let copy = c .before .before in
     let room = copy .before .before in
     let a = room .before .before .before .before .args in
-    text-put (a .sheet .now) (copy .copy .last .0) (a .part .now) _ (λ i. omega (arith, room .before .before .shared-slice-known .given i)) (room .if2 .left) (room .before .if1 .left) (copy .copy .ensures .1)))
+    text-put (a .sheet .now) (copy .copy .last .0) (a .part .now) _
+    (λ i. omega (arith, room .before .before .shared-slice-known .given i)) (room .if2 .left) (room .before .if1 .left) (copy .copy .ensures .1)))

@@ -11,7 +11,9 @@ use Rattle.writer.proofs.columns.columns.Statement.{statement}
 use Rattle.writer.proofs.columns.columns.Tie as tie
 
 abbrev Inv-loop : tie.InvT-loop
-Inv-loop numbers sheet₀ n at₀ left₀ sheet at left = Left (λ u. walked column numbers [] u) left (state at sheet) (again left₀ (λ u. walked column numbers [] u) (state at₀ sheet₀))
+Inv-loop numbers sheet₀ n at₀ left₀ sheet at left =
+    Left (λ u. walked column numbers [] u) left (state at sheet)
+    (again left₀ (λ u. walked column numbers [] u) (state at₀ sheet₀))
 
 abbrev μ-loop : tie.MeasureT-loop
 μ-loop numbers sheet₀ n at₀ left₀ sheet at left = left
@@ -37,8 +39,11 @@ columns-spec =
     (λ c κs. search needs)
     (λ c. search needs)
     (λ c κs. search needs)
-    (λ c. still-less (c .before .before .before .column .result .missing) _ _ (c .before .before .before .before .before .loop-test .taken) (c .still2 .ensures))
-    (λ c. left-again column _ [] _ _ _ _ _ (c .before .before .before .before .before .loop-test .taken) (c .before .before .before .before .before .before .loop .inv)
-    (c .before .before .before .column .ensures) (c .still2 .ensures))
+    (λ c. let walked = c .before .before .before in
+    still-less (walked .column .result .missing) _ _ (walked .before .before .loop-test .taken) (c .still2 .ensures))
+    (λ c. let walked = c .before .before .before in
+    left-again column _ [] _ _ _ _ _ (walked .before .before .loop-test .taken)
+    (walked .before .before .before .loop .inv)
+    (walked .column .ensures) (c .still2 .ensures))
     (λ c. kept-length (counted 0 mostColumns column) _ [] _ _ _ _ (returns c .0))
     returns)

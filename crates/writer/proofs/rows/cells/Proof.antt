@@ -9,7 +9,9 @@ use Rattle.writer.proofs.rows.cells.Statement.{statement}
 use Rattle.writer.proofs.rows.cells.Tie as tie
 
 abbrev Inv-loop : tie.InvT-loop
-Inv-loop numbers text sheet₀ columns at₀ left₀ sheet at left = Left (λ u. walked cell numbers text u) left (state at sheet) (again left₀ (λ u. walked cell numbers text u) (state at₀ sheet₀))
+Inv-loop numbers text sheet₀ columns at₀ left₀ sheet at left =
+    Left (λ u. walked cell numbers text u) left (state at sheet)
+    (again left₀ (λ u. walked cell numbers text u) (state at₀ sheet₀))
 
 abbrev μ-loop : tie.MeasureT-loop
 μ-loop numbers text sheet₀ columns at₀ left₀ sheet at left = left
@@ -33,8 +35,11 @@ cells-spec =
     (λ c κs. search needs)
     (λ c. search needs)
     (λ c κs. search needs)
-    (λ c. still-less (c .before .before .before .cell .result .missing) _ _ (c .before .before .before .before .before .loop-test .taken) (c .still2 .ensures))
-    (λ c. left-again cell _ _ _ _ _ _ _ (c .before .before .before .before .before .loop-test .taken) (c .before .before .before .before .before .before .loop .inv)
-    (c .before .before .before .cell .ensures) (c .still2 .ensures))
+    (λ c. let walked = c .before .before .before in
+    still-less (walked .cell .result .missing) _ _ (walked .before .before .loop-test .taken) (c .still2 .ensures))
+    (λ c. let walked = c .before .before .before in
+    left-again cell _ _ _ _ _ _ _ (walked .before .before .loop-test .taken)
+    (walked .before .before .before .loop .inv)
+    (walked .cell .ensures) (c .still2 .ensures))
     (λ c. kept-length (listed (cellCount _) cell) _ _ _ _ _ _ (returns c))
     returns)
