@@ -12,4 +12,7 @@ byte-between-spec =
     (λ c κs. search needs)
     (λ c κs. search needs)
     (λ c. search needs)
-    (λ c. search (needs, byte-entered)))
+    (λ c. let entered = c .before .before in
+    let good = entered .before .before in
+    let taken = good .before .before .number in
+    (byte-entered _ _ _ _ _ _ _ _ _ _ (taken .ensures .0) (taken .ensures .1) (good .between .ensures) (entered .enter-byte .ensures), taken .ensures .0)))

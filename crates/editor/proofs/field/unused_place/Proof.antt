@@ -9,5 +9,5 @@ unused-place-spec =
     tie.close
     (tie.spec
     (λ c κs. search needs)
-    (λ c. unused-next _ _ _ (c .before .if1 .taken) (c .further .ensures))
-    (λ c. unused-first _ _ (c .if1 .left)))
+    (λ c. let a = c .before .before .args in unused-next (a .place) (a .value) _ (c .before .if1 .taken) (c .further .ensures))
+    (λ c. let a = c .before .args in unused-first (a .place) (a .value) (c .if1 .left)))

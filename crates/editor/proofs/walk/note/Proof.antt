@@ -8,7 +8,7 @@ pub note-spec : {M : Type 1} → statement M
 note-spec =
     tie.close
     (tie.spec
-    (λ c. search (needs, noted-good))
-    (λ c. search (needs, noted-kept))
+    (λ c. noted-good _ _ _ _ (c .if1 .taken))
+    (λ c. noted-kept _ _ _ _ (c .before .before .if1 .left) (c .if2 .taken))
     (λ c κs. search needs)
-    (λ c. search (needs, noted-bad)))
+    (λ c. noted-bad _ _ _ _ _ (c .before .before .before .if1 .left) (c .before .if2 .left) (c .further .ensures)))
