@@ -13,8 +13,8 @@ use lib.Count.{ones}
 use borrow.Author.Tests.{eqb-true, eqb-false, eq-eqb, ne-eqb, not-false}
 use Rattle.rules.specs.Sheet.{Table, isHidden, mostColumns}
 use Rattle.rules.specs.Widths as doc
-use Rattle.rules.specs.Widths.{lifted, zeros, isUndecided, fix, fixAt, visit, passes, aboveAverage, averageIsSome, fittingAverage, splitAtAverage, longestPart}
-use Rattle.laws.proofs.Settled.{zeros-le, settled, settled-again, settled-last, settled-none, passes-settled}
+use Rattle.rules.specs.Widths.{lifted, zeros, isUndecided, fix, fixAt, visit, run, run1, run2, run3, aboveAverage, averageIsSome, fittingAverage, splitAtAverage, longestPart}
+use Rattle.laws.proofs.Settled.{zeros-le, settled, settled-again, settled-last, settled-none, run-settled}
 use Rattle.constraint.specs.declared.Layout.{Layout}
 use Rattle.constraint.specs.declared.State.{State}
 use Rattle.constraint.specs.Widths.{choose, inOrder, column, average, bit, decided, fixed, taking, Rule, step, pass, setWidth}
@@ -169,20 +169,20 @@ module _ (l : Layout) (t : Table) (d : Describes l t) where
             rw (again-stop k f s (rw e (eq-eqb (s .decided) (s .decided) refl)), e, settled-none begins r (l .count) u b) a
 
     pub repeated-agrees : (s : State) (u : doc.State) → Agrees l t s u
-        → Agrees l t (repeated f s) (passes begins r (length (t .columns)) (suc (length (t .columns))) u)
+        → Agrees l t (repeated f s) (run begins r (length (t .columns)) (suc (length (t .columns))) u .left)
     repeated-agrees s u a =
         let n = length-as s u a in
-        rw (← d .count, passes-settled begins r (l .count) u n) (again-agrees (suc setWidth) s u (omega (arith, zeros-le (u .widths), d .few)) a)
+        rw (← d .count, run-settled begins r (l .count) u n) (again-agrees (suc setWidth) s u (omega (arith, zeros-le (u .widths), d .few)) a)
 
   -- steps 1 to 3
   pub step1-agrees : (s : State) (u : doc.State) → Agrees l t s u → Agrees l t (step1 l s) (doc.step1 t u)
-  unfolding doc.step1
+  unfolding doc.step1 run1
   step1-agrees s u a =
       repeated-agrees (pass lowerRule l) (λ s. true) lowerRule (aboveAverage t) (lower-same l t d) (λ s u a e. refl)
       (λ s u a e. absurd (unlike true refl e)) s u a
 
   pub step2-agrees : (s : State) (u : doc.State) → Agrees l t s u → Agrees l t (step2 l s) (doc.step2 t u)
-  unfolding doc.step2
+  unfolding doc.step2 run2
   step2-agrees s u a = repeated-agrees (fitPass l) averageIsSome fitRule (fittingAverage t) (fit-same l t d) turn stay s u a
     where
       turn : (s : State) (u : doc.State) → Agrees l t s u → averageIsSome u ≡ true → fitPass l s ≡ pass fitRule l s
@@ -201,7 +201,7 @@ module _ (l : Layout) (t : Table) (d : Describes l t) where
 
   pub step3-agrees : (parts : ℕ → ℕ → ℕ) → ((j a : ℕ) → j < l .count → parts j a ≡ longestPart t j a) → (s : State) (u : doc.State) → Agrees l t s u
       → Agrees l t (step3 parts l s) (doc.step3 t u)
-  unfolding doc.step3
+  unfolding doc.step3 run3
   step3-agrees parts p s u a =
       repeated-agrees (pass (splitRule parts) l) (λ s. true) (splitRule parts) (splitAtAverage t) (split-same l t d parts p) (λ s u a e. refl)
       (λ s u a e. absurd (unlike true refl e)) s u a

@@ -105,18 +105,21 @@ module _ (l : Layout) (t : Table) (d : Describes l t) where
 
   -- what is offered, 0 made 1
   untrimmed-lifted : (j : ℕ) → lifted (trimmed (columnAt t j) (doc.longest t j) (doc.upper t (columnAt t j))) ≡ doc.untargeted t j
-  unfolding doc.untargeted
+  unfolding doc.untargeted doc.belowLongest
   untrimmed-lifted j = go (doc.upper t (columnAt t j))
     where
+      else : Option ℕ → ℕ
+      else o = elim o as (λ x. ℕ) [ some w ↦ w | none ↦ lifted (doc.longest t j) ]
+
       by-test : (b : ℕ) (x : Bool) → lifted (elim x as (λ x. ℕ) [ true ↦ contentOf (columnAt t j) b | false ↦ doc.longest t j ])
-          ≡ elim x as (λ x. ℕ) [ true ↦ contentOf (columnAt t j) b | false ↦ lifted (doc.longest t j) ]
+          ≡ else (elim x as (λ x. Option ℕ) [ true ↦ some (contentOf (columnAt t j) b) | false ↦ none ])
       by-test b true = omega arith
       by-test b false = refl
 
-      go : (o : Option ℕ) → lifted (trimmed (columnAt t j) (doc.longest t j) o) ≡ elim o as (λ x. ℕ) [
-        | some b ↦ elim (ltb b (doc.longest t j)) as (λ x. ℕ) [ true ↦ contentOf (columnAt t j) b | false ↦ lifted (doc.longest t j) ]
-        | none ↦ lifted (doc.longest t j)
-      ]
+      go : (o : Option ℕ) → lifted (trimmed (columnAt t j) (doc.longest t j) o) ≡ else (elim o as (λ x. Option ℕ) [
+        | some b ↦ elim (ltb b (doc.longest t j)) as (λ x. Option ℕ) [ true ↦ some (contentOf (columnAt t j) b) | false ↦ none ]
+        | none ↦ none
+      ])
       go (some b) = by-test b (ltb b (doc.longest t j))
       go none = refl
 

@@ -1,27 +1,27 @@
 -- Bounds and offers of a layout are those of the table that it describes. Assumes nothing.
-use Prim.Native.Nat.{ℕ, zero, suc, _-_, _*_, _/_, _≤_, _<_, min}
+use Prim.Native.Nat.{ℕ, zero, suc, _+_, _-_, _*_, _/_, _≤_, _<_, min}
 use mathlib.Core.Path.{_≡_, refl, sym, ap, _∙_}
-use mathlib.Core.Bool.{Bool, true, false, not, _||_, cond}
+use mathlib.Core.Bool.{Bool, true, false, not, _||_, _&&_, cond}
 use mathlib.Core.Option.{Option, none, some}
 use native.Mathlib.Omega.{arith}
 use lib.ListN.{length, length-append}
-use lib.Dec.{eqb}
+use lib.Dec.{eqb, leb}
 use borrow.Author.Tests.{eqb-true}
 use Rattle.rules.specs.Text.{upFrom, keep}
 use Rattle.rules.specs.declared.Width.{Width}
 use Rattle.rules.specs.declared.Column.{Column}
-use Rattle.rules.specs.Sheet.{Table, columnAt, isHidden}
+use Rattle.rules.specs.Sheet.{Table, columnAt, padding, isHidden}
 use Rattle.rules.specs.Style.{anyLeft, anyRight, anyJunction, bordersOf}
 use Rattle.rules.specs.Widths as doc
 use Rattle.rules.specs.Widths.{contentOf, percentOf, widthOf, valueOf, lowerWidth, upperWidth, absoluteWidth, covering, evaluate, aboveAverage}
-use Rattle.rules.specs.Widths.{fittingAverage, splitAtAverage, longestPart}
+use Rattle.rules.specs.Widths.{withinAverage, atUpper, fittingAverage, splitAtAverage, longestPart}
 use Rattle.laws.proofs.Lists.{keep-yes, keep-no}
 use Rattle.laws.proofs.Cases.{oneIf-cond}
 use Rattle.constraint.specs.declared.Layout.{Layout}
 use Rattle.constraint.specs.declared.State.{State}
 use Rattle.constraint.specs.Widths.{choose, inOrder, column, longest, counting, visible, borders, percent, value, valued, lower, upper, average, Rule}
 use Rattle.constraint.specs.Widths.{absolute, covered, first}
-use Rattle.arrangement.specs.Arrange.{trimmed, untargeted, lowerRule, fitRule, splitRule}
+use Rattle.arrangement.specs.Arrange.{trimmed, untargeted, lowerRule, capped, fitRule, splitRule}
 use Rattle.arrangement.specs.Describes.{Describes}
 
 -- a column isn't hidden
@@ -141,9 +141,33 @@ module _ (l : Layout) (t : Table) (d : Describes l t) where
   unfolding lowerRule aboveAverage
   lower-same i s h m = rw (d .column i h, lower-as (s .visible) m (columnAt t i))
 
+  -- an upper bound, else the longest
+  capped-as : (i a : ℕ) → capped a (columnAt t i) (doc.longest t i) (doc.upper t (columnAt t i)) ≡ fittingAverage t i a
+  unfolding fittingAverage atUpper
+  capped-as i a = go (doc.upper t (columnAt t i))
+    where
+      else : Option ℕ → Option ℕ
+      else o = elim o as (λ x. Option ℕ) [ some w ↦ some w | none ↦ withinAverage (doc.longest t i) a ]
+
+      inner : (b : ℕ) (x : Bool) → elim x as (λ x. Option ℕ) [ true ↦ some (contentOf (columnAt t i) b) | false ↦ withinAverage (doc.longest t i) a ]
+          ≡ else (elim x as (λ x. Option ℕ) [ true ↦ some (contentOf (columnAt t i) b) | false ↦ none ])
+      inner b true = refl
+      inner b false = refl
+
+      go : (o : Option ℕ) → capped a (columnAt t i) (doc.longest t i) o
+          ≡ else (elim o as (λ x. Option ℕ) [
+            | some b ↦ elim (leb b (a + padding (columnAt t i)) && leb b (doc.longest t i + padding (columnAt t i))) [
+              | true ↦ some (contentOf (columnAt t i) b)
+              | false ↦ none
+            ]
+            | none ↦ none
+          ])
+      go (some b) = inner b (leb b (a + padding (columnAt t i)) && leb b (doc.longest t i + padding (columnAt t i)))
+      go none = refl
+
   pub fit-same : SameRule fitRule (fittingAverage t)
-  unfolding fitRule fittingAverage
-  fit-same i s h m = rw (d .column i h, d .longest i h, upper-as (s .visible) m (columnAt t i))
+  unfolding fitRule
+  fit-same i s h m = rw (d .column i h, d .longest i h, upper-as (s .visible) m (columnAt t i)) (capped-as i (average s))
 
   pub split-same : (parts : ℕ → ℕ → ℕ) → ((j a : ℕ) → j < l .count → parts j a ≡ longestPart t j a) → SameRule (splitRule parts) (splitAtAverage t)
   unfolding splitRule splitAtAverage

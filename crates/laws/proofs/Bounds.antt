@@ -16,12 +16,13 @@ use Rattle.rules.specs.declared.Width.{Width}
 use Rattle.rules.specs.declared.Column.{Column}
 use Rattle.rules.specs.Limits.{WidthLimits, ColumnLimits, LineLimits, CellLimits, RowLimits, TableLimits}
 use Rattle.rules.specs.Widths.{State, Rule, cellsOf, cellLongest, longest, numbers, visible, borders, percentOf, widthOf, valueOf, lowerWidth}
-use Rattle.rules.specs.Widths.{upperWidth, absoluteWidth, lower, upper, absolute, covering, evaluate, noted, first, untargeted, zeros, undecided}
-use Rattle.rules.specs.Widths.{average, averageIsSome, isUndecided, start, fix, fixAt, visit, pass, passes, aboveAverage, withinAverage}
-use Rattle.rules.specs.Widths.{fittingAverage, longestPart, shorterBy3, splitAtAverage, step1, step2, step3, share, shared, widened, step4, contents}
+use Rattle.rules.specs.Widths.{upperWidth, absoluteWidth, lower, upper, absolute, covering, evaluate, noted, first, belowLongest, untargeted, zeros, undecided}
+use Rattle.rules.specs.Widths.{average, averageIsSome, isUndecided, start, fix, fixAt, visit, pass, run, aboveAverage, withinAverage, atUpper}
+use Rattle.rules.specs.Widths.{fittingAverage, longestPart, shorterBy3, splitAtAverage, run1, run2, run3, step1, step2, step3, share, shared, widened, step4, contents}
 use Rattle.rules.specs.Widths.{lifted, contentOf}
 use Rattle.laws.proofs.Cases.{oneIf-le}
 use Rattle.laws.proofs.Text.{width-nil, width-le}
+use Rattle.laws.proofs.Runs.{run-keeps}
 use Rattle.laws.proofs.Settled.{zeros-le}
 use Rattle.laws.proofs.Contents.{length-steps}
 use Rattle.laws.proofs.Lists.{all-map, all-default, all-imp, all-append}
@@ -192,21 +193,28 @@ module _ (t : Table) (T : TableLimits t) where
   unfolding first
   first-step-400 j = noted-400 (evaluate t j) (evaluate-400 j)
 
-  pub untargeted-400 : (j : ℕ) → untargeted t j ≤ 400
-  unfolding untargeted
-  untargeted-400 j = go (upper t (columnAt t j)) (upper-400 j)
+  below-400 : (j : ℕ) → Offered (Most 400) (belowLongest t j)
+  unfolding belowLongest
+  below-400 j = go (upper t (columnAt t j)) (upper-400 j)
     where
-      inner : (b : ℕ) → b ≤ 400 → (x : Bool) → elim x as (λ x. ℕ) [ true ↦ contentOf (columnAt t j) b | false ↦ lifted (longest t j) ] ≤ 400
+      inner : (b : ℕ) → b ≤ 400 → (x : Bool) → Offered (Most 400) (elim x as (λ x. Option ℕ) [ true ↦ some (contentOf (columnAt t j) b) | false ↦ none ])
       inner b h true = omega arith
-      inner b h false = omega (arith, longest-200 j)
+      inner b h false = tt
 
       go : (o : Option ℕ) → Offered (Most 400) o
-          → elim o as (λ x. ℕ) [
-            | some b ↦ elim (ltb b (longest t j)) [ true ↦ contentOf (columnAt t j) b | false ↦ lifted (longest t j) ]
-            | none ↦
-                lifted (longest t j)
-          ] ≤ 400
+          → Offered (Most 400) (elim o as (λ x. Option ℕ) [
+            | some b ↦ elim (ltb b (longest t j)) [ true ↦ some (contentOf (columnAt t j) b) | false ↦ none ]
+            | none ↦ none
+          ])
       go (some b) h = inner b h (ltb b (longest t j))
+      go none h = tt
+
+  pub untargeted-400 : (j : ℕ) → untargeted t j ≤ 400
+  unfolding untargeted
+  untargeted-400 j = go (belowLongest t j) (below-400 j)
+    where
+      go : (o : Option ℕ) → Offered (Most 400) o → elim o as (λ x. ℕ) [ some w ↦ w | none ↦ lifted (longest t j) ] ≤ 400
+      go (some w) h = h
       go none h = omega (arith, longest-200 j)
 
 -- before the remainder is shared, no content width and no remaining width exceeds 400
@@ -243,21 +251,8 @@ unfolding pass
 small-pass rule h zero s k = k
 small-pass rule h (suc n) s k = small-visit rule h n (pass rule n s) (small-pass rule h n s k)
 
-pub small-passes : (begins : State → Bool) (rule : Rule) → SmallRule rule → (n fuel : ℕ) (s : State) → Small s → Small (passes begins rule n fuel s)
-unfolding passes
-small-passes begins rule h n zero s k = k
-small-passes begins rule h n (suc fuel) s k =
-    go (begins s) (ltb (undecided (pass rule n s)) (undecided s)) (small-pass rule h n s k)
-    (small-passes begins rule h n fuel (pass rule n s) (small-pass rule h n s k))
-  where
-    go : (b c : Bool) → Small (pass rule n s) → Small (passes begins rule n fuel (pass rule n s))
-        → Small (elim b as (λ x. State) [
-          | true ↦ elim c as (λ x. State) [ true ↦ passes begins rule n fuel (pass rule n s) | false ↦ pass rule n s ]
-          | false ↦ s
-        ])
-    go true true i m = m
-    go true false i m = i
-    go false c i m = k
+pub small-run : (begins : State → Bool) (rule : Rule) → SmallRule rule → (n fuel : ℕ) (s : State) → Small s → Small (run begins rule n fuel s .left)
+small-run begins rule h n fuel s k = run-keeps rule n Small (λ u m. small-pass rule h n u m) begins fuel s k
 
 within-400 : (l a : ℕ) → l ≤ 400 → Offered (Most 400) (withinAverage l a)
 unfolding withinAverage
@@ -294,27 +289,31 @@ module _ (t : Table) (T : TableLimits t) where
       go (some b) k = inner b k (ltb a b)
       go none k = tt
 
-  fitting-400 : SmallRule (fittingAverage t)
-  unfolding fittingAverage
-  fitting-400 j a h = go (upper t (columnAt t j)) (upper-400 t T j)
+  upper-bound-400 : SmallRule (atUpper t)
+  unfolding atUpper
+  upper-bound-400 j a h = go (upper t (columnAt t j)) (upper-400 t T j)
     where
-      l400 : longest t j ≤ 400
-      l400 = omega (arith, longest-200 t T j)
-
-      inner : (b : ℕ) → b ≤ 400 → (x : Bool) → Offered (Most 400) (elim x as (λ x. Option ℕ)
-          [ true ↦ some (contentOf (columnAt t j) b) | false ↦ withinAverage (longest t j) a ])
+      inner : (b : ℕ) → b ≤ 400 → (x : Bool) → Offered (Most 400) (elim x as (λ x. Option ℕ) [ true ↦ some (contentOf (columnAt t j) b) | false ↦ none ])
       inner b k true = omega arith
-      inner b k false = within-400 (longest t j) a l400
+      inner b k false = tt
 
       go : (o : Option ℕ) → Offered (Most 400) o → Offered (Most 400) (elim o as (λ x. Option ℕ) [
         | some b ↦ elim (leb b (a + padding (columnAt t j)) && leb b (longest t j + padding (columnAt t j))) [
           | true ↦ some (contentOf (columnAt t j) b)
-          | false ↦ withinAverage (longest t j) a
+          | false ↦ none
         ]
-        | none ↦ withinAverage (longest t j) a
+        | none ↦ none
       ])
       go (some b) k = inner b k (leb b (a + padding (columnAt t j)) && leb b (longest t j + padding (columnAt t j)))
-      go none k = within-400 (longest t j) a l400
+      go none k = tt
+
+  fitting-400 : SmallRule (fittingAverage t)
+  unfolding fittingAverage
+  fitting-400 j a h = go (atUpper t j a) (upper-bound-400 j a h)
+    where
+      go : (o : Option ℕ) → Offered (Most 400) o → Offered (Most 400) (elim o as (λ x. Option ℕ) [ some w ↦ some w | none ↦ withinAverage (longest t j) a ])
+      go (some w) k = k
+      go none k = within-400 (longest t j) a (omega (arith, longest-200 t T j))
 
   splitting-400 : SmallRule (splitAtAverage t)
   unfolding splitAtAverage shorterBy3
@@ -330,16 +329,16 @@ module _ (t : Table) (T : TableLimits t) where
   small-start = record { widths = all-numbers 400 (first t) (first-step-400 t T) (numbers t); remaining = omega (arith, T .target) }
 
   pub small-step1 : (s : State) → Small s → Small (step1 t s)
-  unfolding step1
-  small-step1 s k = small-passes (λ s. true) (aboveAverage t) above-400 (length (t .columns)) (suc (length (t .columns))) s k
+  unfolding step1 run1
+  small-step1 s k = small-run (λ s. true) (aboveAverage t) above-400 (length (t .columns)) (suc (length (t .columns))) s k
 
   pub small-step2 : (s : State) → Small s → Small (step2 t s)
-  unfolding step2
-  small-step2 s k = small-passes averageIsSome (fittingAverage t) fitting-400 (length (t .columns)) (suc (length (t .columns))) s k
+  unfolding step2 run2
+  small-step2 s k = small-run averageIsSome (fittingAverage t) fitting-400 (length (t .columns)) (suc (length (t .columns))) s k
 
   pub small-step3 : (s : State) → Small s → Small (step3 t s)
-  unfolding step3
-  small-step3 s k = small-passes (λ s. true) (splitAtAverage t) splitting-400 (length (t .columns)) (suc (length (t .columns))) s k
+  unfolding step3 run3
+  small-step3 s k = small-run (λ s. true) (splitAtAverage t) splitting-400 (length (t .columns)) (suc (length (t .columns))) s k
 
   shared-801 : (s : State) → Small s → undecided s ≤ 400 → (j : ℕ) → shared s j ≤ 801
   unfolding shared

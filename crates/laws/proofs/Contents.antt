@@ -11,9 +11,10 @@ use lib.Dec.{eqb, ltb}
 use borrow.Author.Tests.{eqb-true, eqb-false}
 use Rattle.rules.specs.Text.{orElse, keep, All}
 use Rattle.rules.specs.Sheet.{Table, columnAt, isHidden}
-use Rattle.rules.specs.Widths.{State, Rule, numbers, first, untargeted, contents, zeros, undecided, average, averageIsSome, start, fix, fixAt, visit}
-use Rattle.rules.specs.Widths.{pass, passes, aboveAverage, fittingAverage, splitAtAverage, share, shared, widened, step1, step2, step3, step4}
+use Rattle.rules.specs.Widths.{State, Rule, numbers, first, belowLongest, untargeted, contents, zeros, undecided, average, averageIsSome, start, fix, fixAt, visit}
+use Rattle.rules.specs.Widths.{pass, run, aboveAverage, fittingAverage, splitAtAverage, share, shared, widened, run1, run2, run3, step1, step2, step3, step4}
 use Rattle.rules.specs.Widths.{visible, lifted, contentOf, upper, longest, isUndecided}
+use Rattle.laws.proofs.Runs.{run-keeps}
 use Rattle.laws.proofs.Lists.{all-map, all-getD, length-upFrom, all-upFrom}
 
 -- steps keep the number of columns
@@ -35,20 +36,9 @@ unfolding pass
 length-pass rule zero s = refl
 length-pass rule (suc n) s = length-visit rule n (pass rule n s) ∙ length-pass rule n s
 
-pub length-passes : (begins : State → Bool) (rule : Rule) (n fuel : ℕ) (s : State) → length (passes begins rule n fuel s .widths) ≡ length (s .widths)
-unfolding passes
-length-passes begins rule n zero s = refl
-length-passes begins rule n (suc fuel) s = go (begins s) (ltb (undecided (pass rule n s)) (undecided s))
-    (length-passes begins rule n fuel (pass rule n s))
-  where
-    go : (b c : Bool) → length (passes begins rule n fuel (pass rule n s) .widths) ≡ length (pass rule n s .widths)
-        → length ((elim b as (λ x. State) [
-          | true ↦ elim c as (λ x. State) [ true ↦ passes begins rule n fuel (pass rule n s) | false ↦ pass rule n s ]
-          | false ↦ s
-        ]) .widths) ≡ length (s .widths)
-    go true true ih = ih ∙ length-pass rule n s
-    go true false ih = length-pass rule n s
-    go false c ih = refl
+pub length-run : (begins : State → Bool) (rule : Rule) (n fuel : ℕ) (s : State) → length (run begins rule n fuel s .left .widths) ≡ length (s .widths)
+length-run begins rule n fuel s =
+    run-keeps rule n (λ u. length (u .widths) ≡ length (s .widths)) (λ u e. length-pass rule n u ∙ e) begins fuel s refl
 
 length-numbers : (t : Table) → length (numbers t) ≡ length (t .columns)
 unfolding numbers
@@ -59,16 +49,16 @@ unfolding start
 length-start t = length-map (numbers t) (first t) ∙ length-numbers t
 
 pub length-step1 : (t : Table) (s : State) → length (step1 t s .widths) ≡ length (s .widths)
-unfolding step1
-length-step1 t s = length-passes (λ s. true) (aboveAverage t) (length (t .columns)) (suc (length (t .columns))) s
+unfolding step1 run1
+length-step1 t s = length-run (λ s. true) (aboveAverage t) (length (t .columns)) (suc (length (t .columns))) s
 
 pub length-step2 : (t : Table) (s : State) → length (step2 t s .widths) ≡ length (s .widths)
-unfolding step2
-length-step2 t s = length-passes averageIsSome (fittingAverage t) (length (t .columns)) (suc (length (t .columns))) s
+unfolding step2 run2
+length-step2 t s = length-run averageIsSome (fittingAverage t) (length (t .columns)) (suc (length (t .columns))) s
 
 pub length-step3 : (t : Table) (s : State) → length (step3 t s .widths) ≡ length (s .widths)
-unfolding step3
-length-step3 t s = length-passes (λ s. true) (splitAtAverage t) (length (t .columns)) (suc (length (t .columns))) s
+unfolding step3 run3
+length-step3 t s = length-run (λ s. true) (splitAtAverage t) (length (t .columns)) (suc (length (t .columns))) s
 
 pub length-steps : (t : Table) → length (step3 t (step2 t (step1 t (start t))) .widths) ≡ length (t .columns)
 length-steps t = length-step3 t (step2 t (step1 t (start t))) ∙ length-step2 t (step1 t (start t)) ∙ length-step1 t (start t) ∙ length-start t
@@ -108,18 +98,18 @@ orElse-some zero b h = h
 orElse-some (suc a) b h = omega arith
 
 untargeted-some : (t : Table) (j : ℕ) → 1 ≤ untargeted t j
-unfolding untargeted
+unfolding untargeted belowLongest
 untargeted-some t j = go (upper t (columnAt t j))
   where
-    inner : (b : ℕ) (c : Bool) → 1 ≤ elim c as (λ x. ℕ) [ true ↦ contentOf (columnAt t j) b | false ↦ lifted (longest t j) ]
+    inner : (b : ℕ) (c : Bool) → 1 ≤ elim (elim c as (λ x. Option ℕ) [ true ↦ some (contentOf (columnAt t j) b) | false ↦ none ]) as (λ x. ℕ)
+        [ some w ↦ w | none ↦ lifted (longest t j) ]
     inner b true = omega arith
     inner b false = omega arith
 
-    go : (o : Option ℕ) → 1 ≤ elim o as (λ x. ℕ) [
-      | some b ↦ elim (ltb b (longest t j))
-          [ true ↦ contentOf (columnAt t j) b | false ↦ lifted (longest t j) ]
-      | none ↦ lifted (longest t j)
-    ]
+    go : (o : Option ℕ) → 1 ≤ elim (elim o as (λ x. Option ℕ) [
+      | some b ↦ elim (ltb b (longest t j)) [ true ↦ some (contentOf (columnAt t j) b) | false ↦ none ]
+      | none ↦ none
+    ]) as (λ x. ℕ) [ some w ↦ w | none ↦ lifted (longest t j) ]
     go (some b) = inner b (ltb b (longest t j))
     go none = omega arith
 

@@ -5,6 +5,7 @@ pub mod Lists
 pub mod Fuel
 pub mod Split
 pub mod Keeps
+pub mod Runs
 pub mod Contents
 pub mod Bounds
 pub mod Sizes

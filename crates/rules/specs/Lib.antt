@@ -12,6 +12,8 @@ pub mod Widths
 pub mod CellLines
 pub mod Page
 pub mod Calls
+pub mod Fixing
+pub mod Reasons
 pub mod Editor
 pub mod Writer
 pub mod Saving
@@ -21,3 +23,4 @@ pub mod Quote
 pub mod Opened
 pub mod Examples
 pub mod WriterExamples
+pub mod ReasonExamples

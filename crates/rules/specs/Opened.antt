@@ -6,12 +6,13 @@ use Rattle.rules.specs.Format.{width, column, line, cellBy, rowBy, table
 use Rattle.rules.specs.Style.{bordersOf}
 use Rattle.rules.specs.Wrap.{onto, pieces, glue, room, tight, full, act, last, place, weight, split, wrapLine, wrapLines, exceeds, shownIndicator, cutLine, cut}
 use Rattle.rules.specs.Widths.{cellsOf, cellLongest, longest, numbers, visible, borders, percentOf, widthOf, valueOf, lowerWidth, upperWidth}
-use Rattle.rules.specs.Widths.{absoluteWidth, lower, upper, absolute, covering, evaluate, noted, first, untargeted, zeros, taken, start, fix}
-use Rattle.rules.specs.Widths.{fixAt, visit, pass, passes, aboveAverage, withinAverage, fittingAverage, trialParts, cellParts, longestPart}
-use Rattle.rules.specs.Widths.{shorterBy3, splitAtAverage, step1, step2, step3, share, shared, widened, step4, contents}
+use Rattle.rules.specs.Widths.{absoluteWidth, lower, upper, absolute, covering, evaluate, noted, first, belowLongest, untargeted, zeros, taken, start, fix}
+use Rattle.rules.specs.Widths.{fixAt, visit, pass, run, aboveAverage, withinAverage, atUpper, fittingAverage, trialParts, cellParts, longestPart}
+use Rattle.rules.specs.Widths.{shorterBy3, splitAtAverage, run1, run2, run3, step1, step2, step3, share, shared, widened, step4, contents}
 use Rattle.rules.specs.Page.{area, visibleWidths, wrapped, cellLines, height, areaAt, areas, joinedMore, joined, lineOf, ruled, textLine}
 use Rattle.rules.specs.Page.{shown, headed, ruledMore, ruledRows, rowText, framed, pageLines, closed, page, lineAt, lineCount, byteCount}
-use Rattle.rules.specs.Calls.{countOf, count, putOr, printOf, printPage, printLineOf, printLine}
+use Rattle.rules.specs.Reasons.{stepNumber, untargetedStep, fittedStep, targetedStep, stepOf, isWidened, longestPrinted, difference, reasonsOf, reasons}
+use Rattle.rules.specs.Calls.{asArray, countOf, count, putOr, printOf, printPage, printLineOf, printLine}
 
 unfoldable texts : Unit {0}
 unfolding greatest sum upFrom keep flat charactersIn textWidth bytesOf firstOf restOf
@@ -30,11 +31,11 @@ unfolding cellsOf cellLongest longest numbers visible borders percentOf widthOf 
 constraining = tt
 
 unfoldable passing : Unit {0}
-unfolding evaluate noted first untargeted zeros taken start fix fixAt visit pass passes aboveAverage withinAverage fittingAverage
+unfolding evaluate noted first belowLongest untargeted zeros taken start fix fixAt visit pass run aboveAverage withinAverage atUpper fittingAverage
 passing = tt
 
 unfoldable stepping : Unit {0}
-unfolding trialParts cellParts longestPart shorterBy3 splitAtAverage step1 step2 step3 share shared widened step4 contents
+unfolding trialParts cellParts longestPart shorterBy3 splitAtAverage run1 run2 run3 step1 step2 step3 share shared widened step4 contents
 stepping = tt
 
 unfoldable drawing : Unit {0}
@@ -49,6 +50,10 @@ unfoldable calls : Unit {0}
 unfolding countOf count putOr printOf printPage printLineOf printLine
 calls = tt
 
+unfoldable reporting : Unit {0}
+unfolding asArray stepNumber untargetedStep fittedStep targetedStep stepOf isWidened longestPrinted difference reasonsOf reasons
+reporting = tt
+
 unfoldable pub rules : Unit {0}
-unfolding texts reading wrapping constraining passing stepping drawing framing calls
+unfolding texts reading wrapping constraining passing stepping drawing framing calls reporting
 rules = tt

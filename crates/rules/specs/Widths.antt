@@ -100,13 +100,21 @@ noted none = 0
 unfoldable pub first : Table → ℕ → ℕ
 first t j = noted (evaluate t j)
 
--- no target, or `Disabled`: the longest; if an upper bound is below the longest (padding not counted), the bound made content
-unfoldable pub untargeted : Table → ℕ → ℕ
-untargeted t j =
+-- "no target, or `Disabled`"
+abbrev pub isUntargeted : Table → Bool
+isUntargeted t = eqb (t .target) 0 || eqb (t .arrangement) 0
+
+-- "if an upper bound is below the longest (padding not counted), the bound made content"
+unfoldable pub belowLongest : Table → ℕ → Option ℕ
+belowLongest t j =
     elim (upper t (columnAt t j)) [
-      | some b ↦ elim (ltb b (longest t j)) [ true ↦ contentOf (columnAt t j) b | false ↦ lifted (longest t j) ]
-      | none ↦ lifted (longest t j)
+      | some b ↦ elim (ltb b (longest t j)) [ true ↦ some (contentOf (columnAt t j) b) | false ↦ none ]
+      | none ↦ none
     ]
+
+-- then that; else the longest
+unfoldable pub untargeted : Table → ℕ → ℕ
+untargeted t j = elim (belowLongest t j) [ some w ↦ w | none ↦ lifted (longest t j) ]
 
 -- what is noted of each column, and the remaining width
 pub record State : Type 0 where
@@ -159,13 +167,26 @@ unfoldable pub pass : Rule → ℕ → State → State
 pass rule zero s = s
 pass rule (suc n) s = visit rule n (pass rule n s)
 
+-- a step's run: the states in which its passes begin, one after another, and the state that the last pass leaves
+pub record Run : Type 0 where
+  pub begun : List State
+  pub left : State
+
+-- no further pass
+abbrev pub ended : State → Run
+ended s = record { begun = []; left = s }
+
+-- a pass that begins in s, and those after it
+abbrev pub going : State → Run → Run
+going s r = record { begun = s ∷ r .begun; left = r .left }
+
 -- a pass that fixed a column is repeated; each that is repeated fixed one of the n columns, so that n + 1 passes suffice
-unfoldable pub passes : (State → Bool) → Rule → ℕ → ℕ → State → State
-passes begins rule n zero s = s
-passes begins rule n (suc fuel) s =
+unfoldable pub run : (State → Bool) → Rule → ℕ → ℕ → State → Run
+run begins rule n zero s = ended s
+run begins rule n (suc fuel) s =
     elim (begins s) [
-      | true ↦ let u = pass rule n s in elim (ltb (undecided u) (undecided s)) [ true ↦ passes begins rule n fuel u | false ↦ u ]
-      | false ↦ s
+      | true ↦ let u = pass rule n s in going s (elim (ltb (undecided u) (undecided s)) [ true ↦ run begins rule n fuel u | false ↦ ended u ])
+      | false ↦ ended s
     ]
 
 -- 1. Lower bounds above the average are fixed
@@ -180,17 +201,18 @@ aboveAverage t j a =
 unfoldable pub withinAverage : ℕ → ℕ → Option ℕ
 withinAverage l a = elim (leb l a) [ true ↦ some l | false ↦ none ]
 
--- 2. Fix at an upper bound that is at most average plus padding and at most longest plus padding; else at the longest
-unfoldable pub fittingAverage : Table → Rule
-fittingAverage t j a =
+-- 2. Fix at an upper bound that is at most average plus padding and at most longest plus padding
+unfoldable pub atUpper : Table → Rule
+atUpper t j a =
     let c = columnAt t j in
     elim (upper t c) [
-      | some b ↦ elim (leb b (a + padding c) && leb b (longest t j + padding c)) [
-        | true ↦ some (contentOf c b)
-        | false ↦ withinAverage (longest t j) a
-      ]
-      | none ↦ withinAverage (longest t j) a
+      | some b ↦ elim (leb b (a + padding c) && leb b (longest t j + padding c)) [ true ↦ some (contentOf c b) | false ↦ none ]
+      | none ↦ none
     ]
+
+-- 2. At an upper bound; else at the longest
+unfoldable pub fittingAverage : Table → Rule
+fittingAverage t j a = elim (atUpper t j a) [ some w ↦ some w | none ↦ withinAverage (longest t j) a ]
 
 -- 2. A pass begins only if the average isn't 0
 abbrev pub averageIsSome : State → Bool
@@ -215,15 +237,24 @@ shorterBy3 l a = elim (leb (l + 3) a) [ true ↦ some l | false ↦ none ]
 unfoldable pub splitAtAverage : Table → Rule
 splitAtAverage t j a = shorterBy3 (longestPart t j a) a
 
--- steps 1 to 3
+-- steps 1 to 3: their runs, and what they come to
+unfoldable pub run1 : Table → State → Run
+run1 t s = run (λ s. true) (aboveAverage t) (length (t .columns)) (suc (length (t .columns))) s
+
+unfoldable pub run2 : Table → State → Run
+run2 t s = run averageIsSome (fittingAverage t) (length (t .columns)) (suc (length (t .columns))) s
+
+unfoldable pub run3 : Table → State → Run
+run3 t s = run (λ s. true) (splitAtAverage t) (length (t .columns)) (suc (length (t .columns))) s
+
 unfoldable pub step1 : Table → State → State
-step1 t s = passes (λ s. true) (aboveAverage t) (length (t .columns)) (suc (length (t .columns))) s
+step1 t s = run1 t s .left
 
 unfoldable pub step2 : Table → State → State
-step2 t s = passes averageIsSome (fittingAverage t) (length (t .columns)) (suc (length (t .columns))) s
+step2 t s = run2 t s .left
 
 unfoldable pub step3 : Table → State → State
-step3 t s = passes (λ s. true) (splitAtAverage t) (length (t .columns)) (suc (length (t .columns))) s
+step3 t s = run3 t s .left
 
 -- share k of an amount shared evenly by n, the first ones taking the excess
 unfoldable pub share : ℕ → ℕ → ℕ → ℕ
@@ -233,13 +264,13 @@ share amount n k = amount / n + oneIf (ltb k (amount % n))
 unfoldable pub shared : State → ℕ → ℕ
 shared s j = orElse (getD (s .widths) j 0) (share (max (undecided s) (s .remaining)) (undecided s) (zeros (take j (s .widths))))
 
+-- a visible column's share of the remainder
+abbrev pub ofRemainder : Table → State → ℕ → ℕ
+ofRemainder t s j = share (s .remaining) (length (visible t)) (length (keep (λ i. ltb i j) (visible t)))
+
 -- 4. If none is left and arrangement is 2, the remainder is shared so among visible columns
 unfoldable pub widened : Table → State → ℕ → ℕ
-widened t s j =
-    elim (isHidden (columnAt t j)) [
-      | true ↦ getD (s .widths) j 0
-      | false ↦ getD (s .widths) j 0 + share (s .remaining) (length (visible t)) (length (keep (λ i. ltb i j) (visible t)))
-    ]
+widened t s j = elim (isHidden (columnAt t j)) [ true ↦ getD (s .widths) j 0 | false ↦ getD (s .widths) j 0 + ofRemainder t s j ]
 
 unfoldable pub step4 : Table → State → List ℕ
 step4 t s =
@@ -251,7 +282,7 @@ step4 t s =
 -- each column's content width
 unfoldable pub contents : Table → List ℕ
 contents t =
-    elim (eqb (t .target) 0 || eqb (t .arrangement) 0) [
+    elim (isUntargeted t) [
       | true ↦ map (λ j. orElse (first t j) (untargeted t j)) (numbers t)
       | false ↦ step4 t (step3 t (step2 t (step1 t (start t))))
     ]
