@@ -19,7 +19,8 @@ use Rattle.laws.proofs.Bounds.{Most, small-start, small-step1, small-step2, sma
 use Rattle.constraint.specs.declared.Layout.{Layout}
 use Rattle.constraint.specs.declared.State.{State}
 use Rattle.constraint.specs.Widths.{choose, pass}
-use Rattle.arrangement.specs.Arrange.{untargeted, targeted, step1, step2, step3, dynamic, started, arranged}
+use Rattle.arrangement.specs.Arrange.{untargeted, targeted, step1, step2, step3, plainly, dynamic, started, arranged}
+use Rattle.arrangement.specs.declared.dynamic.Course.{Course}
 use Rattle.arrangement.specs.Describes.{Describes}
 use Rattle.sharing.specs.Limits.{Small}
 use Rattle.sharing.specs.Share.{finished}
@@ -48,7 +49,7 @@ module _ (l : Layout) (t : Table) (d : Describes l t) where
     steps-agree : Agrees l t (step3 parts l (step2 l (step1 l (targeted l (started l))))) (doc.step3 t (doc.step2 t (doc.step1 t (doc.start t))))
     steps-agree = step3-agrees l t d parts p _ _ (step2-agrees l t d _ _ (step1-agrees l t d _ _ (targeted-agrees l t d)))
 
-    pub arranged-widths : Widths l (contents t) (arranged parts l)
+    pub arranged-widths : Widths l (contents t) (arranged parts l .state)
     unfolding arranged contents
     arranged-widths =
         go (eqb (l .target) 0) (eqb (t .target) 0) (eqb (l .arrangement) 0) (eqb (t .arrangement) 0) (ap (λ (n : ℕ). eqb n 0) (d .target))
@@ -59,7 +60,8 @@ module _ (l : Layout) (t : Table) (d : Describes l t) where
               | true ↦ map (λ j. orElse (doc.first t j) (doc.untargeted t j)) (doc.numbers t)
               | false ↦ doc.step4 t (doc.step3 t (doc.step2 t (doc.step1 t (doc.start t))))
             ])
-            (choose x (pass untargeted l (started l)) (choose b (pass untargeted l (started l)) (dynamic parts l (started l))))
+            (choose x (plainly (started l .decided) (pass untargeted l (started l)))
+            (choose b (plainly (started l .decided) (pass untargeted l (started l))) (dynamic parts l (started l))) .state)
         go true true b c e q = untargeted-widths l t d
         go false false true true e q = untargeted-widths l t d
         go false false false false e q = finished-widths l t d _ _ steps-agree
@@ -69,8 +71,10 @@ module _ (l : Layout) (t : Table) (d : Describes l t) where
         go false false false true e q = absurd (unlike true refl (sym q))
 
     -- the content widths, and 0 past the columns
-    pub arranged-contents : arranged parts l .widths ≡ asArray 0 (contents t)
-    arranged-contents = let w = arranged-widths in padded-as (l .count) (arranged parts l .widths) (contents t) (w .long) (d .few) (w .widths) (w .past)
+    pub arranged-contents : arranged parts l .state .widths ≡ asArray 0 (contents t)
+    arranged-contents =
+        let w = arranged-widths in
+        padded-as (l .count) (arranged parts l .state .widths) (contents t) (w .long) (d .few) (w .widths) (w .past)
 
     -- what the steps come to, and that it is small
     module _ (m : TableLimits t) (s a b c e : State) (q : s ≡ started l) (e₀ : a ≡ targeted l s) (e₁ : b ≡ step1 l a) (e₂ : c ≡ step2 l b)
@@ -82,5 +86,6 @@ module _ (l : Layout) (t : Table) (d : Describes l t) where
       steps-small =
           rw all (small-as _ _ steps-agree (small-step3 t m _ (small-step2 t m _ (small-step1 t m _ (small-start t m)))))
 
-      pub steps-finish : (r : State) → r ≡ finished l e → r ≡ dynamic parts l s
-      steps-finish r z = z ∙ ap (finished l) (e₃ ∙ ap (step3 parts l) (e₂ ∙ ap (step2 l) (e₁ ∙ ap (step1 l) e₀)))
+      pub steps-finish : (r : State) → r ≡ finished l e
+          → _≡_ {A = Course} (record { first = a .decided; lower = b .decided; fitted = c .decided; split = e .decided; before = e .widths; state = r }) (dynamic parts l s)
+      steps-finish r z = rw (z, e₃, e₂, e₁, e₀)

@@ -22,12 +22,12 @@ use Rattle.table.specs.Held.{settingsOf, columnsOf}
 use Rattle.table.specs.declared.records.Settings.{Settings}
 use Rattle.table.specs.declared.records.Columns.{Columns}
 use Rattle.constraint.specs.declared.Layout.{Layout}
-use Rattle.constraint.specs.declared.State.{State}
 use Rattle.constraint.specs.Widths.{inOrder, column}
 use Rattle.arrangement.specs.declared.Widths.{Widths}
+use Rattle.arrangement.specs.declared.dynamic.Course.{Course}
 use Rattle.arrangement.specs.Arrange.{arranged}
 use Rattle.arrangement.specs.Describes.{Describes}
-use Rattle.arrangement.specs.Widths.{lineFrom, contentFrom, styleFrom, marking, marked, arrangedWidths}
+use Rattle.arrangement.specs.Widths.{lineFrom, contentFrom, styleFrom, marking, marked, widthsFrom, arrangedWidths}
 use Rattle.arrangement.proofs.Offers.{hidden-as}
 use Rattle.arrangement.proofs.Arranged.{arranged-contents}
 use Rattle.arrangement.proofs.Placed.{map-last}
@@ -90,47 +90,58 @@ module _ (t : Table) (limits : TableLimits t) (x : Columns) (columns : x ≡ col
         longest = λ j k. rw i (longest-at j (omega (arith, count-fits)));
       }
 
--- flags set one after another
-set-padded : (n : ℕ) (xs : List Bool) (v : Bool) → length xs ≡ n → n < mostColumns → set (asArray false xs) n v ≡ asArray false (xs ++ (v ∷ []))
+-- entries set one after another
+set-padded : {A : Type 0} (a : A) (n : ℕ) (xs : List A) (v : A) → length xs ≡ n → n < mostColumns → set (asArray a xs) n v ≡ asArray a (xs ++ (v ∷ []))
 unfolding asArray
-set-padded n xs v k h =
+set-padded a n xs v k h =
     let m = length-append xs (v ∷ []) in
     let q : mostColumns - length xs ≡ suc (mostColumns - length (xs ++ (v ∷ []))) = omega arith in
-    rw q (set-at xs false (replicate (mostColumns - length (xs ++ (v ∷ []))) false) v n k)
-    ∙ sym (append-assoc xs (v ∷ []) (replicate (mostColumns - length (xs ++ (v ∷ []))) false))
+    rw q (set-at xs a (replicate (mostColumns - length (xs ++ (v ∷ []))) a) v n k)
+    ∙ sym (append-assoc xs (v ∷ []) (replicate (mostColumns - length (xs ++ (v ∷ []))) a))
 
-none-padded : replicate mostColumns false ≡ asArray false []
+none-padded : {A : Type 0} (a : A) → replicate mostColumns a ≡ asArray a []
 unfolding asArray
-none-padded = refl
+none-padded a = refl
 
-flags-none : (p : ℕ → Bool) → map p (upFrom 0 0) ≡ []
+entries-none : {A : Type 0} (p : ℕ → A) → map p (upFrom 0 0) ≡ []
 unfolding upFrom
-flags-none p = refl
+entries-none p = refl
 
-flags-padded : (p : ℕ → Bool) (n : ℕ) → n ≤ mostColumns → inOrder (λ i fs. set fs i (p i)) n (replicate mostColumns false) ≡ asArray false (map p (upFrom 0 n))
+entries-padded : {A : Type 0} (a : A) (p : ℕ → A) (n : ℕ) → n ≤ mostColumns
+    → inOrder (λ i xs. set xs i (p i)) n (replicate mostColumns a) ≡ asArray a (map p (upFrom 0 n))
 unfolding inOrder
-flags-padded p zero h = none-padded ∙ ap (asArray false) (sym (flags-none p))
-flags-padded p (suc n) h =
+entries-padded a p zero h = none-padded a ∙ ap (asArray a) (sym (entries-none p))
+entries-padded {A} a p (suc n) h =
     let k : length (map p (upFrom 0 n)) ≡ n = length-map (upFrom 0 n) p ∙ length-upFrom 0 n in
-    ap (λ (fs : List Bool). set fs n (p n)) (flags-padded p n (omega arith)) ∙ set-padded n (map p (upFrom 0 n)) (p n) k h
-    ∙ ap (asArray false) (sym (map-last p n))
+    ap (λ (xs : List A). set xs n (p n)) (entries-padded a p n (omega arith)) ∙ set-padded a n (map p (upFrom 0 n)) (p n) k h
+    ∙ ap (asArray a) (sym (map-last p n))
+
+-- widths and flags
+pub widths-from : (l : Layout) (c : Course) (fs : List Bool) → fs ≡ marked l
+    → _≡_ {A = Widths} (record { count = l .count; content = c .state .widths; hidden = fs }) (widthsFrom l c)
+widths-from l c fs e = ap (λ (x : List Bool). record { count = l .count; content = c .state .widths; hidden = x }) e
 
 -- a column is marked
 pub marking-at : (l : Layout) (i : ℕ) (fs : List Bool) (b : Bool) → b ≡ isHidden (column l i) → set fs i b ≡ marking l i fs
 marking-at l i fs b e = ap (λ (x : Bool). set fs i x) e
 
 module _ (l : Layout) (t : Table) (d : Describes l t) where
-  marked-as : marked l ≡ asArray false (map (λ j. isHidden (columnAt t j)) (doc.numbers t))
+  -- an entry for each column
+  pub entries-as : {A : Type 0} (a : A) (p q : ℕ → A) → ((j : ℕ) → j < l .count → p j ≡ q j)
+      → inOrder (λ i xs. set xs i (p i)) (l .count) (replicate mostColumns a) ≡ asArray a (map q (doc.numbers t))
   unfolding doc.numbers
-  marked-as =
-      let one = map-below (λ j. isHidden (column l j)) (λ j. isHidden (columnAt t j)) 0 (l .count) (l .count) (omega arith) (hidden-as l t d) in
-      let all = ap (λ (n : ℕ). map (λ j. isHidden (columnAt t j)) (upFrom 0 n)) (d .count) in
-      flags-padded (λ j. isHidden (column l j)) (l .count) (d .few) ∙ ap (asArray false) (one ∙ all)
+  entries-as {A} a p q h =
+      let one = map-below p q 0 (l .count) (l .count) (omega arith) h in
+      let all = ap (λ (n : ℕ). map q (upFrom 0 n)) (d .count) in
+      entries-padded a p (l .count) (d .few) ∙ ap (asArray a) (one ∙ all)
+
+  marked-as : marked l ≡ asArray false (map (λ j. isHidden (columnAt t j)) (doc.numbers t))
+  marked-as = entries-as false (λ j. isHidden (column l j)) (λ j. isHidden (columnAt t j)) (hidden-as l t d)
 
   -- what is answered
-  pub widths-at : (s : State) (fs : List Bool) → s ≡ arranged (longestPart t) l → fs ≡ marked l
-      → _≡_ {A = Widths} (record { count = l .count; content = s .widths; hidden = fs }) (arrangedWidths t)
+  pub widths-at : (c : Course) (w : Widths) → c ≡ arranged (longestPart t) l → w ≡ widthsFrom l c → w ≡ arrangedWidths t
   unfolding arrangedWidths
-  widths-at s fs e f =
-      let w : s .widths ≡ asArray 0 (contents t) = ap (λ (z : State). z .widths) e ∙ arranged-contents l t d (longestPart t) (λ j a h. refl) in
-      rw (w, f, marked-as, d .count)
+  widths-at c w e f =
+      let content : c .state .widths ≡ asArray 0 (contents t) =
+      ap (λ (z : Course). z .state .widths) e ∙ arranged-contents l t d (longestPart t) (λ j a h. refl) in
+      f ∙ rw (content, marked-as, d .count)

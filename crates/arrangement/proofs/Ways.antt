@@ -18,7 +18,8 @@ use Rattle.constraint.specs.declared.Offer.{Offer}
 use Rattle.constraint.specs.Widths.{column, longest, bound, offered, lower, upper, average, visible, bit, decided, pass}
 use Rattle.constraint.proofs.Cases.{if-true, if-false, if-eq, if-ne}
 use Rattle.arrangement.specs.Arrange.{trimmed, untargeted, charged, remaining, targeted, raised, lowerRule, capped, fitRule, splitRule, fitPass}
-use Rattle.arrangement.specs.Arrange.{begun, started, dynamic, arranged}
+use Rattle.arrangement.specs.Arrange.{begun, started, plainly, dynamic, arranged}
+use Rattle.arrangement.specs.declared.dynamic.Course.{Course}
 use Rattle.rules.specs.Sheet.{padding, isHidden, mostColumns}
 use Rattle.rules.specs.Widths.{withinAverage, shorterBy3}
 use Rattle.style.specs.Column.{content}
@@ -118,17 +119,19 @@ pub begun-at : (t : Layout) (v : ℕ) → v ≡ visible t
     → _≡_ {A = State} (record { widths = replicate mostColumns 0; decided = 0; remaining = 0; visible = v }) (begun t)
 begun-at t v e = ap (λ (k : ℕ). record { widths = replicate mostColumns 0; decided = 0; remaining = 0; visible = k }) e
 
-module _ (parts : ℕ → ℕ → ℕ) (t : Layout) (s u : State) (e : s ≡ started t) where
-  pub arranged-untargeted : t .target ≡ 0 → u ≡ pass untargeted t s → u ≡ arranged parts t
-  unfolding arranged
-  arranged-untargeted h q = if-eq (t .target) 0 _ _ u h (q ∙ ap (pass untargeted t) e)
+module _ (parts : ℕ → ℕ → ℕ) (t : Layout) (s : State) (e : s ≡ started t) (r : Course) where
+  plain : (u : State) → u ≡ pass untargeted t s → r ≡ plainly (s .decided) u → r ≡ plainly (started t .decided) (pass untargeted t (started t))
+  plain u q p = p ∙ rw (q, e)
 
-  pub arranged-disabled : (t .target ≡ 0 → ⊥) → t .arrangement ≡ 0 → u ≡ pass untargeted t s → u ≡ arranged parts t
+  pub arranged-untargeted : (u : State) → t .target ≡ 0 → u ≡ pass untargeted t s → r ≡ plainly (s .decided) u → r ≡ arranged parts t
   unfolding arranged
-  arranged-disabled h a q =
-      if-ne (t .target) 0 _ _ u h (if-eq (t .arrangement) 0 _ _ u a (q ∙ ap (pass untargeted t) e))
+  arranged-untargeted u h q p = if-eq (t .target) 0 _ _ r h (plain u q p)
 
-  pub arranged-dynamic : (t .target ≡ 0 → ⊥) → (t .arrangement ≡ 0 → ⊥) → u ≡ dynamic parts t s → u ≡ arranged parts t
+  pub arranged-disabled : (u : State) → (t .target ≡ 0 → ⊥) → t .arrangement ≡ 0 → u ≡ pass untargeted t s → r ≡ plainly (s .decided) u → r ≡ arranged parts t
+  unfolding arranged
+  arranged-disabled u h a q p = if-ne (t .target) 0 _ _ r h (if-eq (t .arrangement) 0 _ _ r a (plain u q p))
+
+  pub arranged-dynamic : (t .target ≡ 0 → ⊥) → (t .arrangement ≡ 0 → ⊥) → r ≡ dynamic parts t s → r ≡ arranged parts t
   unfolding arranged
   arranged-dynamic h a q =
-      if-ne (t .target) 0 _ _ u h (if-ne (t .arrangement) 0 _ _ u a (q ∙ ap (dynamic parts t) e))
+      if-ne (t .target) 0 _ _ r h (if-ne (t .arrangement) 0 _ _ r a (q ∙ ap (dynamic parts t) e))

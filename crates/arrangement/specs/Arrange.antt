@@ -7,6 +7,7 @@ use lib.Dec.{eqb, leb, ltb}
 use Rattle.rules.specs.declared.Column.{Column}
 use Rattle.constraint.specs.declared.Layout.{Layout}
 use Rattle.constraint.specs.declared.State.{State}
+use Rattle.arrangement.specs.declared.dynamic.Course.{Course}
 use Rattle.constraint.specs.Widths.{choose, inOrder, column, longest, visible, borders, lower, upper, average, setWidth, bit, decided, Rule, pass}
 use Rattle.constraint.specs.Widths.{evaluated}
 use Rattle.sharing.specs.Share.{finished}
@@ -77,8 +78,24 @@ splitRule parts t i s = shorterBy3 (parts i (average s)) (average s)
 abbrev pub step3 : (ℕ → ℕ → ℕ) → Layout → State → State
 step3 parts t s = repeated (pass (splitRule parts) t) s
 
-abbrev pub dynamic : (ℕ → ℕ → ℕ) → Layout → State → State
-dynamic parts t s = finished t (step3 parts t (step2 t (step1 t (targeted t s))))
+-- how the widths came about, by the states after the first step and after steps 1 to 3
+abbrev pub courseOf : Layout → State → State → State → State → Course
+courseOf t a b c d = record {
+  first = a .decided;
+  lower = b .decided;
+  fitted = c .decided;
+  split = d .decided;
+  before = d .widths;
+  state = finished t d;
+}
+
+abbrev pub dynamic : (ℕ → ℕ → ℕ) → Layout → State → Course
+dynamic parts t s =
+    courseOf t (targeted t s) (step1 t (targeted t s)) (step2 t (step1 t (targeted t s))) (step3 parts t (step2 t (step1 t (targeted t s))))
+
+-- without a target the first step's columns are the only ones decided on the way
+abbrev pub plainly : ℕ → State → Course
+plainly first s = record { first = first; lower = first; fitted = first; split = first; before = s .widths; state = s }
 
 abbrev pub begun : Layout → State
 begun t = record { widths = replicate mostColumns 0; decided = 0; remaining = 0; visible = visible t }
@@ -87,8 +104,8 @@ begun t = record { widths = replicate mostColumns 0; decided = 0; remaining = 0;
 abbrev pub started : Layout → State
 started t = inOrder (evaluated t) (t .count) (begun t)
 
-unfoldable pub arranged : (ℕ → ℕ → ℕ) → Layout → State
+unfoldable pub arranged : (ℕ → ℕ → ℕ) → Layout → Course
 arranged parts t =
-    choose (eqb (t .target) 0) (pass untargeted t (started t))
-    (choose (eqb (t .arrangement) 0) (pass untargeted t (started t))
+    choose (eqb (t .target) 0) (plainly (started t .decided) (pass untargeted t (started t)))
+    (choose (eqb (t .arrangement) 0) (plainly (started t .decided) (pass untargeted t (started t)))
     (dynamic parts t (started t)))

@@ -13,6 +13,7 @@ use Rattle.style.specs.declared.table_style.TableStyle.{TableStyle}
 use Rattle.constraint.specs.declared.Layout.{Layout}
 use Rattle.constraint.specs.Widths.{inOrder, column}
 use Rattle.arrangement.specs.declared.Widths.{Widths}
+use Rattle.arrangement.specs.declared.dynamic.Course.{Course}
 
 -- a border or a rule, and a text line, whose characters begin at k
 abbrev pub lineFrom : List ℕ → ℕ → LineStyle
@@ -38,6 +39,10 @@ marking l i fs = set fs i (isHidden (column l i))
 
 abbrev pub marked : Layout → List Bool
 marked l = inOrder (marking l) (l .count) (replicate mostColumns false)
+
+-- once the widths are arranged
+abbrev pub widthsFrom : Layout → Course → Widths
+widthsFrom l c = record { count = l .count; content = c .state .widths; hidden = marked l }
 
 -- each column's content width and whether it is hidden; 0 and not hidden past the columns
 unfoldable pub arrangedWidths : Table → Widths

@@ -13,6 +13,7 @@ use constraint::Layout;
 use constraint::Offer;
 use constraint::State;
 use rules::Column;
+use rules::MOST_COLUMNS;
 use style::column;
 use style::column::ContentWidth;
 
@@ -244,8 +245,19 @@ fn optimize_space_after_split(sheet: &[u8], t: Layout, s: State) -> State
     r
 }
 
+// How the widths came about: the visible columns that were decided after the first step and after each of steps 1 to 3, the widths before step 4,
+// and the state in the end.
+pub struct Course {
+    pub first: u16,
+    pub lower: u16,
+    pub fitted: u16,
+    pub split: u16,
+    pub before: [u16; MOST_COLUMNS],
+    pub state: State,
+}
+
 // The widths from the first step on, which must make up the target as well as they can.
-pub fn arrange(sheet: &[u8], t: Layout, s: State) -> State
+pub fn arrange(sheet: &[u8], t: Layout, s: State) -> Course
     requires { ⌜ IsAccepted (now sheet) × Describes t (tableOf (now sheet)) × (s ≡ started t) ⌝ }
     ensures { λ r. ⌜ r ≡ dynamic (longestPart (tableOf (now (sheet .entry)))) t s ⌝ }
 {
@@ -253,5 +265,14 @@ pub fn arrange(sheet: &[u8], t: Layout, s: State) -> State
     let b = enforce_lower_boundary_constraints(t, a);
     let c = find_columns_that_fit_into_average(t, b);
     let d = optimize_space_after_split(sheet, t, c);
-    sharing::finish(t, d)
+    let before = d.widths;
+    let state = sharing::finish(t, d);
+    Course {
+        first: a.decided,
+        lower: b.decided,
+        fitted: c.decided,
+        split: d.decided,
+        before,
+        state,
+    }
 }

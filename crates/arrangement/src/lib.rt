@@ -8,11 +8,12 @@ ghost use Prim.Native.Nat.{_≤_};
 ghost use Rattle.rules.specs.Sheet.{mostColumns};
 ghost use Rattle.rules.specs.Widths.{longestPart};
 ghost use Rattle.table.specs.Held.{IsAccepted, tableOf};
-ghost use Rattle.arrangement.specs.Arrange.{started, arranged};
+ghost use Rattle.arrangement.specs.Arrange.{started, plainly, arranged};
 ghost use Rattle.arrangement.specs.Describes.{Describes};
-ghost use Rattle.arrangement.specs.Widths.{marked, arrangedWidths};
+ghost use Rattle.arrangement.specs.Widths.{marked, widthsFrom, arrangedWidths};
 use constraint::Layout;
 use constraint::State;
+use dynamic::Course;
 use rules::MOST_COLUMNS;
 
 // Content widths and hidden columns: the first `count` are the sheet's, past them they are 0 and not hidden.
@@ -40,17 +41,32 @@ fn start(t: Layout) -> State
     r
 }
 
+// Without a target only the first step decides columns before the rest are fixed, and nothing is shared.
+fn untargeted(first: u16, state: State) -> Course
+    ensures { λ r. ⌜ r ≡ plainly first state ⌝ }
+{
+    let before = state.widths;
+    Course {
+        first,
+        lower: first,
+        fitted: first,
+        split: first,
+        before,
+        state,
+    }
+}
+
 // A target is made up only where there is one and the arrangement isn't `Disabled`.
-fn arrange(sheet: &[u8], t: Layout) -> State
+pub fn arrange(sheet: &[u8], t: Layout) -> Course
     requires { ⌜ IsAccepted (now sheet) × Describes t (tableOf (now sheet)) ⌝ }
     ensures { λ r. ⌜ r ≡ arranged (longestPart (tableOf (now (sheet .entry)))) t ⌝ }
 {
     let s = start(t);
     if t.target == 0 {
-        return disabled::arrange(t, s);
+        return untargeted(s.decided, disabled::arrange(t, s));
     }
     if t.arrangement == 0 {
-        return disabled::arrange(t, s);
+        return untargeted(s.decided, disabled::arrange(t, s));
     }
     dynamic::arrange(sheet, t, s)
 }
@@ -68,12 +84,12 @@ fn hidden_columns(t: Layout) -> [bool; MOST_COLUMNS]
     flags
 }
 
-// The content width of each column of an accepted sheet, by the layout that was read from it.
-pub fn arrange_content(sheet: &[u8], t: Layout) -> Widths
-    requires { ⌜ IsAccepted (now sheet) × Describes t (tableOf (now sheet)) ⌝ }
-    ensures { λ r. ⌜ r ≡ arrangedWidths (tableOf (now (sheet .entry))) ⌝ }
+// The content width of each column and whether it is hidden, once the widths are arranged.
+pub fn widths_of(t: Layout, c: Course) -> Widths
+    requires { ⌜ t .count ≤ mostColumns ⌝ }
+    ensures { λ r. ⌜ r ≡ widthsFrom t c ⌝ }
 {
-    let state = arrange(sheet, t);
+    let state = c.state;
     let content = state.widths;
     let hidden = hidden_columns(t);
     Widths {
@@ -81,4 +97,12 @@ pub fn arrange_content(sheet: &[u8], t: Layout) -> Widths
         content,
         hidden,
     }
+}
+
+// The content width of each column of an accepted sheet, by the layout that was read from it.
+pub fn arrange_content(sheet: &[u8], t: Layout) -> Widths
+    requires { ⌜ IsAccepted (now sheet) × Describes t (tableOf (now sheet)) ⌝ }
+    ensures { λ r. ⌜ r ≡ arrangedWidths (tableOf (now (sheet .entry))) ⌝ }
+{
+    widths_of(t, arrange(sheet, t))
 }

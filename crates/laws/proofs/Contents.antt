@@ -31,7 +31,7 @@ length-visit rule j s = go (isUndecided s j)
     go true = length-fixAt j (rule j (average s)) s
     go false = refl
 
-length-pass : (rule : Rule) (n : ℕ) (s : State) → length (pass rule n s .widths) ≡ length (s .widths)
+pub length-pass : (rule : Rule) (n : ℕ) (s : State) → length (pass rule n s .widths) ≡ length (s .widths)
 unfolding pass
 length-pass rule zero s = refl
 length-pass rule (suc n) s = length-visit rule n (pass rule n s) ∙ length-pass rule n s
@@ -40,11 +40,11 @@ pub length-run : (begins : State → Bool) (rule : Rule) (n fuel : ℕ) (s : Sta
 length-run begins rule n fuel s =
     run-keeps rule n (λ u. length (u .widths) ≡ length (s .widths)) (λ u e. length-pass rule n u ∙ e) begins fuel s refl
 
-length-numbers : (t : Table) → length (numbers t) ≡ length (t .columns)
+pub length-numbers : (t : Table) → length (numbers t) ≡ length (t .columns)
 unfolding numbers
 length-numbers t = length-upFrom 0 (length (t .columns))
 
-length-start : (t : Table) → length (start t .widths) ≡ length (t .columns)
+pub length-start : (t : Table) → length (start t .widths) ≡ length (t .columns)
 unfolding start
 length-start t = length-map (numbers t) (first t) ∙ length-numbers t
 
@@ -90,14 +90,14 @@ length-contents t = go (eqb (t .target) 0 || eqb (t .arrangement) 0)
     go false = length-step4 t (step3 t (step2 t (step1 t (start t)))) (length-steps t)
 
 -- each at least 1
-abbrev Some : ℕ → Type 0
+abbrev pub Some : ℕ → Type 0
 Some w = 1 ≤ w
 
 orElse-some : (a b : ℕ) → 1 ≤ b → 1 ≤ orElse a b
 orElse-some zero b h = h
 orElse-some (suc a) b h = omega arith
 
-untargeted-some : (t : Table) (j : ℕ) → 1 ≤ untargeted t j
+pub untargeted-some : (t : Table) (j : ℕ) → 1 ≤ untargeted t j
 unfolding untargeted belowLongest
 untargeted-some t j = go (upper t (columnAt t j))
   where
@@ -121,12 +121,12 @@ share-some amount n k h l =
     let q : 1 ≤ amount / n = le-div-iff-mul-le h .1 m in
     omega arith
 
-shared-some : (s : State) (j : ℕ) → 1 ≤ undecided s → 1 ≤ shared s j
+pub shared-some : (s : State) (j : ℕ) → 1 ≤ undecided s → 1 ≤ shared s j
 unfolding shared
 shared-some s j h = orElse-some (getD (s .widths) j 0) _ (share-some (max (undecided s) (s .remaining)) (undecided s) (zeros (take j (s .widths))) h
     (omega arith))
 
-decided-some : (ws : List ℕ) → zeros ws ≡ 0 → All Some ws
+pub decided-some : (ws : List ℕ) → zeros ws ≡ 0 → All Some ws
 unfolding zeros
 decided-some [] e = tt
 decided-some (zero ∷ ws) e = absurd (omega arith)

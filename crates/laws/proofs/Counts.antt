@@ -284,7 +284,7 @@ unfolding sum
 sum-841 [] h = omega arith
 sum-841 (n ∷ ns) h = omega (arith, sum-841 ns (h .1), h .0)
 
-cond-le : (b : Bool) (n : ℕ) → cond b n 0 ≤ n
+pub cond-le : (b : Bool) (n : ℕ) → cond b n 0 ≤ n
 cond-le true n = omega arith
 cond-le false n = omega arith
 

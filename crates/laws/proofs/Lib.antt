@@ -7,6 +7,7 @@ pub mod Split
 pub mod Keeps
 pub mod Runs
 pub mod Contents
+pub mod Turns
 pub mod Bounds
 pub mod Sizes
 pub mod Fits
@@ -21,6 +22,8 @@ pub mod Editor
 pub mod Saved
 pub mod Plainly
 pub mod Settled
+pub mod Reasons
+pub mod Explained
 pub mod Wrote
 pub mod Cancel
 pub mod Rows
@@ -30,6 +33,7 @@ pub mod Lines
 pub mod Drawn
 pub mod Areas
 pub mod Counts
+pub mod Printed
 pub mod RowBytes
 pub mod CellText
 pub mod Readable

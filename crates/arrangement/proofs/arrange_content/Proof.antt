@@ -8,7 +8,5 @@ arrange-content-spec =
     tie.close
     (tie.spec
     (λ c κs. search needs)
-    (λ c κs. c .before .before .before .pre .1 .few)
-    (λ c. search needs)
-    (λ c. let a = c .before .before .before in
-    widths-at _ _ (a .before .before .pre .1) _ _ (a .arrange .ensures) (c .before .hidden-columns .ensures)))
+    (λ c κs. search needs)
+    (λ c. search (needs, widths-at)))

@@ -10,11 +10,12 @@ pub arrange-spec : {M : Type 1} → statement M
 arrange-spec =
     tie.close
     (tie.spec
-    (λ c κs. c .before .pre .1 .few)
-    (λ c κs. c .before .before .pre .1 .few)
-    (λ c κs. c .before .before .before .pre .1 .few)
     (λ c κs. search needs)
-    (λ c κs. let f = c .before in
+    (λ c κs. search needs)
+    (λ c κs. search needs)
+    (λ c κs. search needs)
+    (λ c κs. let o = c .before in
+    let f = o .before in
     let e = f .before in
     let g = e .before in
     let b = g .before .before in
@@ -23,9 +24,9 @@ arrange-spec =
     let first = g .target .ensures in
     let lower = e .enforce-lower-boundary-constraints .ensures in
     let fit = f .find-columns-that-fit-into-average .ensures in
-    let split = c .optimize-space-after-split .ensures in
+    let split = o .optimize-space-after-split .ensures in
     (b .pre .1 .few, steps-small _ _ (b .pre .1) _ (λ j a l. refl) limits _ _ _ _ _ (b .pre .2) first lower fit split))
-    (λ c. let o = c .before in
+    (λ c. let o = c .before .before in
     let f = o .before in
     let e = f .before in
     let g = e .before in
