@@ -90,7 +90,7 @@ module _ (l : Layout) (t : Table) (d : Describes l t) where
     unfolding lower doc.lower
     lower-as c = valued-as (lowerWidth c)
 
-    upper-as : (c : Column) → upper l v c ≡ doc.upper t c
+    pub upper-as : (c : Column) → upper l v c ≡ doc.upper t c
     unfolding upper doc.upper
     upper-as c = valued-as (upperWidth c)
 

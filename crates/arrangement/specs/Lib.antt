@@ -1,3 +1,4 @@
 pub mod Arrange
 pub mod Describes
 pub mod Widths
+pub mod Courses

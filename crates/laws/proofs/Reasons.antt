@@ -241,7 +241,7 @@ module _ (t : Table) where
       unfolding fittedStep
       fitted-upper w m =
           let e : atUpper t j (longest t j) ≡ some w = any-so _ (atUpper t j (longest t j) ≡ some w)
-              (λ s p. let a = average (pass (fittingAverage t) j s) in upper-reached j a w (fit-upper j a w (p .1)) ∙ p .1) (passes2 t) m in
+          (λ s p. let a = average (pass (fittingAverage t) j s) in upper-reached j a w (fit-upper j a w (p .1)) ∙ p .1) (passes2 t) m in
           rw (e, fittedStep)
 
       fitted-longest : (w : ℕ) → Any (AtTurn (fittingAverage t) j (λ a. (atUpper t j a ≡ none) × (withinAverage (longest t j) a ≡ some w))) (passes2 t)
@@ -249,7 +249,7 @@ module _ (t : Table) where
       unfolding fittedStep
       fitted-longest w m =
           let e : atUpper t j (longest t j) ≡ none = any-so _ (atUpper t j (longest t j) ≡ none)
-              (λ s p. let a = average (pass (fittingAverage t) j s) in upper-reached j a w (fit-longest j a (p .1 .0) ∙ p .1 .1) ∙ p .1 .0) (passes2 t) m in
+          (λ s p. let a = average (pass (fittingAverage t) j s) in upper-reached j a w (fit-longest j a (p .1 .0) ∙ p .1 .1) ∙ p .1 .0) (passes2 t) m in
           rw (e, fittedStep)
 
       pub step-only : (r : WidthStep) (w : ℕ) → Fixed t j r w → stepOf t j ≡ r

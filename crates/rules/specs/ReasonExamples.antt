@@ -2,22 +2,15 @@
 use Prim.Native.Nat.{ℕ}
 use mathlib.Core.Path.{_≡_, refl}
 use mathlib.Core.List.{List, [], _∷_, _++_, map}
-use mathlib.Core.Bool.{Bool, true, false}
-use lib.IntN.{ℤ, pos, negsuc}
+use mathlib.Core.Bool.{true, false}
+use lib.IntN.{pos, negsuc}
 use lib.ListN.{replicate}
 use Rattle.rules.specs.Opened.{rules}
 use Rattle.rules.specs.Quote.{ascii}
 use Rattle.rules.specs.Sheet.{Column, Row, Table, noWidth, noColumn}
-use Rattle.rules.specs.Widths.{numbers, contents}
-use Rattle.rules.specs.Reasons.{stepNumber, stepOf, isWidened, difference, reasons}
+use Rattle.rules.specs.Widths.{contents}
+use Rattle.rules.specs.Reasons.{stepNumbers, widenedColumns, difference, reasons}
 use Rattle.rules.specs.Examples.{grid, bare, house, houseTable, single, held, rowOf}
-
--- the steps' numbers, and which columns were widened
-abbrev steps : Table → List ℕ
-steps t = map (λ j. stepNumber (stepOf t j)) (numbers t)
-
-abbrev wider : Table → List Bool
-wider t = map (isWidened t) (numbers t)
 
 -- a table with another arrangement and target, and with another style
 abbrev aimed : ℕ → ℕ → Table → Table
@@ -68,28 +61,28 @@ pub record ReasonExamples : Type 0 where
         «has_difference» = true;
         difference = pos 0;
       }
-  pub disabled : (steps (aimed 0 20 houseTable) ≡ 7 ∷ 7 ∷ []) × (difference (aimed 0 20 houseTable) ≡ negsuc 3)
-  pub full-25 : (wider (aimed 2 25 houseTable) ≡ true ∷ false ∷ []) × (difference (aimed 2 25 houseTable) ≡ pos 0)
-  pub full-24 : (wider (aimed 2 24 houseTable) ≡ false ∷ false ∷ []) × (difference (aimed 2 24 houseTable) ≡ pos 0)
-  pub dynamic-25 : (steps (aimed 1 25 houseTable) ≡ 4 ∷ 4 ∷ []) × (wider (aimed 1 25 houseTable) ≡ false ∷ false ∷ []) × (difference (aimed 1 25 houseTable) ≡ pos 1)
-  pub untargeted : (steps (aimed 1 0 houseTable) ≡ 7 ∷ 7 ∷ []) × (difference (aimed 1 0 houseTable) ≡ pos 0)
+  pub disabled : (stepNumbers (aimed 0 20 houseTable) ≡ 7 ∷ 7 ∷ []) × (difference (aimed 0 20 houseTable) ≡ negsuc 3)
+  pub full-25 : (widenedColumns (aimed 2 25 houseTable) ≡ true ∷ false ∷ []) × (difference (aimed 2 25 houseTable) ≡ pos 0)
+  pub full-24 : (widenedColumns (aimed 2 24 houseTable) ≡ false ∷ false ∷ []) × (difference (aimed 2 24 houseTable) ≡ pos 0)
+  pub dynamic-25 : (stepNumbers (aimed 1 25 houseTable) ≡ 4 ∷ 4 ∷ []) × (widenedColumns (aimed 1 25 houseTable) ≡ false ∷ false ∷ []) × (difference (aimed 1 25 houseTable) ≡ pos 1)
+  pub untargeted : (stepNumbers (aimed 1 0 houseTable) ≡ 7 ∷ 7 ∷ []) × (difference (aimed 1 0 houseTable) ≡ pos 0)
   -- `LowerBoundary` 4 with a longest of 4, and of 5
-  pub first-step : steps (single 1 3 (held 0 4 4) (ascii "abcd")) ≡ 1 ∷ []
-  pub lower-bound : steps (single 1 3 (held 0 4 4) (ascii "abcde")) ≡ 2 ∷ []
+  pub first-step : stepNumbers (single 1 3 (held 0 4 4) (ascii "abcd")) ≡ 1 ∷ []
+  pub lower-bound : stepNumbers (single 1 3 (held 0 4 4) (ascii "abcde")) ≡ 2 ∷ []
   -- an upper bound equal to the longest, and one above it
-  pub upper-bound : steps (single 1 9 (held 0 5 5) (ascii "abcde")) ≡ 3 ∷ []
-  pub within-average : steps (single 1 9 (held 0 5 6) (ascii "abcde")) ≡ 4 ∷ []
-  pub split-part : steps (single 1 11 noColumn (ascii "aaaaaaaa bbbbbbbb")) ≡ 5 ∷ []
-  pub even-share : steps (single 1 11 noColumn (ascii "aaaaaaaaa bbbbbbbbb")) ≡ 6 ∷ []
-  pub untargeted-longest : steps (single 0 0 (held 1 5 5) (ascii "abcde")) ≡ 7 ∷ []
-  pub untargeted-upper : steps (single 0 0 (held 1 5 5) (ascii "abcdef")) ≡ 8 ∷ []
-  pub percent-without-target : steps (single 1 0 (percent 50) (ascii "abcde")) ≡ 7 ∷ []
-  pub percent-with-target : steps (single 1 9 (percent 50) (ascii "abcde")) ≡ 1 ∷ []
-  pub three-33 : (steps (three 33) ≡ 2 ∷ 3 ∷ 5 ∷ []) × (contents (three 33) ≡ 12 ∷ 4 ∷ 9 ∷ []) × (difference (three 33) ≡ pos 8)
-  pub three-27 : (steps (three 27) ≡ 2 ∷ 3 ∷ 6 ∷ []) × (contents (three 27) ≡ 12 ∷ 4 ∷ 11 ∷ []) × (difference (three 27) ≡ pos 0)
-  pub hidden : (steps (single 2 9 (held 0 1 0) (ascii "abcde")) ≡ 0 ∷ []) × (wider (single 2 9 (held 0 1 0) (ascii "abcde")) ≡ false ∷ [])
+  pub upper-bound : stepNumbers (single 1 9 (held 0 5 5) (ascii "abcde")) ≡ 3 ∷ []
+  pub within-average : stepNumbers (single 1 9 (held 0 5 6) (ascii "abcde")) ≡ 4 ∷ []
+  pub split-part : stepNumbers (single 1 11 noColumn (ascii "aaaaaaaa bbbbbbbb")) ≡ 5 ∷ []
+  pub even-share : stepNumbers (single 1 11 noColumn (ascii "aaaaaaaaa bbbbbbbbb")) ≡ 6 ∷ []
+  pub untargeted-longest : stepNumbers (single 0 0 (held 1 5 5) (ascii "abcde")) ≡ 7 ∷ []
+  pub untargeted-upper : stepNumbers (single 0 0 (held 1 5 5) (ascii "abcdef")) ≡ 8 ∷ []
+  pub percent-without-target : stepNumbers (single 1 0 (percent 50) (ascii "abcde")) ≡ 7 ∷ []
+  pub percent-with-target : stepNumbers (single 1 9 (percent 50) (ascii "abcde")) ≡ 1 ∷ []
+  pub three-33 : (stepNumbers (three 33) ≡ 2 ∷ 3 ∷ 5 ∷ []) × (contents (three 33) ≡ 12 ∷ 4 ∷ 9 ∷ []) × (difference (three 33) ≡ pos 8)
+  pub three-27 : (stepNumbers (three 27) ≡ 2 ∷ 3 ∷ 6 ∷ []) × (contents (three 27) ≡ 12 ∷ 4 ∷ 11 ∷ []) × (difference (three 27) ≡ pos 0)
+  pub hidden : (stepNumbers (single 2 9 (held 0 1 0) (ascii "abcde")) ≡ 0 ∷ []) × (widenedColumns (single 2 9 (held 0 1 0) (ascii "abcde")) ≡ false ∷ [])
   -- a column without cells that step 2 fixes; a page without lines
-  pub no-cells : (steps (rowless 9) ≡ 4 ∷ []) × (difference (rowless 9) ≡ pos 9)
+  pub no-cells : (stepNumbers (rowless 9) ≡ 4 ∷ []) × (difference (rowless 9) ≡ pos 9)
   -- the top border has a junction that the text lines haven't
   pub border : (difference (styled topOnly (aimed 0 20 houseTable)) ≡ negsuc 1) × (difference (styled bare (aimed 0 20 houseTable)) ≡ negsuc 0)
   pub overrun : difference (single 1 1 (held 0 3 400) (ascii "a")) ≡ negsuc 398

@@ -81,14 +81,21 @@ hasTarget t = not (eqb (t .target) 0)
 unfoldable pub difference : Table → ℤ
 difference t = elim (hasTarget t) [ true ↦ pos (t .target) -ℤ pos (longestPrinted t) | false ↦ pos 0 ]
 
+-- the steps' numbers and the widened ones, column by column
+abbrev pub stepNumbers : Table → List ℕ
+stepNumbers t = map (λ j. stepNumber (stepOf t j)) (numbers t)
+
+abbrev pub widenedColumns : Table → List Bool
+widenedColumns t = map (isWidened t) (numbers t)
+
 -- each column's step and whether it was widened, and the difference; 0 and not widened past the columns
 unfoldable pub reasonsOf : Read Table → Reasoned
 reasonsOf (got t p) = record {
   number = 0;
   place = 0;
   columns = length (t .columns);
-  step = asArray 0 (map (λ j. stepNumber (stepOf t j)) (numbers t));
-  widened = asArray false (map (isWidened t) (numbers t));
+  step = asArray 0 (stepNumbers t);
+  widened = asArray false (widenedColumns t);
   «has_difference» = hasTarget t;
   difference = difference t;
 }
