@@ -223,13 +223,17 @@ pub fn content_widths(sheet: &[u8]) -> Widths
     arrangement::arrange_content(sheet, t)
 }
 
-// The page over all rows of the sheet, which may be called plain if the check found it so.
-pub fn open(sheet: &[u8], plain: bool, columns: &mut [[usize; 6]; MOST_COLUMNS]) -> Page
-    requires { ⌜ IsAccepted (now sheet) × (length (now columns) ≡ mostColumns) ⌝ }
+// The page over all rows of the sheet, by its widths; it may be called plain if the check found it so.
+pub fn open_by(
+    sheet: &[u8],
+    plain: bool,
+    widths: Widths,
+    columns: &mut [[usize; 6]; MOST_COLUMNS],
+) -> Page
+    requires { ⌜ IsAccepted (now sheet) × ((widths ≡ arrangedWidths (tableOf (now sheet))) × (length (now columns) ≡ mostColumns)) ⌝ }
     requires { ⌜ (plain ≡ true → PlainTable (tableOf (now sheet))) ⌝ }
     ensures { λ r. ⌜ Opened (now (sheet .entry)) (now (columns .exit)) r × (rowsIn (now (sheet .entry)) (r .rows) ≡ tableOf (now (sheet .entry)) .rows) ⌝ }
 {
-    let widths = content_widths(sheet);
     let count = show_columns(sheet, widths, columns);
     let indicator = settings::indicator(sheet);
     let styles = styles(settings::style(sheet));
@@ -243,4 +247,14 @@ pub fn open(sheet: &[u8], plain: bool, columns: &mut [[usize; 6]; MOST_COLUMNS])
         header,
         rows,
     }
+}
+
+// The page, once its widths are found.
+pub fn open(sheet: &[u8], plain: bool, columns: &mut [[usize; 6]; MOST_COLUMNS]) -> Page
+    requires { ⌜ IsAccepted (now sheet) × (length (now columns) ≡ mostColumns) ⌝ }
+    requires { ⌜ (plain ≡ true → PlainTable (tableOf (now sheet))) ⌝ }
+    ensures { λ r. ⌜ Opened (now (sheet .entry)) (now (columns .exit)) r × (rowsIn (now (sheet .entry)) (r .rows) ≡ tableOf (now (sheet .entry)) .rows) ⌝ }
+{
+    let widths = content_widths(sheet);
+    open_by(sheet, plain, widths, columns)
 }

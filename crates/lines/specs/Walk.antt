@@ -1,9 +1,11 @@
 -- A page's lines counted, sought and written. Assumes nothing.
 use Prim.Native.Nat.{ℕ, _+_, _≤_, _<_}
 use mathlib.Core.Path.{_≡_}
-use mathlib.Core.List.{List, []}
+use mathlib.Core.List.{List, [], map}
 use mathlib.Core.Bool.{false}
 use lib.ListN.{length, drop, getD}
+use Rattle.rules.specs.Text.{textWidth, greatest}
+use Rattle.rules.specs.Limits.{longestLine}
 use Rattle.rules.specs.Page.{closed, wholeLines}
 use Rattle.buffer.specs.Put.{over}
 use Rattle.parts.specs.Ahead.{isEnd, At, partLines, linesOf, ahead}
@@ -27,6 +29,11 @@ pub record SoughtIs (s : List ℕ) (p : Page) (k : ℕ) (r : Sought) : Type 0 wh
   pub passed : r .passed ≤ length (linesOf s p)
   pub reached : isEnd (r .cursor .stage) ≡ false → r .passed ≡ k
   pub some : isEnd (r .cursor .stage) ≡ false → r .cursor .line < length (partLines s p (r .cursor))
+
+-- no line has more columns, and one has as many; 0 where there is none
+pub record LongestIs (s : List ℕ) (p : Page) (r : ℕ) : Type 0 where
+  pub longest : r ≡ greatest (map textWidth (linesOf s p))
+  pub small : r ≤ longestLine
 
 -- the bytes of line k, its 0A included
 abbrev pub sizeOf : List ℕ → Page → ℕ → ℕ

@@ -4,7 +4,7 @@ ghost use Rattle.rules.specs.Limits.{mostLines};
 ghost use lib.ListN.{length};
 ghost use Rattle.display_info.specs.Opened.{Opened};
 ghost use Rattle.parts.specs.Ahead.{At, ahead};
-ghost use Rattle.lines.specs.Walk.{TotalsAre, SoughtIs, FoundIs, WroteIs};
+ghost use Rattle.lines.specs.Walk.{TotalsAre, SoughtIs, LongestIs, FoundIs, WroteIs};
 use display_info::Page;
 use parts::cursor;
 use parts::cursor::Cursor;
@@ -64,6 +64,27 @@ pub fn seek(sheet: &[u8], columns: &[[usize; 6]; MOST_COLUMNS], p: Page, k: usiz
         cursor: c,
         passed: k - left,
     }
+}
+
+// The longest of a page's lines, in columns: a border is as long as any line, and without borders all lines are equally long.
+pub fn longest_line(sheet: &[u8], columns: &[[usize; 6]; MOST_COLUMNS], p: Page) -> usize
+    requires { ⌜ Opened (now sheet) (now columns) p ⌝ }
+    ensures { λ r. ⌜ LongestIs (now (sheet .entry)) p r ⌝ }
+{
+    let l = lengths::measure(sheet, columns, p);
+    let styles = p.styles;
+    if styles.has_top {
+        return l.border;
+    }
+    if styles.has_bottom {
+        return l.border;
+    }
+    let sought = seek(sheet, columns, p, 0);
+    let cursor = sought.cursor;
+    if cursor::is_end(cursor) {
+        return 0;
+    }
+    l.line
 }
 
 // Line k looked for, to be written into some room: number 0, the bytes that it needs and its cursor; or 21 and the line count; or 20 and the bytes needed.
