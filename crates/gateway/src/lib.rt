@@ -2,6 +2,7 @@
 // None has a `requires`: whatever the host passes, the call answers.
 ghost use mathlib.Core.Path.{_≡_};
 ghost use Rattle.rules.specs.Calls as calls;
+ghost use Rattle.rules.specs.Reasons.{reasons};
 ghost use Rattle.rules.specs.Writer.{writeSheet};
 ghost use Rattle.page.specs.Several.{printLines};
 use page::PrintedLines;
@@ -9,6 +10,7 @@ use rules::Checked;
 use rules::Counted;
 use rules::Measured;
 use rules::Printed;
+use rules::Reasoned;
 
 #[no_mangle]
 pub extern "C" fn cagwoni_check(sheet: &[u8]) -> Checked
@@ -29,6 +31,13 @@ pub extern "C" fn cagwoni_widths(sheet: &[u8]) -> Measured
     ensures { λ r. ⌜ r ≡ calls.measure (now (sheet .entry)) ⌝ }
 {
     page::widths(sheet)
+}
+
+#[no_mangle]
+pub extern "C" fn cagwoni_reasons(sheet: &[u8]) -> Reasoned
+    ensures { λ r. ⌜ r ≡ reasons (now (sheet .entry)) ⌝ }
+{
+    page::reasons(sheet)
 }
 
 #[no_mangle]

@@ -91,7 +91,7 @@ examined-plain s r E h e = let g = held s h in E .plain e (tableOf s) (g .end) (
 -- ---- a refused sheet
 
 module _ (s : List ℕ) (c : Checked) (checked : c ≡ check s) (h : c .number ≡ 0 → ⊥) where
-  refused-as : sheet s ≡ refused (c .number) (c .place)
+  pub refused-as : sheet s ≡ refused (c .number) (c .place)
   unfolding check checkOf
   refused-as = go (sheet s) refl
     where

@@ -1,14 +1,21 @@
-// The calls: check, count, widths, and the page printed as a whole, by a line or by lines.
+// The calls: check, count, widths, their reasons, and the page printed as a whole, by a line or by lines.
 ghost use mathlib.Core.Path.{_≡_};
 ghost use mathlib.Core.List.{[]};
+ghost use mathlib.Core.Bool.{true};
+ghost use Rattle.rules.specs.Limits.{PlainTable};
 ghost use Rattle.rules.specs.Calls as calls;
+ghost use Rattle.rules.specs.Reasons as reasons;
+ghost use Rattle.table.specs.Held.{IsAccepted, tableOf};
+ghost use Rattle.arrangement.specs.Widths.{arrangedWidths};
 ghost use Rattle.page.specs.Several.{printLines, noLines};
+use arrangement::Widths;
 use parts::cursor;
 use rules::Checked;
 use rules::Counted;
 use rules::MOST_COLUMNS;
 use rules::Measured;
 use rules::Printed;
+use rules::Reasoned;
 
 // Number and place of the first refusal from the input, both 0 where the sheet is accepted.
 pub fn check(sheet: &[u8]) -> Checked
@@ -40,6 +47,53 @@ pub fn widths(sheet: &[u8]) -> Measured
         columns: found.count as u64,
         content,
         hidden,
+    }
+}
+
+// Target minus the longest printed line, whose columns the widths give; 0 without a target, where nothing is measured.
+fn difference(sheet: &[u8], plain: bool, widths: Widths, target: u16) -> i32
+    requires { ⌜ IsAccepted (now sheet) × ((widths ≡ arrangedWidths (tableOf (now sheet))) × (target ≡ tableOf (now sheet) .target)) ⌝ }
+    requires { ⌜ (plain ≡ true → PlainTable (tableOf (now sheet))) ⌝ }
+    ensures { λ r. ⌜ r ≡ reasons.difference (tableOf (now (sheet .entry))) ⌝ }
+{
+    if target == 0 {
+        return 0;
+    }
+    let mut columns = [[0usize; 6]; MOST_COLUMNS];
+    let p = display_info::open_by(sheet, plain, widths, &mut columns);
+    let longest = lines::longest_line(sheet, &columns, p);
+    width_steps::difference(target, longest)
+}
+
+// The step that set each column's width, whether the remainder widened it, and the difference; of a refused sheet, number and place.
+pub fn reasons(sheet: &[u8]) -> Reasoned
+    ensures { λ r. ⌜ r ≡ reasons.reasons (now (sheet .entry)) ⌝ }
+{
+    let examined = sheet::examine(sheet);
+    if examined.number != 0 {
+        return Reasoned {
+            number: examined.number,
+            place: examined.place,
+            columns: 0,
+            step: [0u8; MOST_COLUMNS],
+            widened: [false; MOST_COLUMNS],
+            has_difference: false,
+            difference: 0,
+        };
+    }
+    let found = width_steps::explain(sheet);
+    let widths = found.widths;
+    let step = found.step;
+    let widened = found.widened;
+    let difference = difference(sheet, examined.plain, widths, found.target);
+    Reasoned {
+        number: 0,
+        place: 0,
+        columns: widths.count as u64,
+        step,
+        widened,
+        has_difference: found.target != 0,
+        difference,
     }
 }
 
