@@ -14,6 +14,7 @@ mod marks;
 mod oracle;
 mod random;
 mod reading;
+mod reasons;
 mod record;
 mod sample;
 mod second;

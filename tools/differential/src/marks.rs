@@ -1,4 +1,4 @@
-//! Named planted mistakes, and the named rules that a page can show.
+//! Named planted mistakes, the named rules that a page can show, and the steps that a report names.
 
 macro_rules! listed {
     ($(#[$note:meta])* $name:ident { $($case:ident $words:literal)* }) => {
@@ -17,7 +17,8 @@ macro_rules! listed {
 }
 
 listed! {
-    /// A plausible mistake that the reading makes on request. The first four are document 01's.
+    /// A plausible mistake that the reading makes on request. The first four are document 01's; those from
+    /// `FirstNamedLower` on change neither widths nor page, but the report.
     Slip {
         ChargesOne "1 charged when a pass fixes a column without cells"
         DisabledCountsPadding "padding counted in the `Disabled` upper test"
@@ -85,6 +86,54 @@ listed! {
         CutInBytes "the last line cut by bytes, also inside a pair"
         AlignInBytes "free space of alignment counted in bytes"
         BytesFromColumns "byte count taken from columns"
+        FirstNamedLower "lower bound named where it fixes the column in the first step"
+        LowerNamedFirst "first step named where a lower bound is above the average"
+        OpenNamedFirst "first step named for a percent `Absolute` without a target"
+        UpperAndLongest "upper bound and longest exchanged in step 2's names"
+        EqualNamedLongest "longest named for an upper bound equal to longest plus padding"
+        BareNotNamed "no step named for a column without cells"
+        PartNamedShare "even share named for a split part"
+        UpperNamedByPadding "padding counted where the untargeted upper bound is named"
+        HiddenNamed "a hidden column names a step"
+        HiddenWidened "a hidden column marked as widened"
+        NothingWidens "a share of 0 marked as widening"
+        NoRemainderWidens "a remainder of 0 marked as widening"
+        ShareWidens "an even share marked as widened with arrangement 2"
+        DifferenceTurned "difference with its sign turned"
+        OverrunIsZero "difference 0 for an overrun"
+        DisabledNoDifference "no difference with `Disabled`"
+        NoPageNoDifference "no difference for a page without lines"
+        TextLinesOnly "longest line taken from text lines only"
+        FirstLineOnly "longest line taken to be the first"
+        LineFromWidths "longest line taken to be borders and full widths"
+        LineInBytes "longest line counted in bytes"
+        LineEndCounted "0A counted in the longest line"
+    }
+}
+
+listed! {
+    /// "the step that set its content width", numbered from 1 in this order.
+    Step {
+        First "first constraint step"
+        Lower "lower bound"
+        Upper "upper bound"
+        Longest "longest within average"
+        Part "split part"
+        Share "even share"
+        PlainLongest "untargeted longest"
+        PlainUpper "untargeted upper bound"
+    }
+}
+
+impl Step {
+    pub fn number(self) -> u8 {
+        self as u8 + 1
+    }
+}
+
+impl Slip {
+    pub fn of_report(self) -> bool {
+        self as usize >= Slip::FirstNamedLower as usize
     }
 }
 

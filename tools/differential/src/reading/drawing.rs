@@ -11,11 +11,18 @@ const CONTENT_LINES: usize = 11;
 const ROW_RULE: usize = 14;
 const BOTTOM: usize = 18;
 
-/// A page and its counts.
+/// A page, its counts, and the report's difference.
 pub struct Printed {
     pub lines: usize,
     pub bytes: usize,
     pub page: Vec<u8>,
+    pub difference: Option<i32>,
+}
+
+/// A line of the page: of a row, or a border or rule.
+struct Line {
+    characters: Text,
+    is_text: bool,
 }
 
 impl Reading<'_> {
@@ -182,19 +189,20 @@ impl Reading<'_> {
     }
 
     /// "A border or rule is visible if one of its characters is set."
-    fn push_rule(&self, page: &mut Vec<Text>, style: usize, widths: &[usize], shown: Rule, not: Rule) {
+    fn push_rule(&self, page: &mut Vec<Line>, style: usize, widths: &[usize], shown: Rule, not: Rule) {
         let visible = self.set(&[style, style + 1, style + 2, style + 3]);
         self.fire(if visible { shown } else { not });
         if visible {
-            page.push(self.rule(style, widths));
+            page.push(Line { characters: self.rule(style, widths), is_text: false });
         }
     }
 
-    fn push_row(&self, page: &mut Vec<Text>, row: &Row, is_header: bool, widths: &[usize]) {
+    fn push_row(&self, page: &mut Vec<Line>, row: &Row, is_header: bool, widths: &[usize]) {
         let style = if is_header { HEADER_LINES } else { CONTENT_LINES };
         for areas in self.row_lines(row, is_header, widths) {
             let joined = self.joined(false, Slip::TextJunctionAlways, Rule::TextUnjoined);
-            page.push(self.line(&areas, style, joined.then_some(style + 1), style + 2));
+            let characters = self.line(&areas, style, joined.then_some(style + 1), style + 2);
+            page.push(Line { characters, is_text: true });
         }
     }
 
@@ -219,22 +227,53 @@ impl Reading<'_> {
         }
         self.push_rule(&mut page, BOTTOM, widths, Rule::BottomBorder, Rule::NoBottom);
         self.fire_page(&page);
-        self.printed(&page)
+        self.printed(&page, self.difference(&page, widths))
     }
 
     /// Counts of the page count bytes, a pair's two.
-    fn printed(&self, page: &[Text]) -> Printed {
+    fn printed(&self, page: &[Line], difference: Option<i32>) -> Printed {
         let columns = self.slips(Slip::BytesFromColumns);
-        let length = |line: &Text| 1 + if columns { line.len() } else { byte_length(line) };
-        let closed = |line: &Text| put(line).into_iter().chain(*b"\n");
+        let length = |line: &Line| 1 + if columns { line.characters.len() } else { byte_length(&line.characters) };
+        let closed = |line: &Line| put(&line.characters).into_iter().chain(*b"\n");
         Printed {
             lines: page.len(),
             bytes: page.iter().map(length).sum(),
             page: page.iter().flat_map(closed).collect(),
+            difference,
         }
     }
 
-    fn fire_page(&self, page: &[Text]) {
+    /// "With a target, the report also gives target minus the longest printed line"
+    fn difference(&self, page: &[Line], widths: &[usize]) -> Option<i32> {
+        let disabled = self.table.arrangement == 0 && self.slips(Slip::DisabledNoDifference);
+        let no_page = page.is_empty() && self.slips(Slip::NoPageNoDifference);
+        if self.table.target == 0 || disabled || no_page {
+            return None;
+        }
+        let longest = if self.slips(Slip::LineFromWidths) { self.breadth(widths) } else { self.longest_line(page) };
+        let difference = i32::from(self.table.target) - longest as i32;
+        Some(match self.slip {
+            Some(Slip::DifferenceTurned) => -difference,
+            Some(Slip::OverrunIsZero) => difference.max(0),
+            _ => difference,
+        })
+    }
+
+    /// "Lengths count characters without 0A; a page without lines has length 0."
+    fn longest_line(&self, page: &[Line]) -> usize {
+        let (in_bytes, end) = (self.slips(Slip::LineInBytes), usize::from(self.slips(Slip::LineEndCounted)));
+        let length = |line: &Line| if in_bytes { byte_length(&line.characters) } else { line.characters.len() };
+        let counted = |line: &&Line| line.is_text || !self.slips(Slip::TextLinesOnly);
+        let asked = if self.slips(Slip::FirstLineOnly) { 1 } else { page.len() };
+        page.iter().take(asked).filter(counted).map(|line| length(line) + end).max().unwrap_or(0)
+    }
+
+    /// What the widths take, whatever is drawn; for a mistake.
+    fn breadth(&self, widths: &[usize]) -> usize {
+        self.borders() + self.visible().map(|at| widths[at] + self.padding(at)).sum::<usize>()
+    }
+
+    fn fire_page(&self, page: &[Line]) {
         self.fire_if(page.is_empty(), Rule::NoPage);
         self.fire_if(self.table.header.is_none(), Rule::NoHeader);
         self.fire_if(self.visible().count() == 0, Rule::NoColumn);

@@ -1,16 +1,26 @@
 //! Widths.
 
 use super::{HIDDEN, JUNCTIONS, LEFTS, RIGHTS, Reading};
-use crate::marks::{Rule, Slip};
+use crate::marks::{Rule, Slip, Step};
+use crate::reasons::Reason;
 use crate::sheet::{Cell, PERCENT, SIGN, Width};
 
 const ABSOLUTE: u8 = 3;
 
 struct State {
     content: Vec<Option<usize>>,
+    /// Noted where a rule fixes or widens the column.
+    reasons: Vec<Reason>,
     remaining: usize,
     /// The average at the start of the pass, for the slip that holds it.
     held: usize,
+}
+
+/// What a step would fix a column at, and take off the remaining width for it.
+struct Offer {
+    step: Step,
+    width: usize,
+    charged: usize,
 }
 
 impl Reading<'_> {
@@ -55,7 +65,7 @@ impl Reading<'_> {
 
     /// "Borders drawn: left if any `left` is set, right likewise, and visible columns less one, not
     /// below 0, if any `junction` is set."
-    fn borders(&self) -> usize {
+    pub(super) fn borders(&self) -> usize {
         let all = self.slips(Slip::HiddenVisible);
         let columns = if all { self.table.columns.len() } else { self.visible().count() };
         let between = if self.set(&JUNCTIONS) { columns.saturating_sub(1) } else { 0 };
@@ -107,18 +117,50 @@ impl Reading<'_> {
 
     /// Content widths of all columns.
     pub fn widths(&self) -> Vec<usize> {
-        let first: Vec<_> = (0..self.table.columns.len()).map(|at| self.first(at)).collect();
+        self.arranged().0
+    }
+
+    /// Content widths of all columns, and what set them.
+    pub fn arranged(&self) -> (Vec<usize>, Vec<Reason>) {
+        let mut state = self.decided_first();
         if self.table.target == 0 || self.table.arrangement == 0 {
             self.fire_if(self.table.target > 0, Rule::DisabledTarget);
-            let open = first.into_iter().enumerate();
-            return open.map(|(at, width)| width.unwrap_or_else(|| self.undirected(at))).collect();
+            self.decide_undirected(&mut state);
+        } else {
+            state.remaining = self.start(&state.content);
+            self.fix_lower_bounds(&mut state);
+            self.fix_fitting(&mut state);
+            self.fix_after_trial(&mut state);
+            self.share_rest(&mut state);
         }
-        let mut state = State { remaining: self.start(&first), content: first, held: 0 };
-        self.fix_lower_bounds(&mut state);
-        self.fix_fitting(&mut state);
-        self.fix_after_trial(&mut state);
-        self.share_rest(&mut state);
-        state.content.into_iter().map(|width| width.expect("every column is decided")).collect()
+        let decided = |width: Option<usize>| width.expect("every column is decided");
+        (state.content.into_iter().map(decided).collect(), state.reasons)
+    }
+
+    /// "A hidden column names no step"
+    fn decide(&self, state: &mut State, at: usize, width: usize, step: Step) {
+        state.content[at] = Some(width.max(1));
+        if !self.hidden(at) || self.slips(Slip::HiddenNamed) {
+            state.reasons[at].step = Some(step);
+        }
+    }
+
+    fn decided_first(&self) -> State {
+        let count = self.table.columns.len();
+        let (content, reasons) = (vec![None; count], vec![Reason::default(); count]);
+        let mut state = State { content, reasons, remaining: 0, held: 0 };
+        for at in 0..count {
+            if let Some(width) = self.first(at) {
+                self.decide(&mut state, at, width, self.first_step(at));
+            }
+        }
+        state
+    }
+
+    /// A lower bound that fixes the column here is of this step too.
+    fn first_step(&self, at: usize) -> Step {
+        let lower = matches!(self.column(at).constraint, 4 | 6);
+        if lower && self.slips(Slip::FirstNamedLower) { Step::Lower } else { Step::First }
     }
 
     /// "First (`evaluate`): `ContentWidth` and `Hidden` take the longest; `Absolute` its width; a lower
@@ -140,7 +182,7 @@ impl Reading<'_> {
             (false, 0) => Rule::FirstContentBare,
             (false, _) => Rule::FirstContent,
         });
-        self.longest[at].max(1)
+        self.longest[at]
     }
 
     fn first_absolute(&self, at: usize, width: Width) -> Option<usize> {
@@ -164,19 +206,34 @@ impl Reading<'_> {
         Some(self.content(at, bound))
     }
 
+    fn decide_undirected(&self, state: &mut State) {
+        for at in 0..state.content.len() {
+            if state.content[at].is_none() {
+                let (width, step) = self.undirected(at);
+                self.decide(state, at, width, step);
+            }
+        }
+    }
+
     /// "No target, or `Disabled`: the longest; if an upper bound is below the longest (padding not
     /// counted), the bound made content."
-    fn undirected(&self, at: usize) -> usize {
+    fn undirected(&self, at: usize) -> (usize, Step) {
         let longest = self.longest[at];
         let counted = if self.slips(Slip::DisabledCountsPadding) { self.padding(at) } else { 0 };
         let bound = self.upper(at);
         if let Some(bound) = bound.filter(|bound| *bound < longest + counted) {
             self.fire(Rule::PlainUpper);
-            return self.content(at, bound);
+            return (self.content(at, bound), Step::PlainUpper);
         }
-        self.fire_if(bound.is_some_and(|bound| bound < longest + self.padding(at)), Rule::PlainUpperPadding);
+        let below_full = bound.is_some_and(|bound| bound < longest + self.padding(at));
+        self.fire_if(below_full, Rule::PlainUpperPadding);
         self.fire(if longest == 0 { Rule::PlainBare } else { Rule::PlainLongest });
-        longest.max(1)
+        let step = match self.slip {
+            Some(Slip::UpperNamedByPadding) if below_full => Step::PlainUpper,
+            Some(Slip::OpenNamedFirst) if self.column(at).constraint == ABSOLUTE => Step::First,
+            _ => Step::PlainLongest,
+        };
+        (longest, step)
     }
 
     /// "the remaining width is target less borders, undecided paddings and decided visible full
@@ -216,33 +273,36 @@ impl Reading<'_> {
     }
 
     /// "Fixing takes off the width offered, before 0 becomes 1, and the remaining width stops at 0."
-    fn fix(&self, state: &mut State, at: usize, offered: usize, charged: usize) {
-        self.fire_if(charged > state.remaining, Rule::RemainingStopped);
-        state.remaining = self.less(state.remaining, charged);
-        state.content[at] = Some(offered.max(1));
+    fn fix(&self, state: &mut State, at: usize, offer: Offer) {
+        self.fire_if(offer.charged > state.remaining, Rule::RemainingStopped);
+        state.remaining = self.less(state.remaining, offer.charged);
+        self.decide(state, at, offer.width, offer.step);
+        if self.longest[at] == 0 && self.slips(Slip::BareNotNamed) {
+            state.reasons[at].step = None;
+        }
     }
 
     /// "Column order; a pass that fixed a column is repeated." True if it fixed one.
-    fn pass(&self, state: &mut State, offer: impl Fn(&State, usize) -> Option<(usize, usize)>) -> bool {
+    fn pass(&self, state: &mut State, offer: impl Fn(&State, usize) -> Option<Offer>) -> bool {
         let before = self.undecided(state);
         state.held = self.average(state);
         for at in 0..state.content.len() {
             if state.content[at].is_some() {
                 continue;
             }
-            if let Some((offered, charged)) = offer(state, at) {
-                self.fix(state, at, offered, charged);
+            if let Some(offer) = offer(state, at) {
+                self.fix(state, at, offer);
             }
         }
         self.undecided(state) < before
     }
 
     /// A bound is made content before it is offered, so one eaten up by padding is charged 1.
-    fn offer_bound(&self, at: usize, bound: usize, eaten: Rule) -> (usize, usize) {
-        let content = self.content(at, bound);
+    fn offer_bound(&self, step: Step, at: usize, bound: usize, eaten: Rule) -> Offer {
+        let width = self.content(at, bound);
         self.fire_if(bound <= self.padding(at), eaten);
         let free = self.slips(Slip::EatenFree) && bound <= self.padding(at);
-        (content, if free { 0 } else { content })
+        Offer { step, width, charged: if free { 0 } else { width } }
     }
 
     /// "1. Lower bounds above the average are fixed."
@@ -256,7 +316,7 @@ impl Reading<'_> {
         }
     }
 
-    fn offer_lower(&self, at: usize, average: usize) -> Option<(usize, usize)> {
+    fn offer_lower(&self, at: usize, average: usize) -> Option<Offer> {
         let bound = self.lower(at)?;
         let compared = if self.slips(Slip::LowerLessPadding) { self.content(at, bound) } else { bound };
         self.fire_if(compared == average, Rule::LowerEqual);
@@ -264,7 +324,8 @@ impl Reading<'_> {
             return None;
         }
         self.fire(Rule::LowerFixed);
-        Some(self.offer_bound(at, bound, Rule::LowerEaten))
+        let step = if self.slips(Slip::LowerNamedFirst) { Step::First } else { Step::Lower };
+        Some(self.offer_bound(step, at, bound, Rule::LowerEaten))
     }
 
     /// "2. A pass begins only if the average isn't 0"
@@ -287,10 +348,13 @@ impl Reading<'_> {
 
     /// "fix at an upper bound that is at most average plus padding and at most longest plus padding;
     /// else at the longest if at most the average."
-    fn offer_fitting(&self, at: usize, average: usize) -> Option<(usize, usize)> {
+    fn offer_fitting(&self, at: usize, average: usize) -> Option<Offer> {
+        let exchanged = self.slips(Slip::UpperAndLongest);
         if let Some(bound) = self.upper(at).filter(|bound| self.upper_fits(at, *bound, average)) {
             self.fire(Rule::UpperFixed);
-            return Some(self.offer_bound(at, bound, Rule::UpperEaten));
+            let equal = bound == self.longest[at] + self.padding(at) && self.slips(Slip::EqualNamedLongest);
+            let step = if exchanged || equal { Step::Longest } else { Step::Upper };
+            return Some(self.offer_bound(step, at, bound, Rule::UpperEaten));
         }
         let longest = self.longest[at];
         if longest > average || (longest == average && self.slips(Slip::LongestStrict)) {
@@ -299,7 +363,8 @@ impl Reading<'_> {
         self.fire_if(longest == average, Rule::FitEqual);
         self.fire(if longest == 0 { Rule::FitBare } else { Rule::FitFixed });
         let charged = if self.slips(Slip::ChargesOne) { longest.max(1) } else { longest };
-        Some((longest, charged))
+        let step = if exchanged { Step::Upper } else { Step::Longest };
+        Some(Offer { step, width: longest, charged })
     }
 
     fn upper_fits(&self, at: usize, bound: usize, average: usize) -> bool {
@@ -326,7 +391,7 @@ impl Reading<'_> {
         }
     }
 
-    fn offer_trial(&self, at: usize, average: usize) -> Option<(usize, usize)> {
+    fn offer_trial(&self, at: usize, average: usize) -> Option<Offer> {
         let part = self.longest_part(at, average);
         let saved = average.saturating_sub(part);
         self.fire_if(average == 0, Rule::TrialZero);
@@ -342,7 +407,8 @@ impl Reading<'_> {
         self.fire_if(saved == 3, Rule::TrialThree);
         self.fire(if part == 0 { Rule::TrialNothing } else { Rule::TrialFixed });
         let charged = if self.slips(Slip::TrialAtLeastOne) { part.max(1) } else { part };
-        Some((part, charged))
+        let step = if self.slips(Slip::PartNamedShare) { Step::Share } else { Step::Part };
+        Some(Offer { step, width: part, charged })
     }
 
     fn longest_part(&self, at: usize, average: usize) -> usize {
@@ -363,9 +429,10 @@ impl Reading<'_> {
             self.fire_if(state.remaining < left, Rule::ShareRaised);
             let total = state.remaining.max(left);
             self.fire(if total % left == 0 { Rule::ShareEven } else { Rule::ShareExcess });
-            let mut shares = self.share(total, left).into_iter();
-            for content in state.content.iter_mut().filter(|content| content.is_none()) {
-                *content = shares.next().map(|share| share.max(1));
+            let open: Vec<usize> = (0..state.content.len()).filter(|at| state.content[*at].is_none()).collect();
+            for (at, share) in open.into_iter().zip(self.share(total, left)) {
+                self.decide(state, at, share, Step::Share);
+                state.reasons[at].widened = self.table.arrangement == 2 && self.slips(Slip::ShareWidens);
             }
         } else if self.table.arrangement == 2 {
             self.widen(state);
@@ -381,8 +448,18 @@ impl Reading<'_> {
             (count, rest) if rest % count == 0 => Rule::FullEven,
             _ => Rule::FullExcess,
         });
-        for (at, share) in widened.iter().zip(self.share(state.remaining, widened.len())) {
+        let rest = state.remaining;
+        let marked = |share: usize| match self.slip {
+            Some(Slip::NothingWidens) => rest > 0,
+            Some(Slip::NoRemainderWidens) => share > 0 || rest == 0,
+            _ => share > 0,
+        };
+        for (at, share) in widened.iter().zip(self.share(rest, widened.len())) {
             state.content[*at] = state.content[*at].map(|content| content + share);
+            state.reasons[*at].widened = marked(share);
+        }
+        if rest > 0 && self.slips(Slip::HiddenWidened) {
+            state.reasons.iter_mut().for_each(|reason| reason.widened |= reason.step.is_none());
         }
     }
 
