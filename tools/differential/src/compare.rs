@@ -5,23 +5,60 @@ use std::panic::{AssertUnwindSafe, catch_unwind};
 use crate::marks::{RefusalSlip, Rule, Rules, Slip, WriterSlip};
 use crate::oracle::{self, Answer};
 use crate::reading::Reading;
+use crate::reasons::{self, Counts, Report};
 use crate::sheet::{self, SIGN, Table};
-use crate::{damage, generate, second, writer};
+use crate::{damage, generate, second, steps, writer};
 
-/// Widths come first: a mistaken width can make a page of any size.
-pub fn agrees(table: &Table, answer: &Answer, slip: Option<Slip>) -> (bool, Rules) {
-    let reading = Reading::new(table, slip);
-    let widths = reading.widths();
+/// What is expected of an accepted sheet: the oracle's answer, and the report that follows from its page
+/// and from the steps as they are found apart from the reading. None if these steps lead to other widths.
+pub struct Expected<'a> {
+    table: &'a Table,
+    answer: &'a Answer,
+    report: Option<Report>,
+}
+
+impl<'a> Expected<'a> {
+    pub fn new(table: &'a Table, answer: &'a Answer) -> Self {
+        let found = steps::found(table);
+        let widths: Vec<usize> = found.iter().map(|(width, _)| *width).collect();
+        let report = same_widths(table, &widths, answer).then(|| Report {
+            columns: found.into_iter().map(|(_, reason)| reason).collect(),
+            difference: reasons::difference(table.target, &answer.page),
+        });
+        Expected { table, answer, report }
+    }
+
+    /// Whether the reading answers so, on request with a mistake. Widths come first: a mistaken width can
+    /// make a page of any size. A mistake of theirs or of the page has to show in what the oracle answers.
+    pub fn agrees(&self, slip: Option<Slip>) -> (bool, Rules) {
+        let reading = Reading::new(self.table, slip);
+        let (widths, columns) = reading.arranged();
+        if !same_widths(self.table, &widths, self.answer) {
+            return (false, reading.fired());
+        }
+        let printed = reading.page(&widths);
+        let counted = (printed.lines, printed.bytes) == (self.answer.lines, self.answer.page.len());
+        let given = Some(Report { columns, difference: printed.difference });
+        let reported = self.report == given || slip.is_some_and(|slip| !slip.of_report());
+        (counted && reported && printed.page == self.answer.page, reading.fired())
+    }
+
+    /// The report, if the reading's run names the same steps.
+    pub fn report(&self) -> Option<&Report> {
+        let (_, columns) = Reading::new(self.table, None).arranged();
+        self.report.as_ref().filter(|report| report.columns == columns)
+    }
+}
+
+fn same_widths(table: &Table, widths: &[usize], answer: &Answer) -> bool {
     let same = |(width, (at, (content, hidden))): (&usize, (usize, &(u16, bool)))| {
         *width == usize::from(*content) && *hidden == (table.columns[at].constraint == 1)
     };
-    let equal = widths.len() == answer.widths.len();
-    if !equal || !widths.iter().zip(answer.widths.iter().enumerate()).all(same) {
-        return (false, reading.fired());
-    }
-    let printed = reading.page(&widths);
-    let counted = (printed.lines, printed.bytes) == (answer.lines, answer.page.len());
-    (counted && printed.page == answer.page, reading.fired())
+    widths.len() == answer.widths.len() && widths.iter().zip(answer.widths.iter().enumerate()).all(same)
+}
+
+pub fn agrees(table: &Table, answer: &Answer) -> bool {
+    Expected::new(table, answer).agrees(None).0
 }
 
 pub fn hexadecimal(bytes: &[u8]) -> String {
@@ -33,17 +70,32 @@ fn asked(table: &Table) -> Option<Answer> {
     catch_unwind(AssertUnwindSafe(|| oracle::answer(table))).ok()
 }
 
-/// One accepted sheet: decoded from its own bytes, printed by both.
-pub fn difference(table: &Table, bytes: &[u8], seen: &mut [u64]) -> Option<&'static str> {
+/// What a run has seen: how often each rule, and what was reported.
+pub struct Seen {
+    rules: Vec<u64>,
+    reported: Counts,
+}
+
+impl Seen {
+    pub fn new() -> Self {
+        Seen { rules: vec![0; Rule::ALL.len()], reported: Counts::default() }
+    }
+}
+
+/// One accepted sheet: decoded from its own bytes, printed and reported on by both.
+pub fn difference(table: &Table, bytes: &[u8], seen: &mut Seen) -> Option<&'static str> {
     if sheet::decode(bytes).as_ref() != Ok(table) || second::refusal(bytes).is_some() {
         return Some("the sheet isn't read back as the table it was made from");
     }
     let Some(answer) = asked(table) else { return Some("the oracle panicked") };
-    let (same, fired) = agrees(table, &answer, None);
+    let expected = Expected::new(table, &answer);
+    let Some(report) = &expected.report else { return Some("the steps lead to other widths") };
+    seen.reported.add(report);
+    let (same, fired) = expected.agrees(None);
     for rule in fired.iter() {
-        seen[rule as usize] += 1;
+        seen.rules[rule as usize] += 1;
     }
-    if same { None } else { Some("page or widths differ") }
+    if same { None } else { Some("page, widths or report differ") }
 }
 
 /// Sheets and differences, first of those without C2 or B0 in them, then of the others.
@@ -80,7 +132,7 @@ impl Tally {
 
 /// True if there was no difference.
 pub fn accepted(seed: u64, count: u64) -> bool {
-    let mut seen = vec![0; Rule::ALL.len()];
+    let mut seen = Seen::new();
     let mut tally = Tally::default();
     for index in 0..count {
         let table = generate::table(seed, index);
@@ -88,7 +140,8 @@ pub fn accepted(seed: u64, count: u64) -> bool {
         tally.add(index, &bytes, 0, difference(&table, &bytes, &mut seen));
     }
     let same = tally.report(&format!("accepted sheets from seed {seed}"));
-    print_rules(&seen);
+    print_rules(&seen.rules);
+    seen.reported.print();
     same
 }
 
@@ -104,7 +157,7 @@ fn print_rules(seen: &[u64]) {
 
 /// Damaged sheets: both readings of the refusals, and the page of those that are still accepted.
 pub fn damaged(seed: u64, count: u64) -> bool {
-    let mut tally = Tally::default();
+    let (mut tally, mut seen) = (Tally::default(), Seen::new());
     for index in 0..count {
         let bytes = damage::sheet(seed, index);
         let (number, difference) = match catch_unwind(|| sheet::decode(&bytes)) {
@@ -113,7 +166,7 @@ pub fn damaged(seed: u64, count: u64) -> bool {
                 let same = second::refusal(&bytes) == Some(refusal);
                 (refusal.number, (!same).then_some("the readings of the refusals differ"))
             }
-            Ok(Ok(table)) => (0, difference(&table, &bytes, &mut vec![0; Rule::ALL.len()])),
+            Ok(Ok(table)) => (0, difference(&table, &bytes, &mut seen)),
         };
         tally.add(index, &bytes, number, difference);
     }
@@ -127,7 +180,8 @@ pub fn slips(seed: u64, most: u64) -> bool {
     let pages = sheets_until(Slip::ALL, most, |index, left| {
         let table = generate::table(seed, index);
         let answer = oracle::answer(&table);
-        left.retain(|slip| agrees(&table, &answer, Some(*slip)).0);
+        let expected = Expected::new(&table, &answer);
+        left.retain(|slip| expected.agrees(Some(*slip)).0);
     });
     let refusals = sheets_until(RefusalSlip::ALL, most, |index, left| {
         let sheet = damage::sheet(seed, index);

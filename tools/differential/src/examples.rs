@@ -1,6 +1,6 @@
-//! Document 01's trial desk sheet, its page, its other examples, and those of document 02's orders 1 and 4.
+//! Document 01's trial desk sheet, its page, its other examples, and those of document 02's orders 1, 4 and 5.
 
-use crate::compare::agrees;
+use crate::compare::{Expected, agrees};
 use crate::oracle;
 use crate::second;
 use crate::sheet::{Cell, Column, Refusal, Row, SIGN, STYLE_BYTES, Table, Width, decode, encode};
@@ -61,13 +61,13 @@ fn narrow(width: u16, height: u8, lines: &[&str]) -> Table {
 fn prints(table: &Table, lines: &[&str]) -> bool {
     let answer = oracle::answer(table);
     let page: Vec<u8> = lines.iter().flat_map(|line| line.bytes().chain([b'\n'])).collect();
-    answer.page == page && answer.lines == lines.len() && agrees(table, &answer, None).0
+    answer.page == page && answer.lines == lines.len() && agrees(table, &answer)
 }
 
 fn has_widths(table: &Table, widths: &[u16]) -> bool {
     let answer = oracle::answer(table);
     let given: Vec<u16> = answer.widths.iter().map(|(width, _)| *width).collect();
-    given == widths && agrees(table, &answer, None).0
+    given == widths && agrees(table, &answer)
 }
 
 fn refused(sheet: &[u8], number: u8, place: usize) -> bool {
@@ -77,7 +77,7 @@ fn refused(sheet: &[u8], number: u8, place: usize) -> bool {
 
 fn wrapping() -> Vec<(&'static str, bool)> {
     vec![
-        ("trial desk", oracle::answer(&desk()).page == PAGE && agrees(&desk(), &oracle::answer(&desk()), None).0),
+        ("trial desk", oracle::answer(&desk()).page == PAGE && agrees(&desk(), &oracle::answer(&desk()))),
         ("the quick brown at 6", prints(&narrow(6, 0, &["the quick brown"]), &["the   ", "quick ", "brown "])),
         ("a abcdefgh at 6", prints(&narrow(6, 0, &["a abcdefgh"]), &["a abcd", "efgh  "])),
         ("abc d e at 4", prints(&narrow(4, 0, &["abc d e"]), &["abc ", "d e "])),
@@ -114,6 +114,78 @@ fn widths() -> Vec<(&'static str, bool)> {
         ("`Absolute` 3, padding 2+2", has_widths(&aimed(0, 0, vec![column(2, 3, 0, 3)], &["a"]), &[1])),
         ("50 percent", has_widths(&percent(50), &[9, 1])),
         ("150 percent", has_widths(&percent(150), &[18, 1])),
+    ]
+}
+
+/// The columns' step numbers, those that are widened, and the difference.
+fn reports(table: &Table, steps: &[u8], widened: &[usize], difference: Option<i32>) -> bool {
+    let answer = oracle::answer(table);
+    let expected = Expected::new(table, &answer);
+    let Some(report) = expected.report() else { return false };
+    let given = report.columns.iter().map(|reason| reason.step.map_or(0, |step| step.number()));
+    let wide = report.columns.iter().enumerate().filter(|(_, reason)| reason.widened).map(|(at, _)| at);
+    let same = given.eq(steps.iter().copied()) && wide.eq(widened.iter().copied());
+    same && report.difference == difference && expected.agrees(None).0
+}
+
+/// The trial desk's sheet arranged otherwise.
+fn desk_reasons() -> Vec<(&'static str, bool)> {
+    let desk = |arrangement: u8, target: u16| Table { arrangement, target, ..desk() };
+    vec![
+        ("reasons: trial desk", reports(&desk(1, 20), &[4, 6], &[], Some(0))),
+        ("reasons: trial desk, `Disabled`", reports(&desk(0, 20), &[7, 7], &[], Some(-4))),
+        ("reasons: trial desk, no target", reports(&desk(1, 0), &[7, 7], &[], None)),
+        ("reasons: trial desk at 30", reports(&desk(1, 30), &[4, 4], &[], Some(6))),
+        ("reasons: trial desk, full width at 20", reports(&desk(2, 20), &[4, 6], &[], Some(0))),
+        ("reasons: trial desk, full width at 24", reports(&desk(2, 24), &[4, 4], &[], Some(0))),
+        ("reasons: trial desk, full width at 25", reports(&desk(2, 25), &[4, 4], &[0], Some(0))),
+        ("reasons: trial desk, full width at 26", reports(&desk(2, 26), &[4, 4], &[0, 1], Some(0))),
+    ]
+}
+
+fn reasons() -> Vec<(&'static str, bool)> {
+    let one = |arrangement: u8, target: u16, padding: u8, constraint: u8, bound: u16, line: &str| {
+        aimed(arrangement, target, vec![column(padding, constraint, 0, bound)], &[line])
+    };
+    let percent = |target: u16| aimed(1, target, vec![column(0, 3, 1, 50)], &["abcd"]);
+    let no_cells = |arrangement: u8| Table { arrangement, target: 10, ..bare(vec![Column::default()], vec![]) };
+    let hidden = |target: u16| aimed(2, target, vec![column(0, 1, 0, 0), Column::default()], &["abcdef", "ab"]);
+    let mut top = aimed(1, 10, vec![Column::default(); 2], &["ab", "cd"]);
+    top.style[1] = b'-';
+    vec![
+        ("reasons: lower bound at the longest", reports(&one(1, 10, 0, 4, 4, "abcd"), &[1], &[], Some(6))),
+        ("reasons: lower bound above the average", reports(&one(1, 3, 0, 4, 4, "abcde"), &[2], &[], Some(-1))),
+        ("reasons: upper bound at the longest", reports(&one(1, 10, 0, 5, 4, "abcd"), &[3], &[], Some(6))),
+        ("reasons: upper bound above the longest", reports(&one(1, 10, 0, 5, 5, "abcd"), &[4], &[], Some(6))),
+        ("reasons: `Disabled` upper 5, longest 5", reports(&one(0, 10, 1, 5, 5, "abcde"), &[7], &[], Some(3))),
+        ("reasons: `Disabled` upper 5, longest 6", reports(&one(0, 10, 1, 5, 5, "abcdef"), &[8], &[], Some(5))),
+        ("reasons: `Disabled` absolute", reports(&one(0, 3, 0, 3, 4, "abcde"), &[1], &[], Some(-1))),
+        ("reasons: percent, no target", reports(&percent(0), &[7], &[], None)),
+        ("reasons: percent", reports(&percent(10), &[1], &[], Some(5))),
+        ("reasons: no cells", reports(&no_cells(1), &[4], &[], Some(10))),
+        ("reasons: no cells, full width", reports(&no_cells(2), &[4], &[0], Some(10))),
+        ("reasons: hidden column, full width", reports(&hidden(3), &[0, 4], &[1], Some(0))),
+        ("reasons: hidden column, nothing left", reports(&hidden(2), &[0, 4], &[], Some(0))),
+        ("reasons: no columns", reports(&Table { target: 7, ..bare(vec![], vec![]) }, &[], &[], Some(7))),
+        ("reasons: top border the longest", reports(&top, &[4, 4], &[], Some(5))),
+        ("reasons: setpoint", reports(&one(1, 6, 0, 0, 0, SETPOINT), &[4], &[], Some(0))),
+    ]
+}
+
+/// Average 10: 12 is above it. Then 9: 7 is within it. Then 10: the longest part is 6. 15 are left.
+fn several_reasons() -> Vec<(&'static str, bool)> {
+    let (lower, upper) = (column(0, 4, 0, 12), column(0, 5, 0, 7));
+    let plain = || column(0, 0, 0, 0);
+    let (long, words) = ("abcdefghijklmnopqrst", "abcdef abcdef");
+    let four = [lower.clone(), upper.clone(), plain(), plain()];
+    let six = [column(0, 2, 0, 0), lower, upper, plain(), plain(), plain()];
+    let lines = [long, "abcdefghij", words, long];
+    let more = ["ab", long, "abcdefghij", "ab", words, long];
+    vec![
+        ("reasons: four steps", reports(&aimed(1, 40, four.to_vec(), &lines), &[2, 3, 5, 6], &[], Some(0))),
+        ("widths of four steps", has_widths(&aimed(1, 40, four.to_vec(), &lines), &[12, 7, 6, 15])),
+        ("reasons: six steps", reports(&aimed(1, 44, six.to_vec(), &more), &[1, 2, 3, 4, 5, 6], &[], Some(0))),
+        ("widths of six steps", has_widths(&aimed(1, 44, six.to_vec(), &more), &[2, 12, 7, 2, 6, 15])),
     ]
 }
 
@@ -215,7 +287,8 @@ fn pairs() -> Vec<(&'static str, bool)> {
 
 /// True if every example comes out.
 pub fn all_pass() -> bool {
-    let examples = [wrapping(), widths(), limits(), signs(), pairs(), writer::examples::all()].concat();
+    let reasons = [desk_reasons(), reasons(), several_reasons()].concat();
+    let examples = [wrapping(), widths(), reasons, limits(), signs(), pairs(), writer::examples::all()].concat();
     for (words, _) in examples.iter().filter(|(_, passed)| !passed) {
         println!("example fails: {words}");
     }

@@ -22,6 +22,7 @@ mod sheet;
 mod signs;
 mod slices;
 mod small;
+mod steps;
 mod writer;
 
 use std::io::{self, Read, Write};

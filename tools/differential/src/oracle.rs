@@ -27,6 +27,16 @@ pub fn answer(table: &sheet::Table) -> Answer {
     Answer { page, lines, widths: inside::widths(&built) }
 }
 
+/// The longest part of a cell line, split at a width if it is longer.
+pub fn longest_part(line: &[u8], width: usize, delimiter: u8) -> usize {
+    let line = text(line);
+    if line.chars().count() <= width {
+        return line.chars().count();
+    }
+    let parts = inside::split_line(&line, width as u16, delimiter as char);
+    parts.iter().map(|part| part.chars().count()).max().unwrap_or(0)
+}
+
 pub fn build(table: &sheet::Table) -> comfy_table::Table {
     let mut built = comfy_table::Table::new();
     built.set_content_arrangement(match table.arrangement {

@@ -2,7 +2,7 @@
 
 use std::collections::{BinaryHeap, HashMap};
 
-use crate::compare::agrees;
+use crate::compare::Expected;
 use crate::marks::{RefusalSlip, Rule, Slip};
 use crate::record::{Record, answered};
 use crate::second;
@@ -54,12 +54,13 @@ fn candidate(sheet: Vec<u8>) -> Option<Candidate> {
 /// Rules and pairs of rules that the sheet shows, mistakes that it catches, limits that it touches.
 fn features(table: &Table, record: &Record) -> Vec<u32> {
     let answer = record.answer.as_ref().expect("an accepted sheet");
-    let fired: Vec<u32> = agrees(table, answer, None).1.iter().map(|rule| rule as u32).collect();
+    let expected = Expected::new(table, answer);
+    let fired: Vec<u32> = expected.agrees(None).1.iter().map(|rule| rule as u32).collect();
     let mut features = fired.clone();
     for (position, first) in fired.iter().enumerate() {
         features.extend(fired[position + 1..].iter().map(|second| PAIRS_FROM + first * RULES + second));
     }
-    let caught = Slip::ALL.iter().filter(|slip| !agrees(table, answer, Some(**slip)).0);
+    let caught = Slip::ALL.iter().filter(|slip| !expected.agrees(Some(**slip)).0);
     features.extend(caught.map(|slip| SLIPS_FROM + *slip as u32));
     let touched = limits(table).into_iter().enumerate().filter(|(_, touched)| *touched);
     features.extend(touched.map(|(limit, _)| LIMITS_FROM + limit as u32));
@@ -193,10 +194,11 @@ pub fn summary(records: &[Record]) -> String {
             continue;
         };
         signed += usize::from(table.has_signs());
-        for rule in agrees(&table, answer, None).1.iter() {
+        let expected = Expected::new(&table, answer);
+        for rule in expected.agrees(None).1.iter() {
             rules[rule as usize] += 1;
         }
-        for slip in Slip::ALL.iter().filter(|slip| !agrees(&table, answer, Some(**slip)).0) {
+        for slip in Slip::ALL.iter().filter(|slip| !expected.agrees(Some(**slip)).0) {
             caught_by[*slip as usize] += 1;
         }
     }

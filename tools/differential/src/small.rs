@@ -1,8 +1,8 @@
 //! Document 02's order 2: "a program that writes every sheet of a small family, end to end". What such a
 //! program wrote, against a list made here from the document's words; they are quoted.
 
-use crate::compare::{self, hexadecimal};
-use crate::marks::{ListSlip, Rule};
+use crate::compare::{self, Seen, hexadecimal};
+use crate::marks::ListSlip;
 use crate::sheet::{Cell, Column, MOST_COLUMNS, Refusal, Row, STYLE_BYTES, Table, decode_front, encode};
 
 /// "There are 32,736: 1,023 with one column and 31,713 with two."
@@ -219,7 +219,7 @@ pub type Calls<'a> = &'a mut dyn FnMut(u64, &[u8]) -> Option<&'static str>;
 /// The program's output: the list, the oracle against the reading on each sheet, and the archive's calls
 /// if it is linked in. True if there was no difference and the sheets are as many as the document says.
 pub fn agrees(input: &[u8], mut calls: Option<Calls>) -> bool {
-    let (tried, mut seen) = (calls.is_some(), vec![0; Rule::ALL.len()]);
+    let (tried, mut seen) = (calls.is_some(), Seen::new());
     let tally = compared(input, &list(None), &mut |index, table, sheet| {
         let mut called = || calls.as_mut().and_then(|calls| calls(index, sheet));
         let difference = compare::difference(table, sheet, &mut seen).map(String::from);
