@@ -1,8 +1,8 @@
 //! Accepted sheets aimed at the edges of the rules.
 
 use crate::random::Random;
-use crate::sheet::{Cell, Column, LONGEST_SHEET, PERCENT, Row, STYLE_BYTES, Table, Width, encode, used_widths};
-use crate::signs;
+use crate::sheet::{Cell, Column, LONGEST_SHEET, PERCENT, Row, SIGN, STYLE_BYTES, Table, Width, encode, used_widths};
+use crate::{aims, signs};
 
 const GRID: [u8; STYLE_BYTES] = *b"+-++|||+=++|||+-+++-++";
 
@@ -42,6 +42,7 @@ fn candidate(random: &mut Random) -> Table {
     };
     aim(random, &mut table);
     signs::put(random, &mut table);
+    aims::put(random, &mut table);
     table
 }
 
@@ -222,12 +223,18 @@ fn words(random: &mut Random, scale: usize, mark: u8) -> Vec<u8> {
     line
 }
 
-fn longest(table: &Table, at: usize) -> usize {
+/// In characters.
+pub fn longest(table: &Table, at: usize) -> usize {
     let cells = table.header.iter().chain(&table.rows).filter_map(|row| row.cells.get(at));
-    cells.flat_map(|cell| &cell.lines).map(Vec::len).max().unwrap_or(0)
+    let length = |line: &Vec<u8>| line.iter().filter(|byte| **byte != SIGN[1]).count();
+    cells.flat_map(|cell| &cell.lines).map(length).max().unwrap_or(0)
 }
 
-fn borders(style: &[u8; STYLE_BYTES], visible: usize) -> usize {
+pub fn padding(column: &Column) -> usize {
+    usize::from(column.left) + usize::from(column.right)
+}
+
+pub fn borders(style: &[u8; STYLE_BYTES], visible: usize) -> usize {
     let set = |places: [usize; 6]| places.iter().any(|place| style[*place] != 0);
     let between = if set([2, 5, 9, 12, 16, 20]) { visible.saturating_sub(1) } else { 0 };
     usize::from(set([0, 4, 7, 11, 14, 18])) + usize::from(set([3, 6, 10, 13, 17, 21])) + between
@@ -236,7 +243,6 @@ fn borders(style: &[u8; STYLE_BYTES], visible: usize) -> usize {
 /// The target first, then bounds near the widths at which the rules turn.
 fn aim(random: &mut Random, table: &mut Table) {
     let visible: Vec<usize> = (0..table.columns.len()).filter(|at| table.columns[*at].constraint != 1).collect();
-    let padding = |column: &Column| usize::from(column.left) + usize::from(column.right);
     let paddings: usize = visible.iter().map(|at| padding(&table.columns[*at])).sum();
     let texts: usize = visible.iter().map(|at| longest(table, *at)).sum();
     let borders = borders(&table.style, visible.len());

@@ -1,5 +1,6 @@
 //! The differential tool: comfy-table as the oracle, the documents read as a program, aimed sheets.
 
+mod aims;
 #[cfg(gateway)]
 mod archive;
 mod beyond;
