@@ -27,6 +27,19 @@ pub struct Measured {
     pub hidden: [u8; 12],
 }
 
+/// The flags are bytes here too.
+#[repr(C)]
+#[derive(Debug, PartialEq)]
+pub struct Reasoned {
+    pub number: u64,
+    pub place: u64,
+    pub columns: u64,
+    pub step: [u8; 12],
+    pub widened: [u8; 12],
+    pub has_difference: u8,
+    pub difference: i32,
+}
+
 #[repr(C)]
 #[derive(Debug, PartialEq)]
 pub struct Printed {
@@ -48,6 +61,7 @@ unsafe extern "C" {
     fn cagwoni_check(sheet: *const u8, sheet_len: usize) -> Checked;
     fn cagwoni_count(sheet: *const u8, sheet_len: usize) -> Counted;
     fn cagwoni_widths(sheet: *const u8, sheet_len: usize) -> Measured;
+    fn cagwoni_reasons(sheet: *const u8, sheet_len: usize) -> Reasoned;
     fn cagwoni_print_page(sheet: *const u8, sheet_len: usize, page: *mut u8, page_len: usize) -> Printed;
     fn cagwoni_print_line(sheet: *const u8, sheet_len: usize, line: usize, page: *mut u8, page_len: usize) -> Printed;
     fn cagwoni_print_lines(
@@ -91,6 +105,10 @@ impl Calls<'_> {
 
     pub fn widths(&self) -> Measured {
         unsafe { cagwoni_widths(self.sheet.as_ptr(), self.sheet.len()) }
+    }
+
+    pub fn reasons(&self) -> Reasoned {
+        unsafe { cagwoni_reasons(self.sheet.as_ptr(), self.sheet.len()) }
     }
 
     pub fn page(&self, page: &mut [u8]) -> Printed {

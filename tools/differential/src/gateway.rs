@@ -2,12 +2,13 @@
 
 use std::ops::Range;
 
-use crate::archive::{Calls, Checked, Counted, Measured, Printed, PrintedLines, write_sheet};
-use crate::compare::Tally;
+use crate::archive::{Calls, Checked, Counted, Measured, Printed, PrintedLines, Reasoned, write_sheet};
+use crate::compare::{Expected, Tally};
 use crate::oracle::Answer;
 use crate::random::Random;
+use crate::reasons::{Counts, Report};
 use crate::record::{Record, answered};
-use crate::sheet::{MOST_COLUMNS, Refusal, encode};
+use crate::sheet::{MOST_COLUMNS, Refusal, decode, encode};
 use crate::slices::Slices;
 use crate::{damage, generate, second};
 
@@ -86,6 +87,7 @@ fn refused_difference(
         ("check", calls.check() == Checked { number, place }),
         ("count", calls.count() == Counted { number, place, lines: 0, bytes: 0 }),
         ("widths", calls.widths() == Measured { number, place, columns: 0, content, hidden }),
+        ("reasons", calls.reasons() == Reasoned { number, place, ..no_reasons() }),
         ("page", buffer.holds(length, b"", |page| calls.page(page), refused(refusal))),
         ("line", buffer.holds(length, b"", |page| calls.line(line, page), refused(refusal))),
         ("lines", buffer.holds(length, b"", |page| calls.lines(line, page), some(refused(refusal)))),
@@ -101,6 +103,24 @@ fn measured(answer: &Answer) -> Measured {
     Measured { number: 0, place: 0, columns: answer.widths.len() as u64, content, hidden }
 }
 
+/// "a refused call answers so throughout"
+fn no_reasons() -> Reasoned {
+    let (step, widened) = ([0; MOST_COLUMNS as usize], [0; MOST_COLUMNS as usize]);
+    Reasoned { number: 0, place: 0, columns: 0, step, widened, has_difference: 0, difference: 0 }
+}
+
+fn reasoned(report: &Report) -> Reasoned {
+    let mut answer = no_reasons();
+    answer.columns = report.columns.len() as u64;
+    for (at, reason) in report.columns.iter().enumerate() {
+        answer.step[at] = reason.step.map_or(0, |step| step.number());
+        answer.widened[at] = u8::from(reason.widened);
+    }
+    answer.has_difference = u8::from(report.difference.is_some());
+    answer.difference = report.difference.unwrap_or(0);
+    answer
+}
+
 /// Where each line of the page stands.
 fn line_ranges(page: &[u8]) -> Vec<Range<usize>> {
     let mut start = 0;
@@ -111,6 +131,7 @@ fn line_ranges(page: &[u8]) -> Vec<Range<usize>> {
 fn accepted_difference(
     calls: &Calls,
     answer: &Answer,
+    report: &Report,
     random: &mut Random,
     buffer: &mut Buffer,
 ) -> Option<&'static str> {
@@ -125,6 +146,7 @@ fn accepted_difference(
         ("check", calls.check() == Checked { number: 0, place: 0 }),
         ("count", calls.count() == counted),
         ("widths", calls.widths() == measured(answer)),
+        ("reasons", calls.reasons() == reasoned(report)),
         ("page, room to spare", buffer.holds(over, page, |page| calls.page(page), written(page.len()))),
         ("page, exactly full", buffer.holds(page.len(), page, |page| calls.page(page), written(page.len()))),
         ("page, too short", shortly(buffer)),
@@ -190,30 +212,38 @@ fn lines_difference(calls: &Calls, answer: &Answer, random: &mut Random, buffer:
     None
 }
 
-fn difference(record: &Record, random: &mut Random, buffer: &mut Buffer) -> Option<&'static str> {
-    let calls = Calls { sheet: &record.sheet };
-    match &record.answer {
-        Ok(_) if second::refusal(&record.sheet).is_some() => Some("the second reading of the refusals"),
-        Err(refusal) if second::refusal(&record.sheet) != Some(*refusal) => Some("the second reading of the refusals"),
-        Ok(answer) => accepted_difference(&calls, answer, random, buffer),
-        Err(refusal) => refused_difference(&calls, *refusal, random, buffer),
-    }
+/// The report on an accepted sheet; none if the two ways to find its steps differ.
+fn report(sheet: &[u8], answer: &Answer) -> Option<Report> {
+    let table = decode(sheet).ok()?;
+    Expected::new(&table, answer).report().cloned()
 }
 
 /// Every call on one sheet after another, by one buffer. What it is lent comes from the seed.
 pub struct Trials {
     seed: u64,
     buffer: Buffer,
+    reported: Counts,
 }
 
 impl Trials {
     pub fn new(seed: u64) -> Self {
-        Trials { seed, buffer: Buffer::new() }
+        Trials { seed, buffer: Buffer::new(), reported: Counts::default() }
     }
 
     /// The first call on sheet number `index` that answers otherwise than the record says.
     pub fn difference(&mut self, index: u64, record: &Record) -> Option<&'static str> {
-        difference(record, &mut Random::new(self.seed ^ 0x5EED, index), &mut self.buffer)
+        let random = &mut Random::new(self.seed ^ 0x5EED, index);
+        let calls = Calls { sheet: &record.sheet };
+        if second::refusal(&record.sheet) != record.answer.as_ref().err().copied() {
+            return Some("the second reading of the refusals");
+        }
+        let answer = match &record.answer {
+            Ok(answer) => answer,
+            Err(refusal) => return refused_difference(&calls, *refusal, random, &mut self.buffer),
+        };
+        let Some(report) = report(&record.sheet, answer) else { return Some("the two ways to find the steps") };
+        self.reported.add(&report);
+        accepted_difference(&calls, answer, &report, random, &mut self.buffer)
     }
 }
 
@@ -250,5 +280,7 @@ pub fn agrees(seed: u64, count: u64, damaged: bool) -> bool {
         tally.add(index, &record.sheet, number, call);
     }
     let kind = if damaged { "damaged" } else { "accepted" };
-    tally.report(&format!("{kind} sheets from seed {seed} through every call"))
+    let same = tally.report(&format!("{kind} sheets from seed {seed} through every call"));
+    trials.reported.print();
+    same
 }
