@@ -46,10 +46,11 @@ fn bounds_at_longest(random: &mut Random, table: &mut Table) {
         let (longest, padding) = (longest(table, at), padding(&table.columns[at]));
         if random.percent(60) {
             let constraint = random.pick(&[4, 5, 5, 6]);
-            let bound = || fixed(random.pick(&[longest, longest + padding, longest + padding]) + random.below(3));
+            let bound = || {
+                let edge = random.pick(&[longest, longest + padding, longest + padding]);
+                fixed(if random.one_in(2) { edge } else { random.near(edge, 1) })
+            };
             constrain(&mut table.columns[at], constraint, bound);
-            let less = random.below(2) as u16;
-            table.columns[at].widths.iter_mut().for_each(|width| width.value = width.value.saturating_sub(less));
         }
     }
 }

@@ -87,7 +87,6 @@ fn refused_difference(
         ("check", calls.check() == Checked { number, place }),
         ("count", calls.count() == Counted { number, place, lines: 0, bytes: 0 }),
         ("widths", calls.widths() == Measured { number, place, columns: 0, content, hidden }),
-        ("reasons", calls.reasons() == Reasoned { number, place, ..no_reasons() }),
         ("page", buffer.holds(length, b"", |page| calls.page(page), refused(refusal))),
         ("line", buffer.holds(length, b"", |page| calls.line(line, page), refused(refusal))),
         ("lines", buffer.holds(length, b"", |page| calls.lines(line, page), some(refused(refusal)))),
@@ -103,14 +102,15 @@ fn measured(answer: &Answer) -> Measured {
     Measured { number: 0, place: 0, columns: answer.widths.len() as u64, content, hidden }
 }
 
-/// "a refused call answers so throughout"
-fn no_reasons() -> Reasoned {
+/// No column, no step, no difference: "a refused call answers so throughout".
+fn refused_reasons(number: u8, place: usize) -> Reasoned {
     let (step, widened) = ([0; MOST_COLUMNS as usize], [0; MOST_COLUMNS as usize]);
-    Reasoned { number: 0, place: 0, columns: 0, step, widened, has_difference: 0, difference: 0 }
+    let (number, place) = (number.into(), place as u64);
+    Reasoned { number, place, columns: 0, step, widened, has_difference: 0, difference: 0 }
 }
 
 fn reasoned(report: &Report) -> Reasoned {
-    let mut answer = no_reasons();
+    let mut answer = refused_reasons(0, 0);
     answer.columns = report.columns.len() as u64;
     for (at, reason) in report.columns.iter().enumerate() {
         answer.step[at] = reason.step.map_or(0, |step| step.number());
@@ -119,6 +119,11 @@ fn reasoned(report: &Report) -> Reasoned {
     answer.has_difference = u8::from(report.difference.is_some());
     answer.difference = report.difference.unwrap_or(0);
     answer
+}
+
+fn reasons_difference(calls: &Calls, expected: Reasoned) -> Option<String> {
+    let given = calls.reasons();
+    (given != expected).then(|| format!("reasons, {given:?} in place of {expected:?}"))
 }
 
 /// Where each line of the page stands.
@@ -131,7 +136,6 @@ fn line_ranges(page: &[u8]) -> Vec<Range<usize>> {
 fn accepted_difference(
     calls: &Calls,
     answer: &Answer,
-    report: &Report,
     random: &mut Random,
     buffer: &mut Buffer,
 ) -> Option<&'static str> {
@@ -146,7 +150,6 @@ fn accepted_difference(
         ("check", calls.check() == Checked { number: 0, place: 0 }),
         ("count", calls.count() == counted),
         ("widths", calls.widths() == measured(answer)),
-        ("reasons", calls.reasons() == reasoned(report)),
         ("page, room to spare", buffer.holds(over, page, |page| calls.page(page), written(page.len()))),
         ("page, exactly full", buffer.holds(page.len(), page, |page| calls.page(page), written(page.len()))),
         ("page, too short", shortly(buffer)),
@@ -231,19 +234,26 @@ impl Trials {
     }
 
     /// The first call on sheet number `index` that answers otherwise than the record says.
-    pub fn difference(&mut self, index: u64, record: &Record) -> Option<&'static str> {
-        let random = &mut Random::new(self.seed ^ 0x5EED, index);
+    pub fn difference(&mut self, index: u64, record: &Record) -> Option<String> {
+        let (random, buffer) = (&mut Random::new(self.seed ^ 0x5EED, index), &mut self.buffer);
         let calls = Calls { sheet: &record.sheet };
         if second::refusal(&record.sheet) != record.answer.as_ref().err().copied() {
-            return Some("the second reading of the refusals");
+            return Some("the second reading of the refusals".to_string());
         }
-        let answer = match &record.answer {
-            Ok(answer) => answer,
-            Err(refusal) => return refused_difference(&calls, *refusal, random, &mut self.buffer),
+        let (differs, reasons) = match &record.answer {
+            Err(refusal) => {
+                let reasons = refused_reasons(refusal.number, refusal.place);
+                (refused_difference(&calls, *refusal, random, buffer), reasons)
+            }
+            Ok(answer) => {
+                let Some(report) = report(&record.sheet, answer) else {
+                    return Some("the two ways to find the steps".to_string());
+                };
+                self.reported.add(&report);
+                (accepted_difference(&calls, answer, random, buffer), reasoned(&report))
+            }
         };
-        let Some(report) = report(&record.sheet, answer) else { return Some("the two ways to find the steps") };
-        self.reported.add(&report);
-        accepted_difference(&calls, answer, &report, random, &mut self.buffer)
+        differs.map(String::from).or_else(|| reasons_difference(&calls, reasons))
     }
 }
 
@@ -277,7 +287,7 @@ pub fn agrees(seed: u64, count: u64, damaged: bool) -> bool {
         let record = answered(sheet);
         let number = record.answer.as_ref().err().map_or(0, |refusal| refusal.number);
         let call = trials.difference(index, &record);
-        tally.add(index, &record.sheet, number, call);
+        tally.add(index, &record.sheet, number, call.as_deref());
     }
     let kind = if damaged { "damaged" } else { "accepted" };
     let same = tally.report(&format!("{kind} sheets from seed {seed} through every call"));

@@ -1,7 +1,7 @@
 //! Document 01's rules as a program, written from the document, with document 02's order 1: "widths,
-//! cuts and alignment count characters". Quoted words are the documents'. Widths, wrapping, then
-//! cutting, aligning and drawing stand in files of their own. On request it makes one of the planted
-//! mistakes, to show that the comparison would notice.
+//! cuts and alignment count characters". For order 5 each rule that fixes a column notes so. Quoted words
+//! are the documents'. Widths, wrapping, then cutting, aligning and drawing stand in files of their own. On
+//! request it makes one of the planted mistakes, to show that the comparison would notice.
 
 use std::cell::Cell as Shared;
 

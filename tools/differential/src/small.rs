@@ -214,7 +214,7 @@ fn compared(mut input: &[u8], list: &[Vec<u8>], trial: Trial) -> Tally {
 }
 
 /// Every call of the archive on a sheet by its number and bytes: the first that answers otherwise.
-pub type Calls<'a> = &'a mut dyn FnMut(u64, &[u8]) -> Option<&'static str>;
+pub type Calls<'a> = &'a mut dyn FnMut(u64, &[u8]) -> Option<String>;
 
 /// The program's output: the list, the oracle against the reading on each sheet, and the archive's calls
 /// if it is linked in. True if there was no difference and the sheets are as many as the document says.
