@@ -93,7 +93,7 @@ fn rewrite(random: &mut Random, table: &mut Table, at: usize, word: usize, count
     }
 }
 
-/// No target, or one that has no part in the widths: upper bounds around the longest, and percents.
+/// No target, or `Disabled`: upper bounds around the longest, and percents.
 fn untargeted(random: &mut Random, table: &mut Table) {
     table.target = 0;
     if random.one_in(2) {
