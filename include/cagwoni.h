@@ -19,12 +19,12 @@
  * A page is lines of characters, each closed by byte 0A. A character is a byte from 20 to 7E (hexadecimal) or the pair
  * C2 B0, the degree sign as UTF-8 writes it: one character, one column, two bytes. Only the text of cells, the header's
  * too, can bring a pair in, and none is ever cut in two. Lengths in the sheet, line and buffer lengths, byte counts and
- * places count bytes; content widths count characters. So lines of one page that are equally wide can have different
- * lengths. Lines are counted from 0, and a line's bytes include its 0A.
+ * places count bytes; content widths and the difference to the target count characters. So lines of one page that are
+ * equally wide can have different lengths. Lines are counted from 0, and a line's bytes include its 0A.
  *
- * A refused call answers a number other than 0, a place and a written count of 0; its other counts and widths are 0,
- * no column is marked hidden, and the buffer keeps every byte. Otherwise number and place are 0, and the bytes of the
- * buffer after the written count are untouched.
+ * A refused call answers a number other than 0, a place and a written count of 0; its other counts, widths, steps and
+ * the difference are 0, no column is marked hidden or widened, and the buffer keeps every byte. Otherwise number and
+ * place are 0, and the bytes of the buffer after the written count are untouched.
  *
  * From the input; every call that reads a sheet gives these, and they come before 21 and 20. 2 is tested first, then
  * fields left to right, 1 before any other at a field, then 9. The place is the field's first byte unless said; each
@@ -115,6 +115,7 @@ enum {
 enum {
     CAGWONI_CHECK_STACK = 1024,
     CAGWONI_WIDTHS_STACK = 4096,
+    CAGWONI_REASONS_STACK = 8192,
     CAGWONI_COUNT_STACK = 8192,
     CAGWONI_PRINT_PAGE_STACK = 8192,
     CAGWONI_PRINT_LINE_STACK = 8192,
@@ -130,12 +131,22 @@ typedef struct {
     uint64_t number, place, lines, bytes;
 } cagwoni_counted;
 
-/* The only answer with padding, four bytes at its end that may hold anything: compare its fields, not its bytes. */
+/* This answer and the next are the only ones with padding, here four bytes at its end. Padding may hold anything:
+ * compare fields, not bytes. */
 typedef struct {
     uint64_t number, place, columns;
     uint16_t content[CAGWONI_MOST_COLUMNS];
     bool hidden[CAGWONI_MOST_COLUMNS];
 } cagwoni_measured;
+
+/* Three bytes of padding stand between the last two fields. */
+typedef struct {
+    uint64_t number, place, columns;
+    uint8_t step[CAGWONI_MOST_COLUMNS];
+    bool widened[CAGWONI_MOST_COLUMNS];
+    bool has_difference;
+    int32_t difference;
+} cagwoni_reasoned;
 
 typedef struct {
     uint64_t number, place, written;
@@ -155,6 +166,52 @@ cagwoni_counted cagwoni_count(const uint8_t *sheet, size_t sheet_len);
 /* The count of columns, and for each of them the content width, which counts characters and leaves padding out, and
  * whether the column is hidden. Entries past the columns are 0 and not hidden. */
 cagwoni_measured cagwoni_widths(const uint8_t *sheet, size_t sheet_len);
+
+/* The step that set a column's content width, and what changes it. Each is a rule of docs/FORMAT.md, "Widths", which
+ * says what the longest and the average are; bounds count the paddings. A bound that isn't the step did nothing. It does
+ * something
+ *   - with a target and unless `Disabled`: a lower bound if it is above the average, or at least the longest and the
+ *     paddings; an upper bound if it exceeds neither the average nor the longest, paddings added to both;
+ *   - with no target, or `Disabled`: a lower bound if it is at least the longest and the paddings; an upper bound if it
+ *     is below the longest, no paddings added. Without a target a percent width does nothing. */
+enum {
+    /* None: the column is hidden, or the sheet has no such column. */
+    CAGWONI_STEP_NONE = 0,
+    /* Its constraint, before any room is shared: `ContentWidth`, `Absolute`, or a lower bound that the longest and the
+     * paddings don't exceed. Change the constraint; for `ContentWidth` the text. */
+    CAGWONI_STEP_FIRST = 1,
+    /* With a target: its lower bound, which is above the average. Change the bound; or leave more room, by a greater
+     * target or by narrower neighbours. */
+    CAGWONI_STEP_LOWER = 2,
+    /* With a target: its upper bound, which exceeds neither the average nor the longest. Change the bound. */
+    CAGWONI_STEP_UPPER = 3,
+    /* With a target: its longest, which is at most the average. Change the text; more room does nothing. */
+    CAGWONI_STEP_LONGEST = 4,
+    /* With a target: the longest part of its lines once they are split at the average, since that is shorter by 3 or
+     * more. Change the text, a delimiter or the room. */
+    CAGWONI_STEP_PART = 5,
+    /* With a target: an even share of what the other columns left. Leave more room, by a greater target or by narrower
+     * neighbours. */
+    CAGWONI_STEP_SHARE = 6,
+    /* With no target, or `Disabled`: its longest. Change the text. */
+    CAGWONI_STEP_UNTARGETED_LONGEST = 7,
+    /* With no target, or `Disabled`: its upper bound, which is below the longest. Change the bound. */
+    CAGWONI_STEP_UNTARGETED_UPPER = 8
+};
+
+/* Why each column is as wide as it is, and how the page lies to the target. Number 0:
+ *   columns         the count of columns
+ *   step            for each column the step that set its content width, 1 to 8 as above; 0 for a hidden column and for
+ *                   entries past the columns
+ *   widened         whether the column was then given more: where no column is left for an even share,
+ *                   `DynamicFullWidth` shares what remains of the target among the visible ones. False where its share
+ *                   is 0, for a hidden column and for entries past the columns
+ *   has_difference  whether the sheet has a target, whatever the arrangement
+ *   difference      with a target: that less the longest line of the page, borders and rules too, in characters without
+ *                   0A. A page without lines has length 0. Above 0: as many columns are spare. 0: the line ends on the
+ *                   target. Below 0: it overruns the target by as many. Without a target 0
+ * Refused, every one of these is 0 or false. */
+cagwoni_reasoned cagwoni_reasons(const uint8_t *sheet, size_t sheet_len);
 
 /* Prints the page. Number 0: the first `written` bytes of the buffer are the page, and those after them are
  * untouched. Number 20, place the page's byte count, if `page_len` is below that; the buffer keeps every byte. */
