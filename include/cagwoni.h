@@ -168,8 +168,8 @@ cagwoni_counted cagwoni_count(const uint8_t *sheet, size_t sheet_len);
 cagwoni_measured cagwoni_widths(const uint8_t *sheet, size_t sheet_len);
 
 /* The step that set a column's content width, and what changes it. Each is a rule of docs/FORMAT.md, "Widths", which
- * says what the longest and the average are; bounds count the paddings. A bound that isn't the step did nothing. It does
- * something
+ * says what the longest and the average are; bounds count the paddings. A bound that isn't the step did nothing. It
+ * does something
  *   - with a target and unless `Disabled`: a lower bound if it is above the average, or at least the longest and the
  *     paddings; an upper bound if it exceeds neither the average nor the longest, paddings added to both;
  *   - with no target, or `Disabled`: a lower bound if it is at least the longest and the paddings; an upper bound if it
