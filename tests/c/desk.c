@@ -70,6 +70,7 @@ static void null_pointers(void) {
     CHECK(cagwoni_check(NULL, 0).number == CAGWONI_ENDS_EARLY);
     CHECK(cagwoni_count(NULL, 0).number == CAGWONI_ENDS_EARLY);
     CHECK(cagwoni_widths(NULL, 0).number == CAGWONI_ENDS_EARLY);
+    CHECK(cagwoni_reasons(NULL, 0).number == CAGWONI_ENDS_EARLY);
     mark(&buffer);
     CHECK(cagwoni_print_page(NULL, 0, page, sizeof page).number == CAGWONI_ENDS_EARLY);
     CHECK(cagwoni_print_line(NULL, 0, 0, page, sizeof page).number == CAGWONI_ENDS_EARLY);

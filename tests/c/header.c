@@ -1,5 +1,5 @@
-/* What the header says beside the calls: layouts, the longest line, a large page, every page by a fixed buffer, and the
- * desk's sheet written from its table. */
+/* What the header says beside the calls: layouts, the steps' numbers, the longest line, a large page, every page by a
+ * fixed buffer, and the desk's sheet written from its table. */
 #include <string.h>
 
 #include "cases.h"
@@ -10,7 +10,7 @@
 /* `longestLine` of crates/rules/specs/Limits.antt, which leaves the 0A aside. */
 _Static_assert(CAGWONI_LONGEST_LINE == CAGWONI_MOST_COLUMNS * 950 + 1, "the longest line is the one proved");
 
-/* Only the widths' answer has padding, four bytes at its end. */
+/* Two answers have padding: the widths' four bytes at its end, the reasons' three before its last field. */
 static void layouts(void) {
     about_call("layouts", 0);
     CHECK(sizeof(cagwoni_checked) == 2 * 8);
@@ -22,6 +22,25 @@ static void layouts(void) {
     CHECK(offsetof(cagwoni_measured, hidden) == 24 + 2 * CAGWONI_MOST_COLUMNS);
     CHECK(sizeof(bool) == 1);
     CHECK(sizeof(cagwoni_measured) == offsetof(cagwoni_measured, hidden) + CAGWONI_MOST_COLUMNS + 4);
+    CHECK(offsetof(cagwoni_reasoned, columns) == 16);
+    CHECK(offsetof(cagwoni_reasoned, step) == 24);
+    CHECK(offsetof(cagwoni_reasoned, widened) == 24 + CAGWONI_MOST_COLUMNS);
+    CHECK(offsetof(cagwoni_reasoned, has_difference) == 24 + 2 * CAGWONI_MOST_COLUMNS);
+    CHECK(offsetof(cagwoni_reasoned, difference) == offsetof(cagwoni_reasoned, has_difference) + 1 + 3);
+    CHECK(sizeof(cagwoni_reasoned) == offsetof(cagwoni_reasoned, difference) + 4);
+}
+
+static void steps(void) {
+    about_call("steps", 0);
+    CHECK(CAGWONI_STEP_NONE == 0);
+    CHECK(CAGWONI_STEP_FIRST == 1);
+    CHECK(CAGWONI_STEP_LOWER == 2);
+    CHECK(CAGWONI_STEP_UPPER == 3);
+    CHECK(CAGWONI_STEP_LONGEST == 4);
+    CHECK(CAGWONI_STEP_PART == 5);
+    CHECK(CAGWONI_STEP_SHARE == 6);
+    CHECK(CAGWONI_STEP_UNTARGETED_LONGEST == 7);
+    CHECK(CAGWONI_STEP_UNTARGETED_UPPER == 8);
 }
 
 void by_fixed_buffer(const struct expected *e, enum fence fence) {
@@ -113,6 +132,7 @@ static void written_desk(void) {
 void header_cases(enum fence fence) {
     about_sheet("header", 0);
     layouts();
+    steps();
     written_desk();
     if (fence == FENCE_ENDS)
         large_page(fence);

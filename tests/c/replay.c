@@ -214,6 +214,70 @@ static void widths(const struct expected *e) {
     }
 }
 
+/* In characters, without the 0A. */
+static size_t longest_line(const struct expected *e) {
+    size_t longest = 0;
+    for (size_t start = 0; start < e->page_len; start += line_of(e, start).length) {
+        size_t wide = columns_of(e, line_of(e, start)) - 1;
+        longest = wide > longest ? wide : longest;
+    }
+    return longest;
+}
+
+/* Whether a column with this constraint can have this step: a hidden one has none, any other has one. `Absolute` goes
+ * beyond the first step only where it is percent of no target. */
+static int can_lead_to(uint8_t constraint, uint8_t step) {
+    enum { NONE = 1, HIDDEN = 2, CONTENT = 4, ABSOLUTE = 8, LOWER = 16, UPPER = 32, BOTH = 64 };
+    enum { FIRST = CONTENT | ABSOLUTE | LOWER | BOTH, OPEN = NONE | LOWER | UPPER | BOTH };
+    static const uint8_t constraints[9] = {
+        HIDDEN, FIRST, LOWER | BOTH, UPPER | BOTH, OPEN, OPEN, OPEN, OPEN | ABSOLUTE, UPPER | BOTH};
+    return step <= CAGWONI_STEP_UNTARGETED_UPPER && (constraints[step] >> constraint & 1);
+}
+
+/* Shares go by ones from the left: once a visible column isn't widened, none after it is. */
+static void widened_from_the_left(const cagwoni_measured *widths, const cagwoni_reasoned *got) {
+    int more = 1;
+    for (size_t at = 0; at < got->columns; at++) {
+        CHECK(!got->widened[at] || (more && !widths->hidden[at]));
+        more = more && (got->widened[at] || widths->hidden[at]);
+    }
+}
+
+/* What the sheet and the page themselves say of the reasons. */
+static void reasons_fit(const struct expected *e, const cagwoni_reasoned *got) {
+    const uint8_t *sheet = e->sheet, *columns = sheet + 7 + sheet[5] + 23;
+    int arrangement = sheet[1], target = sheet[2] | sheet[3] << 8, shared = 0, any_widened = 0;
+    cagwoni_measured widths = cagwoni_widths(e->sheet, e->sheet_len);
+    CHECK(got->columns == widths.columns);
+    for (size_t at = 0; at < got->columns; at++) {
+        uint8_t step = got->step[at];
+        CHECK(can_lead_to(columns[11 * at + 4], step));
+        if (target == 0 || arrangement == 0)
+            CHECK(step <= CAGWONI_STEP_FIRST || step >= CAGWONI_STEP_UNTARGETED_LONGEST);
+        else
+            CHECK(step <= CAGWONI_STEP_SHARE);
+        shared = shared || step == CAGWONI_STEP_SHARE;
+        any_widened = any_widened || got->widened[at];
+    }
+    CHECK(!any_widened || (arrangement == 2 && target != 0 && !shared));
+    widened_from_the_left(&widths, got);
+    CHECK(got->has_difference == (target != 0));
+    CHECK(got->difference == (target == 0 ? 0 : target - (int32_t)longest_line(e)));
+}
+
+static void reasons(const struct expected *e) {
+    about_call("cagwoni_reasons", 0);
+    cagwoni_reasoned got = cagwoni_reasons(e->sheet, e->sheet_len);
+    CHECK(got.number == e->number);
+    CHECK(got.place == e->place);
+    if (e->number == 0)
+        reasons_fit(e, &got);
+    else
+        CHECK(got.columns == 0 && !got.has_difference && got.difference == 0);
+    for (size_t at = (size_t)got.columns; at < CAGWONI_MOST_COLUMNS; at++)
+        CHECK(got.step[at] == 0 && !got.widened[at]);
+}
+
 static void check_and_count(const struct expected *e, size_t lines) {
     about_call("cagwoni_check", 0);
     cagwoni_checked checked = cagwoni_check(e->sheet, e->sheet_len);
@@ -248,6 +312,7 @@ static void every_call(const struct expected *e, enum fence fence) {
     printable(e);
     check_and_count(e, lines);
     widths(e);
+    reasons(e);
     page_into(e, e->page_len, fence);
     page_into(e, e->page_len + 100, fence);
     page_into(e, 0, fence);
