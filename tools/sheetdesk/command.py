@@ -6,25 +6,30 @@ For one file:
   sheets print FILE                   the page; or the refusal explained, on standard error
   sheets explain FILE                 a refusal in words: field, value, limits and, for a text form, where it was
                                       written; for an accepted sheet its counts and widths
+  sheets reasons FILE                 what set each column's width, and how the page fits the target; or the refusal
+                                      explained, on standard error
 
 For the stored trial sheets in sheets/:
   sheets build            writes sheets/NAME.sheet for each sheets/NAME.txt
   sheets check            says which of these files are missing, out of date or left over
-  sheets all DIRECTORY    writes every sheet and page there, long sheets too
+  sheets all DIRECTORY    writes every sheet, page and report there, long sheets too
   sheets pages COMMAND    runs COMMAND on each sheet and writes what it prints as sheets/NAME.page
   sheets replay COMMAND   runs COMMAND on each sheet and compares what it prints with sheets/NAME.page
   sheets rewrite          has the library write each accepted sheet anew from its table, and compares
+  sheets reports          writes what `sheets reasons` says of each sheet whose name begins with reason- as
+                          sheets/NAME.reasons
+  sheets review           compares what it says of these with sheets/NAME.reasons
 
-print and explain take a sheet or a text form: NAME.txt is a text form, NAME.sheet a sheet, and any other file is a
-text form if its first byte is printable or white space. They and rewrite ask the proved library, which `rt staticlib
-gateway` writes, and need gcc to link it. Columns, rows, cells, lines and characters are counted from 1; a place in a
-sheet, as in `refused 5 at 30`, is a byte counted from 0.
+print, explain and reasons take a sheet or a text form: NAME.txt is a text form, NAME.sheet a sheet, and any other file
+is a text form if its first byte is printable or white space. They, rewrite, reports and review ask the proved library,
+which `rt staticlib gateway` writes, and need gcc to link it. Columns, rows, cells, lines and characters are counted
+from 1; a place in a sheet, as in `refused 5 at 30`, is a byte counted from 0.
 
 A sheet of over 4,096 bytes isn't stored; build and check leave it out. COMMAND reads a sheet on standard input and
 writes the page, or `refused N at P`. sheets/README.md says what a text form is. Needs Python 3.8 or later.
 
-Status 0: done. 1: the text form is wrong, the sheet is refused (print), or files are missing or differ. 2: bad usage,
-or a file that can't be read or written. 3: the library isn't there.
+Status 0: done. 1: the text form is wrong, the sheet is refused (print, reasons), or files are missing or differ. 2: bad
+usage, or a file that can't be read or written. 3: the library isn't there.
 """
 
 import sys
@@ -33,6 +38,7 @@ from pathlib import Path
 from . import folder, form, text
 from .explain import explain
 from .library import Library, Missing
+from .reasons import report
 from .words import Wrong
 
 
@@ -65,10 +71,11 @@ def write(data):
     return True
 
 
-def print_page(name):
+def answered(name, answer):
+    """Writes the answer for an accepted sheet; a refused one is explained."""
     made, library = load(name), Library()
     if library.check(made.sheet).number == 0:
-        return write(library.page(made.sheet))
+        return write(answer(library, made.sheet))
     say("\n".join([f"{name}:", *explain(library, name, made)]))
     return False
 
@@ -82,14 +89,17 @@ def explain_file(name):
 COMMANDS = {
     "make": ("FILE.txt", lambda name: write(load(name, "text form").sheet)),
     "text": ("FILE.sheet", lambda name: write(text.text(load(name, "sheet").sheet).encode())),
-    "print": ("FILE", print_page),
+    "print": ("FILE", lambda name: answered(name, Library.page)),
     "explain": ("FILE", explain_file),
+    "reasons": ("FILE", lambda name: answered(name, report)),
     "build": ("", folder.build),
     "check": ("", folder.check),
     "all": ("DIRECTORY", lambda name: folder.write_all(Path(name))),
     "pages": ("COMMAND ..", lambda *command: folder.pages(command)),
     "replay": ("COMMAND ..", lambda *command: folder.replay(command)),
     "rewrite": ("", folder.rewrite),
+    "reports": ("", folder.reports),
+    "review": ("", folder.review),
 }
 
 

@@ -1,14 +1,17 @@
-"""The stored trial sheets: sheets/NAME.txt, NAME.sheet, NAME.page."""
+"""The stored trial sheets: sheets/NAME.txt, NAME.sheet, NAME.page, NAME.reasons."""
 
 import subprocess
 from pathlib import Path
 
 from . import fields, form
 from .library import Library
+from .reasons import report
 from .words import Wrong
 
 FOLDER = Path(__file__).resolve().parent.parent.parent / "sheets"
 LONGEST_STORED = 4096
+# A sheet of such a name has a report.
+REPORTED = "reason-"
 
 
 class Failed(Exception):
@@ -42,6 +45,11 @@ def pages_of(made):
     return [path.with_suffix(".page") for path, _ in made]
 
 
+def reported(made):
+    """Each report's path and its sheet."""
+    return {path.with_suffix(".reasons"): sheet for path, sheet in made if path.name.startswith(REPORTED)}
+
+
 def build():
     for path, sheet in stored(forms()).items():
         path.write_bytes(sheet)
@@ -50,10 +58,11 @@ def build():
 
 def check():
     made = forms()
-    sheets, pages = stored(made), pages_of(made)
-    there = {*FOLDER.glob("*.sheet"), *FOLDER.glob("*.page")}
-    wrong = {path: "is missing" for path in {*sheets, *pages} - there}
-    wrong.update((path, "is left over") for path in there - {*sheets, *pages})
+    sheets = stored(made)
+    wanted = {*sheets, *pages_of(made), *reported(made)}
+    there = {*FOLDER.glob("*.sheet"), *FOLDER.glob("*.page"), *FOLDER.glob("*.reasons")}
+    wrong = {path: "is missing" for path in wanted - there}
+    wrong.update((path, "is left over") for path in there - wanted)
     wrong.update((path, "is out of date") for path in there & {*sheets} if path.read_bytes() != sheets[path])
     for path in sorted(wrong):
         print(f"sheets/{path.name} {wrong[path]}")
@@ -76,20 +85,56 @@ def rewrite():
     return not differ
 
 
-def need_pages(made):
-    missing = [f"sheets/{page.name} is missing" for page in pages_of(made) if not page.exists()]
+def need(paths, command, what):
+    missing = [f"sheets/{path.name} is missing" for path in paths if not path.exists()]
     if missing:
-        raise Failed("\n".join(missing) + "\n(`tools/sheets pages COMMAND` writes the pages)")
+        raise Failed("\n".join(missing) + f"\n(`tools/sheets {command}` writes the {what})")
+
+
+def need_pages(made):
+    need(pages_of(made), "pages COMMAND", "pages")
+
+
+def need_reports(made):
+    need(reported(made), "reports", "reports")
 
 
 def write_all(directory):
     made = forms()
     need_pages(made)
+    need_reports(made)
     directory.mkdir(parents=True, exist_ok=True)
     for path, sheet in made:
         (directory / path.with_suffix(".sheet").name).write_bytes(sheet)
-        (directory / path.with_suffix(".page").name).write_bytes(path.with_suffix(".page").read_bytes())
+    for path in [*pages_of(made), *reported(made)]:
+        (directory / path.name).write_bytes(path.read_bytes())
     return True
+
+
+def reports_anew(made):
+    """Each report's path and what the library reports of its sheet."""
+    library = Library()
+    for path, sheet in reported(made).items():
+        refusal = library.check(sheet)
+        if refusal.number:
+            raise Failed(f"sheets/{path.stem}.txt is refused {refusal.number} at {refusal.place}: it has no report")
+        yield path, report(library, sheet)
+
+
+def reports():
+    for path, words in reports_anew(forms()):
+        path.write_bytes(words)
+    return True
+
+
+def review():
+    made = forms()
+    need_reports(made)
+    differ = [path for path, words in reports_anew(made) if words != path.read_bytes()]
+    for path in differ:
+        print(f"sheets/{path.name}: another report")
+    print(f"{len(reported(made))} reports reviewed, {len(differ)} differ")
+    return not differ
 
 
 def answers(made, command):

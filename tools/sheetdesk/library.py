@@ -1,4 +1,4 @@
-"""The proved library of include/cagwoni.h as a shared object: every verdict, count, width and page is its answer."""
+"""The proved library of include/cagwoni.h as a shared object: every verdict, count, width, reason and page is its answer."""
 
 import ctypes
 import os
@@ -27,6 +27,15 @@ class Measured(ctypes.Structure):
     _fields_ = [(name, ctypes.c_uint64) for name in ("number", "place", "columns")] + [
         ("content", ctypes.c_uint16 * MOST_COLUMNS),
         ("hidden", ctypes.c_bool * MOST_COLUMNS),
+    ]
+
+
+class Reasoned(ctypes.Structure):
+    _fields_ = [(name, ctypes.c_uint64) for name in ("number", "place", "columns")] + [
+        ("step", ctypes.c_uint8 * MOST_COLUMNS),
+        ("widened", ctypes.c_bool * MOST_COLUMNS),
+        ("has_difference", ctypes.c_bool),
+        ("difference", ctypes.c_int32),
     ]
 
 
@@ -79,6 +88,14 @@ class Library:
 
     def widths(self, sheet):
         return self.calls.cagwoni_widths(sheet, len(sheet))
+
+    def reasons(self, sheet):
+        try:
+            call = self.calls.cagwoni_reasons
+        except AttributeError:
+            raise Missing(f"{ARCHIVE.relative_to(ROOT)} is from before reports: run `rt staticlib gateway`") from None
+        call.argtypes, call.restype = [ctypes.c_char_p, ctypes.c_size_t], Reasoned
+        return call(sheet, len(sheet))
 
     def written(self, numbers, text, size):
         """The call's answer for an editor's table, and what a buffer of so many bytes, all FF, then holds."""
