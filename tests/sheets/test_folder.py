@@ -69,8 +69,11 @@ class Folder(DeskTest):
     def test_all(self):
         self.assertEqual(self.said("all", self.folder / "all"), (0, []))
         names = sorted(path.stem for path in self.path("").glob("*.txt"))
-        self.assertEqual(sorted(os.listdir(self.folder / "all")), sorted(
-            name + suffix for name in names for suffix in [".page", ".sheet"]))
+        expected = [name + suffix for name in names for suffix in [".page", ".sheet"]]
+        expected += [name + ".reasons" for name in names if name.startswith("reason-")]
+        self.assertEqual(sorted(os.listdir(self.folder / "all")), sorted(expected))
+        report = "reason-part.reasons"
+        self.assertEqual((self.folder / "all" / report).read_bytes(), self.path(report).read_bytes())
         self.assertEqual((self.folder / "all/refused-2.sheet").read_bytes(), bytes(32769))
 
     def test_replay(self):

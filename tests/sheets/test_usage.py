@@ -58,13 +58,17 @@ class Usage(DeskTest):
 
     def test_sheets(self):
         for words, said in [
-            ([], "a command is wanted, one of make, text, print, explain, build, check, all, pages, replay, rewrite"),
+            ([], "a command is wanted, one of make, text, print, explain, reasons, build, check, all, pages, replay, "
+                 "rewrite, reports, review;"),
             (["prin", "a"], "a command is wanted, one of make, text, "),
             (["print"], "print takes FILE;"),
             (["print", "a", "b"], "print takes FILE;"),
             (["check", "a"], "check takes no further word;"),
             (["replay"], "replay takes COMMAND ..;"),
             (["rewrite", "a"], "rewrite takes no further word;"),
+            (["reasons"], "reasons takes FILE;"),
+            (["reports", "a"], "reports takes no further word;"),
+            (["review", "a"], "review takes no further word;"),
         ]:
             done = self.sheets(*words, root=ROOT)
             self.assertEqual((done.returncode, done.stdout), (2, b""))
@@ -72,7 +76,7 @@ class Usage(DeskTest):
         self.assertEqual(self.sheets("print", "--help").stdout, self.sheets("--help", root=ROOT).stdout)
 
     def test_files_that_cant_be_read_or_written(self):
-        for command in ["make", "text", "print", "explain"]:
+        for command in ["make", "text", "print", "explain", "reasons"]:
             for path, said in [(self.folder / "none.txt", "No such file"), (self.folder, "Is a directory")]:
                 done = self.sheets(command, path)
                 self.assertEqual((done.returncode, done.stdout), (2, b""))
