@@ -9,6 +9,8 @@ mod oracle;
 #[allow(dead_code)]
 #[path = "../tools/differential/src/random.rs"]
 mod random;
+#[cfg(reasons)]
+mod reasons;
 #[allow(dead_code)]
 #[path = "../tools/differential/src/sheet.rs"]
 mod sheet;
@@ -86,6 +88,18 @@ fn time_write(_: &Slices, _: &[u8]) -> Option<f64> {
     None
 }
 
+/// An archive from before reports has no such call either.
+#[cfg(reasons)]
+fn time_reasons(sheet: &[u8]) -> Option<f64> {
+    assert!(reasons::reasons(sheet).number == 0, "the sheet is accepted");
+    Some(time(|| reasons::reasons(black_box(sheet))))
+}
+
+#[cfg(not(reasons))]
+fn time_reasons(_: &[u8]) -> Option<f64> {
+    None
+}
+
 struct Measured {
     name: String,
     sheet: usize,
@@ -94,6 +108,7 @@ struct Measured {
     check: f64,
     write: Option<f64>,
     widths: f64,
+    reasons: Option<f64>,
     count: f64,
     print_page: f64,
     print_line: f64,
@@ -116,6 +131,7 @@ fn measure(named: &Named) -> Measured {
         check: time(|| black_box(&calls).check()),
         write: time_write(&take_apart(&named.sheet), &named.sheet),
         widths: time(|| black_box(&calls).widths()),
+        reasons: time_reasons(&named.sheet),
         count: time(|| black_box(&calls).count()),
         print_page: time(|| black_box(&calls).page(&mut page)),
         print_line: time(|| black_box(&calls).line(middle, &mut line)),
@@ -129,7 +145,7 @@ fn print_head() {
         BATCH / 1_000_000
     );
     println!(
-        "{:18} {:>6} {:>8} {:>6} | {:>9} {:>7} | {:>9} {:>7} | {:>9} | {:>9} | {:>10} {:>7} | {:>9} | {:>11} {:>7} | {:>6}",
+        "{:18} {:>6} {:>8} {:>6} | {:>9} {:>7} | {:>9} {:>7} | {:>9} | {:>9} | {:>9} | {:>10} {:>7} | {:>9} | {:>11} {:>7} | {:>6}",
         "sheet",
         "bytes",
         "page",
@@ -139,6 +155,7 @@ fn print_head() {
         "write",
         "/byte",
         "widths",
+        "reasons",
         "count",
         "print page",
         "/byte",
@@ -157,7 +174,7 @@ fn shown(value: Option<f64>, digits: usize) -> String {
 fn print_row(m: &Measured) {
     let per = |time: f64, bytes: usize| time / bytes as f64;
     println!(
-        "{:18} {:6} {:8} {:6} | {:9.0} {:7.2} | {:>9} {:>7} | {:9.0} | {:9.0} | {:10.0} {:7.2} | {:9.0} | {:11.0} {:7.2} | {:6.1}",
+        "{:18} {:6} {:8} {:6} | {:9.0} {:7.2} | {:>9} {:>7} | {:9.0} | {:>9} | {:9.0} | {:10.0} {:7.2} | {:9.0} | {:11.0} {:7.2} | {:6.1}",
         m.name,
         m.sheet,
         m.page,
@@ -167,6 +184,7 @@ fn print_row(m: &Measured) {
         shown(m.write, 0),
         shown(m.write.map(|write| per(write, m.sheet)), 2),
         m.widths,
+        shown(m.reasons, 0),
         m.count,
         m.print_page,
         per(m.print_page, m.page),
@@ -180,16 +198,17 @@ fn print_row(m: &Measured) {
 /// Time from the smallest to the greatest size over what it is for, sheet and page: 1 is linear.
 fn print_growth(rows: &[Measured]) {
     let (Some(first), Some(last)) = (rows.first(), rows.last()) else { return };
-    let grown = |time: fn(&Measured) -> f64| {
-        time(last) / time(first) / ((last.sheet + last.page) as f64 / (first.sheet + first.page) as f64)
-    };
+    let both = (last.sheet + last.page) as f64 / (first.sheet + first.page) as f64;
+    let grown = |time: fn(&Measured) -> f64| time(last) / time(first) / both;
+    let reasons = last.reasons.zip(first.reasons).map(|(last, first)| last / first / both);
     let sheets = last.sheet as f64 / first.sheet as f64;
     let write = last.write.zip(first.write).map(|(last, first)| last / first / sheets);
     println!(
-        "{:18} growth over that of sheet and page: check {:.2}, widths {:.2}, count {:.2}, print page {:.2}, mid line {:.2}, Rust {:.2}; over that of the sheet: write {}",
+        "{:18} growth over that of sheet and page: check {:.2}, widths {:.2}, reasons {}, count {:.2}, print page {:.2}, mid line {:.2}, Rust {:.2}; over that of the sheet: write {}",
         "",
         grown(|m| m.check),
         grown(|m| m.widths),
+        shown(reasons, 2),
         grown(|m| m.count),
         grown(|m| m.print_page),
         grown(|m| m.print_line),

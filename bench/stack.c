@@ -1,7 +1,7 @@
 /* How deep each call goes into the stack: stack SHEET ..
  * The stack below the caller is painted, the call made, and the deepest byte looked for that lost its paint. A call
- * that stays within MARGIN bytes, which aren't painted, counts as MARGIN. Without WRITER the archive is one from before
- * the writer. */
+ * that stays within MARGIN bytes, which aren't painted, counts as MARGIN. Without WRITER or REASONS the archive is one
+ * from before that call. */
 #define _GNU_SOURCE
 #include <pthread.h>
 #include <stdio.h>
@@ -26,6 +26,9 @@ struct sheet {
 static void check(struct sheet *s) { cagwoni_check(s->bytes, s->length); }
 static void count(struct sheet *s) { cagwoni_count(s->bytes, s->length); }
 static void widths(struct sheet *s) { cagwoni_widths(s->bytes, s->length); }
+#ifdef REASONS
+static void reasons(struct sheet *s) { cagwoni_reasons(s->bytes, s->length); }
+#endif
 static void page(struct sheet *s) { cagwoni_print_page(s->bytes, s->length, s->page, s->page_length); }
 static void line(struct sheet *s) { cagwoni_print_line(s->bytes, s->length, s->lines / 2, s->page, s->page_length); }
 static void lines(struct sheet *s) { cagwoni_print_lines(s->bytes, s->length, s->lines / 2, s->page, s->page_length); }
@@ -44,6 +47,9 @@ static struct {
 } calls[] = {{"cagwoni_check", check, 0, ""},      {"cagwoni_count", count, 0, ""},
              {"cagwoni_widths", widths, 0, ""},    {"cagwoni_print_page", page, 0, ""},
              {"cagwoni_print_line", line, 0, ""},  {"cagwoni_print_lines", lines, 0, ""},
+#ifdef REASONS
+             {"cagwoni_reasons", reasons, 0, ""},
+#endif
 #ifdef WRITER
              {"cagwoni_write_sheet", save, 0, ""},
 #endif
