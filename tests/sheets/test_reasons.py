@@ -144,7 +144,7 @@ class AnotherLibrary(DeskTest):
             f"column 8   content width 8, not widened; {FREE_UPPER}",
             "column 9   hidden",
             "column 10  content width 400, widened to fill the target; unknown step 9",
-            "target     20, the longest line overruns it by 4812 columns",
+            "target     20, the longest line overruns it by 4,812 columns",
         ]))
         for reasoned, said in [
             (".has_difference = false, .difference = 0", "target     none"),

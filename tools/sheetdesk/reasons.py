@@ -1,6 +1,7 @@
 """The library's report on an accepted sheet, in words: why each column is as wide as it is, and how the page fits."""
 
 from . import fields
+from .explain import many
 
 # By number: document 02's name of the step, and what it means to whoever set the table up.
 STEPS = {
@@ -18,19 +19,15 @@ STEPS = {
 def column(measured, reasoned, at):
     if measured.hidden[at]:
         return "hidden"
+    widened = "widened to fill the target" if reasoned.widened[at] else "not widened"
     step = STEPS.get(reasoned.step[at], f"unknown step {reasoned.step[at]}")
-    widened = ", widened to fill the target" * reasoned.widened[at] or ", not widened"
-    return f"content width {measured.content[at]}{widened}; {step}"
+    return f"content width {measured.content[at]}, {widened}; {step}"
 
 
-def difference(reasoned, target):
-    if not reasoned.has_difference:
-        return "none"
-    count = abs(reasoned.difference)
-    columns = f"{count} column{'s' * (count != 1)}"
-    if reasoned.difference > 0:
-        return f"{target}, the longest line leaves {columns} to spare"
-    return f"{target}, the longest line overruns it by {columns}" if count else f"{target}, the longest line ends on it"
+def fit(difference):
+    if difference > 0:
+        return f"leaves {many(difference, 'column')} to spare"
+    return f"overruns it by {many(-difference, 'column')}" if difference else "ends on it"
 
 
 def report(library, sheet):
@@ -38,5 +35,6 @@ def report(library, sheet):
     measured, reasoned = library.widths(sheet), library.reasons(sheet)
     lines = [f"column {at + 1:<2}  {column(measured, reasoned, at)}" for at in range(reasoned.columns)]
     table, _ = fields.read(sheet)
-    lines.append(f"target     {difference(reasoned, table.target)}")
+    target = f"{table.target}, the longest line {fit(reasoned.difference)}" if reasoned.has_difference else "none"
+    lines.append(f"target     {target}")
     return "".join(line + "\n" for line in lines).encode("ascii")
