@@ -168,38 +168,39 @@ cagwoni_counted cagwoni_count(const uint8_t *sheet, size_t sheet_len);
 cagwoni_measured cagwoni_widths(const uint8_t *sheet, size_t sheet_len);
 
 /* The step that set a column's content width, and what changes it. Each is a rule of docs/FORMAT.md, "Widths", which
- * says what the longest and the average are; bounds count the paddings. A bound that isn't the step did nothing. It
- * does something
- *   - with a target and unless `Disabled`: a lower bound if it is above the average, or at least the longest and the
- *     paddings; an upper bound if it exceeds neither the average nor the longest, paddings added to both;
- *   - with no target, or `Disabled`: a lower bound if it is at least the longest and the paddings; an upper bound if it
- *     is below the longest, no paddings added. Without a target a percent width does nothing. */
+ * says what the longest and the average are. Steps 2 to 6 come where there is a target and the arrangement isn't
+ * `Disabled`, 7 and 8 where there is none or it is; 1 comes in both.
+ *
+ * A bound that isn't the step did nothing. Bounds count the paddings, and this is what they have to reach:
+ *   - for 2 to 6: a lower bound is above the average, or at least the longest and the paddings (then the step is 1); an
+ *     upper bound exceeds neither the average nor the longest, paddings added to both;
+ *   - for 7 and 8: a lower bound is at least the longest and the paddings (1 again); an upper bound is below the
+ *     longest, no paddings added. Without a target a percent width does nothing. */
 enum {
     /* None: the column is hidden, or the sheet has no such column. */
     CAGWONI_STEP_NONE = 0,
     /* Its constraint, before any room is shared: `ContentWidth`, `Absolute`, or a lower bound that the longest and the
      * paddings don't exceed. Change the constraint; for `ContentWidth` the text. */
     CAGWONI_STEP_FIRST = 1,
-    /* With a target: its lower bound, which is above the average. Change the bound; or leave more room, by a greater
-     * target or by narrower neighbours. */
+    /* Its lower bound, which is above the average. Change the bound; or leave more room, by a greater target or by
+     * narrower neighbours. */
     CAGWONI_STEP_LOWER = 2,
-    /* With a target: its upper bound, which exceeds neither the average nor the longest. Change the bound. */
+    /* Its upper bound, which exceeds neither the average nor the longest. Change the bound. */
     CAGWONI_STEP_UPPER = 3,
-    /* With a target: its longest, which is at most the average. Change the text; more room does nothing. */
+    /* Its longest, which is at most the average. Change the text; more room does nothing. */
     CAGWONI_STEP_LONGEST = 4,
-    /* With a target: the longest part of its lines once they are split at the average, since that is shorter by 3 or
-     * more. Change the text, a delimiter or the room. */
+    /* The longest part of its lines once they are split at the average, since that is shorter by 3 or more. Change the
+     * text, a delimiter or the room. */
     CAGWONI_STEP_PART = 5,
-    /* With a target: an even share of what the other columns left. Leave more room, by a greater target or by narrower
-     * neighbours. */
+    /* An even share of what the other columns left. Leave more room, by a greater target or by narrower neighbours. */
     CAGWONI_STEP_SHARE = 6,
-    /* With no target, or `Disabled`: its longest. Change the text. */
+    /* Its longest, with no target or `Disabled`. Change the text. */
     CAGWONI_STEP_UNTARGETED_LONGEST = 7,
-    /* With no target, or `Disabled`: its upper bound, which is below the longest. Change the bound. */
+    /* Its upper bound, which is below the longest, with no target or `Disabled`. Change the bound. */
     CAGWONI_STEP_UNTARGETED_UPPER = 8
 };
 
-/* Why each column is as wide as it is, and how the page lies to the target. Number 0:
+/* Why each column is as wide as it is, and how the page fits the target. Number 0:
  *   columns         the count of columns
  *   step            for each column the step that set its content width, 1 to 8 as above; 0 for a hidden column and for
  *                   entries past the columns

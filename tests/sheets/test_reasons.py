@@ -68,7 +68,8 @@ class Reasons(DeskTest):
             self.assertEqual(self.reported(form.format(target)), lines)
 
     def test_no_column_and_hidden_ones(self):
-        self.assertEqual(self.reported("target 7\nstyle bare"), ["target     7, the longest line leaves 7 columns to spare"])
+        spare = "target     7, the longest line leaves 7 columns to spare"
+        self.assertEqual(self.reported("target 7\nstyle bare"), [spare])
         self.assertEqual(self.reported("style bare"), ["target     none"])
         hidden = 11 * "column constraint Hidden\n" + "column constraint Absolute 3\n"
         lines = [f"column {at:<2}  hidden" for at in range(1, 12)]
@@ -148,7 +149,7 @@ class AnotherLibrary(DeskTest):
         ]))
         for reasoned, said in [
             (".has_difference = false, .difference = 0", "target     none"),
-            (".has_difference = true, .difference = 399", "target     20, the longest line leaves 399 columns to spare"),
+            (".has_difference = true, .difference = 9", "target     20, the longest line leaves 9 columns to spare"),
         ]:
             self.answer(reasoned)
             self.assertEqual(self.said("reasons", DESK)[1][-1], said)
@@ -196,7 +197,7 @@ class Stored(DeskTest):
 
     def test_each_step_has_a_sheet(self):
         reports = b"".join(path.read_bytes() for path in (ROOT / "sheets").glob("*.reasons")).decode("ascii")
-        for words in [FIRST, LOWER, UPPER, LONGEST, PART, SHARE, FREE, FREE_UPPER, "hidden", "widened to fill the target",
+        for words in [FIRST, LOWER, UPPER, LONGEST, PART, SHARE, FREE, FREE_UPPER, "hidden", ", widened to fill",
                       "to spare", "ends on it", "overruns it by", "target     none"]:
             self.assertIn(words, reports)
 

@@ -1,4 +1,4 @@
-"""The proved library of include/cagwoni.h as a shared object: every verdict, count, width, reason and page is its answer."""
+"""The proved library of include/cagwoni.h as a shared object: verdicts, counts, widths, reasons and pages are its."""
 
 import ctypes
 import os
