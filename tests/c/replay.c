@@ -214,6 +214,14 @@ static void widths(const struct expected *e) {
     }
 }
 
+/* C reads a bool from a byte that is 0 or 1. */
+static int are_bools(const void *bytes, size_t count) {
+    for (const uint8_t *at = bytes; count > 0; at++, count--)
+        if (*at > 1)
+            return 0;
+    return 1;
+}
+
 /* In characters, without the 0A. */
 static size_t longest_line(const struct expected *e) {
     size_t longest = 0;
@@ -268,6 +276,7 @@ static void reasons_fit(const struct expected *e, const cagwoni_reasoned *got) {
 static void reasons(const struct expected *e) {
     about_call("cagwoni_reasons", 0);
     cagwoni_reasoned got = cagwoni_reasons(e->sheet, e->sheet_len);
+    CHECK(are_bools(got.widened, sizeof got.widened) && are_bools(&got.has_difference, 1));
     CHECK(got.number == e->number);
     CHECK(got.place == e->place);
     if (e->number == 0)
