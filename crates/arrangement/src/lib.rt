@@ -10,7 +10,8 @@ ghost use Rattle.rules.specs.Widths.{longestPart};
 ghost use Rattle.table.specs.Held.{IsAccepted, tableOf};
 ghost use Rattle.arrangement.specs.Arrange.{started, plainly, arranged};
 ghost use Rattle.arrangement.specs.Describes.{Describes};
-ghost use Rattle.arrangement.specs.Widths.{marked, widthsFrom, arrangedWidths};
+ghost use Rattle.arrangement.specs.Widths.{marked, widthsFrom};
+ghost use Rattle.arrangement.specs.Courses.{FoundIs};
 use constraint::Layout;
 use constraint::State;
 use dynamic::Course;
@@ -57,7 +58,7 @@ fn untargeted(first: u16, state: State) -> Course
 }
 
 // A target is made up only where there is one and the arrangement isn't `Disabled`.
-pub fn arrange(sheet: &[u8], t: Layout) -> Course
+fn arrange(sheet: &[u8], t: Layout) -> Course
     requires { ⌜ IsAccepted (now sheet) × Describes t (tableOf (now sheet)) ⌝ }
     ensures { λ r. ⌜ r ≡ arranged (longestPart (tableOf (now (sheet .entry)))) t ⌝ }
 {
@@ -99,10 +100,18 @@ pub fn widths_of(t: Layout, c: Course) -> Widths
     }
 }
 
-// The content width of each column of an accepted sheet, by the layout that was read from it.
-pub fn arrange_content(sheet: &[u8], t: Layout) -> Widths
-    requires { ⌜ IsAccepted (now sheet) × Describes t (tableOf (now sheet)) ⌝ }
-    ensures { λ r. ⌜ r ≡ arrangedWidths (tableOf (now (sheet .entry))) ⌝ }
+// The layout that a sheet's widths go by, and the course that they took.
+pub struct Found {
+    pub layout: Layout,
+    pub course: Course,
+}
+
+// One run for the widths and for what is told of them.
+pub fn arrange_sheet(sheet: &[u8]) -> Found
+    requires { ⌜ IsAccepted (now sheet) ⌝ }
+    ensures { λ r. ⌜ FoundIs (tableOf (now (sheet .entry))) r ⌝ }
 {
-    widths_of(t, arrange(sheet, t))
+    let layout = layout::layout(sheet);
+    let course = arrange(sheet, layout);
+    Found { layout, course }
 }

@@ -219,8 +219,10 @@ pub fn content_widths(sheet: &[u8]) -> Widths
     requires { ⌜ IsAccepted (now sheet) ⌝ }
     ensures { λ r. ⌜ r ≡ arrangedWidths (tableOf (now (sheet .entry))) ⌝ }
 {
-    let t = layout::layout(sheet);
-    arrangement::arrange_content(sheet, t)
+    let found = arrangement::arrange_sheet(sheet);
+    let layout = found.layout;
+    let course = found.course;
+    arrangement::widths_of(layout, course)
 }
 
 // The page over all rows of the sheet, by its widths; it may be called plain if the check found it so.

@@ -1,10 +1,10 @@
 -- The longest of a page's lines, from the borders that are visible and the lines that there are. Assumes nothing.
-use Prim.Native.Nat.{ℕ, _+_, _≤_, _<_}
+use Prim.Native.Nat.{ℕ, zero, suc, _≤_, _<_}
 use mathlib.Core.Path.{_≡_, refl, sym, ap, _∙_}
-use mathlib.Core.List.{List, []}
+use mathlib.Core.List.{List}
 use mathlib.Core.Bool.{true, false}
 use native.Mathlib.Omega.{arith}
-use lib.ListN.{length, drop, length-append, length-drop}
+use lib.ListN.{length}
 use Rattle.rules.specs.Text.{All}
 use Rattle.rules.specs.Limits.{Optional}
 use Rattle.rules.specs.Style.{topBorder, bottomBorder, isVisible}
@@ -17,10 +17,9 @@ use Rattle.display_info.specs.Opened.{Opened, widthsIn, stylesOf}
 use Rattle.display_info.proofs.Opening.{limits-of}
 use Rattle.parts.specs.declared.lengths.Lengths.{Lengths}
 use Rattle.parts.specs.Lengths.{LengthsAre}
-use Rattle.parts.specs.Ahead.{isEnd, ahead, partLines, restLines, linesOf}
-use Rattle.parts.proofs.Parts.{end-ahead}
-use Rattle.lines.specs.declared.Sought.{Sought}
-use Rattle.lines.specs.Walk.{SoughtIs, LongestIs}
+use Rattle.parts.specs.Ahead.{linesOf}
+use Rattle.lines.specs.declared.Found.{Found}
+use Rattle.lines.specs.Walk.{FoundIs, LongestIs}
 
 module _ (s : List ℕ) (cols : List (List ℕ)) (p : Page) (O : Opened s cols p) (l : Lengths) (L : LengthsAre s l) where
   optional : All Optional (tableOf s .style)
@@ -50,31 +49,24 @@ module _ (s : List ℕ) (cols : List (List ℕ)) (p : Page) (O : Opened s cols p
         small = L .border-small;
       }
 
-  module _ (r : Sought) (S : SoughtIs s p 0 r) where
-    pub no-lines : isEnd (r .cursor .stage) ≡ true → LongestIs s p 0
+  -- line 0 looked for, with no room: 21 exactly if there is none
+  module _ (r : Found) (F : FoundIs s p 0 0 r) where
+    pub no-lines : r .number ≡ 21 → LongestIs s p 0
     unfolding linesOf
-    no-lines e =
-        let none : length (linesOf s p) ≡ 0 = omega (
-          arith,
-          S .within,
-          ap length (sym (S .lines) ∙ end-ahead s p (r .cursor) e),
-          length-drop (r .passed) (linesOf s p),
-        ) in
-        record { longest = sym (longest-none (tableOf s) optional (widthsIn s) (rowsIn s (p .rows)) none); small = omega arith }
+    no-lines e = record { longest = sym (longest-none (tableOf s) optional (widthsIn s) (rowsIn s (p .rows)) (none (length (linesOf s p)) refl)); small = omega arith }
+      where
+        none : (n : ℕ) → length (linesOf s p) ≡ n → n ≡ 0
+        none zero h = refl
+        none (suc n) h = absurd (omega (arith, F .short (omega arith) (omega arith) .0))
 
-    pub by-line : p .styles .«has_top» ≡ false → p .styles .«has_bottom» ≡ false → isEnd (r .cursor .stage) ≡ false → LongestIs s p (l .line)
-    unfolding linesOf ahead
+    pub by-line : p .styles .«has_top» ≡ false → p .styles .«has_bottom» ≡ false → (r .number ≡ 21 → ⊥) → LongestIs s p (l .line)
+    unfolding linesOf
     by-line a b e =
-        let some : 0 < length (linesOf s p) = omega (
-          arith,
-          S .within,
-          S .some e,
-          ap length (S .lines),
-          length-drop (r .passed) (linesOf s p),
-          length-append (drop (r .cursor .line) (partLines s p (r .cursor))) (restLines s p (r .cursor)),
-          length-drop (r .cursor .line) (partLines s p (r .cursor)),
-        ) in
         record {
-          longest = L .line ∙ sym (longest-line (tableOf s) optional (widthsIn s) (rowsIn s (p .rows)) (sym top-as ∙ a) (sym bottom-as ∙ b) some);
+          longest = L .line ∙ sym (longest-line (tableOf s) optional (widthsIn s) (rowsIn s (p .rows)) (sym top-as ∙ a) (sym bottom-as ∙ b) (some (length (linesOf s p)) refl));
           small = L .line-small;
         }
+      where
+        some : (n : ℕ) → length (linesOf s p) ≡ n → 0 < n
+        some zero h = absurd (e (F .past (omega arith) .0))
+        some (suc n) h = omega arith

@@ -66,27 +66,6 @@ pub fn seek(sheet: &[u8], columns: &[[usize; 6]; MOST_COLUMNS], p: Page, k: usiz
     }
 }
 
-// The longest of a page's lines, in columns: a border is as long as any line, and without borders all lines are equally long.
-pub fn longest_line(sheet: &[u8], columns: &[[usize; 6]; MOST_COLUMNS], p: Page) -> usize
-    requires { ⌜ Opened (now sheet) (now columns) p ⌝ }
-    ensures { λ r. ⌜ LongestIs (now (sheet .entry)) p r ⌝ }
-{
-    let l = lengths::measure(sheet, columns, p);
-    let styles = p.styles;
-    if styles.has_top {
-        return l.border;
-    }
-    if styles.has_bottom {
-        return l.border;
-    }
-    let sought = seek(sheet, columns, p, 0);
-    let cursor = sought.cursor;
-    if cursor::is_end(cursor) {
-        return 0;
-    }
-    l.line
-}
-
 // Line k looked for, to be written into some room: number 0, the bytes that it needs and its cursor; or 21 and the line count; or 20 and the bytes needed.
 pub struct Found {
     pub number: u64,
@@ -127,6 +106,26 @@ pub fn find(
         place: needed,
         cursor,
     }
+}
+
+// The longest of a page's lines, in columns: a border is as long as any line, and without borders all lines are equally long.
+pub fn longest_line(sheet: &[u8], columns: &[[usize; 6]; MOST_COLUMNS], p: Page) -> usize
+    requires { ⌜ Opened (now sheet) (now columns) p ⌝ }
+    ensures { λ r. ⌜ LongestIs (now (sheet .entry)) p r ⌝ }
+{
+    let l = lengths::measure(sheet, columns, p);
+    let styles = p.styles;
+    if styles.has_top {
+        return l.border;
+    }
+    if styles.has_bottom {
+        return l.border;
+    }
+    let first = find(sheet, columns, p, 0, 0);
+    if first.number == 21 {
+        return 0;
+    }
+    l.line
 }
 
 // What was written, and the cursor after it.

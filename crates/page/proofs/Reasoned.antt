@@ -1,16 +1,15 @@
 -- What the call for reasons answers. Assumes nothing.
-use Prim.Native.Nat.{ℕ, _≤_}
-use mathlib.Core.Path.{_≡_, refl, sym, ap, _∙_}
-use mathlib.Core.List.{List, map}
-use mathlib.Core.Bool.{Bool, true, false, not}
+use Prim.Native.Nat.{ℕ}
+use mathlib.Core.Path.{_≡_, sym, ap, _∙_}
+use mathlib.Core.List.{List}
+use mathlib.Core.Bool.{Bool, not}
 use lib.IntN.{ℤ, pos, _-ℤ_}
-use lib.ListN.{replicate}
 use lib.Dec.{eqb}
 use borrow.Author.Tests.{eq-eqb, ne-eqb}
 use Rattle.rules.specs.declared.Checked.{Checked}
 use Rattle.rules.specs.declared.Reasoned.{Reasoned}
-use Rattle.rules.specs.Text.{textWidth, greatest}
-use Rattle.rules.specs.Sheet.{Table, mostColumns}
+use Rattle.rules.specs.Sheet.{Table}
+use Rattle.rules.specs.Field.{refused}
 use Rattle.rules.specs.Page.{pageLines}
 use Rattle.rules.specs.Calls.{check}
 use Rattle.rules.specs.Reasons.{longestPrinted, difference, reasonsOf, reasons}
@@ -26,18 +25,10 @@ use Rattle.lines.specs.Walk.{LongestIs}
 use Rattle.page.proofs.Answers.{refused-as}
 
 -- a refused sheet: number and place of the check
-pub reasons-refused : (s : List ℕ) (c : Checked) → c ≡ check s → (c .number ≡ 0 → ⊥)
-    → _≡_ {A = Reasoned} (record {
-      number = c .number;
-      place = c .place;
-      columns = 0;
-      step = replicate mostColumns 0;
-      widened = replicate mostColumns false;
-      «has_difference» = false;
-      difference = pos 0;
-    }) (reasons s)
-unfolding reasons reasonsOf
-reasons-refused s c checked h = rw (refused-as s c checked h)
+pub reasons-refused : (s : List ℕ) (c : Checked) → c ≡ check s → (c .number ≡ 0 → ⊥) → (r : Reasoned) → r ≡ reasonsOf (refused (c .number) (c .place))
+    → r ≡ reasons s
+unfolding reasons
+reasons-refused s c checked h r e = e ∙ sym (ap reasonsOf (refused-as s c checked h))
 
 -- without a target there is no difference
 pub no-difference : (t : Table) (w : ℕ) → w ≡ t .target → w ≡ 0 → pos 0 ≡ difference t

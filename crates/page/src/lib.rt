@@ -3,6 +3,7 @@ ghost use mathlib.Core.Path.{_≡_};
 ghost use mathlib.Core.List.{[]};
 ghost use mathlib.Core.Bool.{true};
 ghost use Rattle.rules.specs.Limits.{PlainTable};
+ghost use Rattle.rules.specs.Field.{refused};
 ghost use Rattle.rules.specs.Calls as calls;
 ghost use Rattle.rules.specs.Reasons as reasons;
 ghost use Rattle.table.specs.Held.{IsAccepted, tableOf};
@@ -65,21 +66,28 @@ fn difference(sheet: &[u8], plain: bool, widths: Widths, target: u16) -> i32
     width_steps::difference(target, longest)
 }
 
+// An answer that explains nothing.
+fn no_reasons(number: u64, place: u64) -> Reasoned
+    ensures { λ r. ⌜ r ≡ reasons.reasonsOf (refused number place) ⌝ }
+{
+    Reasoned {
+        number,
+        place,
+        columns: 0,
+        step: [0u8; MOST_COLUMNS],
+        widened: [false; MOST_COLUMNS],
+        has_difference: false,
+        difference: 0,
+    }
+}
+
 // The step that set each column's width, whether the remainder widened it, and the difference; of a refused sheet, number and place.
 pub fn reasons(sheet: &[u8]) -> Reasoned
     ensures { λ r. ⌜ r ≡ reasons.reasons (now (sheet .entry)) ⌝ }
 {
     let examined = sheet::examine(sheet);
     if examined.number != 0 {
-        return Reasoned {
-            number: examined.number,
-            place: examined.place,
-            columns: 0,
-            step: [0u8; MOST_COLUMNS],
-            widened: [false; MOST_COLUMNS],
-            has_difference: false,
-            difference: 0,
-        };
+        return no_reasons(examined.number, examined.place);
     }
     let found = width_steps::explain(sheet);
     let widths = found.widths;

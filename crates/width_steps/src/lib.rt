@@ -10,7 +10,6 @@ ghost use Rattle.constraint.specs.Widths.{bound, visible};
 ghost use Rattle.width_steps.specs.Steps.{untargetedBy, fittedBy, targetedBy, stepBy, stepsBy, widenedBy, widenedAllBy, reportOf};
 use arrangement::Widths;
 use arrangement::dynamic::Course;
-use arrangement::layout;
 use constraint::Bound;
 use constraint::Layout;
 use rules::Column;
@@ -161,8 +160,9 @@ pub fn explain(sheet: &[u8]) -> Report
     requires { ⌜ IsAccepted (now sheet) ⌝ }
     ensures { λ r. ⌜ r ≡ reportOf (tableOf (now (sheet .entry))) ⌝ }
 {
-    let t = layout::layout(sheet);
-    let a = arrangement::arrange(sheet, t);
+    let found = arrangement::arrange_sheet(sheet);
+    let t = found.layout;
+    let a = found.course;
     let step = steps(t, a);
     let widened = widened_columns(t, a);
     let widths = arrangement::widths_of(t, a);

@@ -13,7 +13,9 @@ reasons-spec =
     tie.close
     (tie.spec
     (λ c κs. search needs)
-    (λ c. reasons-refused _ _ (examined _ _ (c .before .before .examine .ensures)) (c .if1 .taken))
+    (λ c κs. search needs)
+    (λ c. let e = c .before .before .before .examine .ensures in
+    reasons-refused _ _ (examined _ _ e) (c .before .if1 .taken) _ (c .no-reasons .ensures))
     (λ c κs. is-accepted _ _ (examined _ _ (c .before .before .examine .ensures)) (c .if1 .left))
     (λ c κs.
     let x = c .before .before .before in
