@@ -4,12 +4,12 @@ use mathlib.Core.Path.{_≡_, refl, sym, ap, _∙_}
 use mathlib.Core.Bool.{Bool, true, false, not, _||_}
 use mathlib.Core.List.{List}
 use native.Mathlib.Omega.{arith}
-use lib.ListN.{length, getD}
+use lib.ListN.{getD}
 use lib.Seq.{getD-take}
 use lib.Dec.{eqb}
-use Rattle.rules.specs.Sheet.{Table, columnAt, isHidden}
+use Rattle.rules.specs.Sheet.{Table, isHidden}
 use Rattle.rules.specs.Widths as doc
-use Rattle.rules.specs.Widths.{isUntargeted, isUndecided, longestPart, contents}
+use Rattle.rules.specs.Widths.{isUntargeted, isUndecided, longestPart}
 use Rattle.rules.specs.Fixing.{after1, after2, after3}
 use Rattle.constraint.specs.declared.Layout.{Layout}
 use Rattle.constraint.specs.declared.State.{State}

@@ -1,7 +1,7 @@
 -- The course of a table's widths. Assumes nothing.
 use Prim.Native.Nat.{ℕ, _<_}
 use mathlib.Core.Path.{_≡_}
-use mathlib.Core.Bool.{Bool, true, false, not}
+use mathlib.Core.Bool.{true, false, not}
 use lib.ListN.{length, getD}
 use lib.Dec.{eqb}
 use Rattle.rules.specs.Sheet.{Table, columnAt, isHidden}

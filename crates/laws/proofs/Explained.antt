@@ -1,26 +1,26 @@
 -- The report explains each width: the one at which the named step fixed the column and, where it is called widened, a share of the remainder. Assumes nothing.
 use Prim.Native.Nat.{ℕ, zero, suc, _+_, _≤_, _<_}
-use mathlib.Core.Path.{_≡_, refl, sym, ap, _∙_, subst}
+use mathlib.Core.Path.{_≡_, refl, sym, ap, _∙_}
 use mathlib.Core.List.{List, map}
-use mathlib.Core.Bool.{Bool, true, false, not, _&&_}
+use mathlib.Core.Bool.{Bool, true, false}
 use mathlib.Core.Option.{Option, none, some}
 use native.Mathlib.Omega.{arith}
 use lib.ListN.{length, getD}
 use lib.Dec.{eqb, ltb}
-use borrow.Author.Tests.{eqb-true, eqb-false, eq-eqb, ne-eqb, ltb-true, ltb-false, lt-ltb, le-ltb}
+use borrow.Author.Tests.{eqb-true, eqb-false, ne-eqb, ltb-true, ltb-false, lt-ltb, le-ltb}
 use Rattle.rules.specs.Text.{orElse, upFrom}
 use Rattle.rules.specs.Sheet.{Table, columnAt, isHidden}
 use Rattle.rules.specs.Widths.{lifted, numbers, longest, evaluate, noted, first, isUntargeted, belowLongest, untargeted, undecided, isUndecided, start}
 use Rattle.rules.specs.Widths.{aboveAverage, fittingAverage, splitAtAverage, shared, ofRemainder, widened, step4, contents}
 use Rattle.rules.specs.Fixing.{Fixed, after1, after2, after3}
 use Rattle.rules.specs.Fixing.{by-first, by-lower, by-upper, by-longest, by-part, by-share, by-untargeted, by-untargeted-upper}
-use Rattle.rules.specs.Reasons.{stepNumber, stepOf, isWidened, ColumnExplained, Explained}
+use Rattle.rules.specs.Reasons.{stepOf, isWidened, ColumnExplained, Explained}
 use Rattle.rules.specs.declared.WidthStep.{WidthStep}
 use Rattle.rules.specs.declared.WidthStep.the-variants.{NoStep}
 use Rattle.laws.proofs.Lists.{getD-map, getD-upFrom, all-getD}
 use Rattle.laws.proofs.Contents.{Some, length-numbers, length-steps, decided-some, shared-some, untargeted-some}
 use Rattle.laws.proofs.Turns.{never, noted-width, run-width, turn-width}
-use Rattle.laws.proofs.Reasons.{goes1, goes2, goes3, long1, long2, long3, start-fixed, start-open, upper-offered, longest-offered, fitted-width}
+use Rattle.laws.proofs.Reasons.{goes1, goes2, goes3, long1, long3, start-fixed, upper-offered, longest-offered, fitted-width}
 use Rattle.laws.proofs.Reasons.{step-found, step-only, fixed-number}
 
 orElse-own : (a b : ℕ) → eqb a 0 ≡ false → orElse a b ≡ a

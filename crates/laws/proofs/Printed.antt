@@ -1,11 +1,11 @@
 -- The longest of a page's lines, in characters: a border where one is drawn, else any line. Assumes nothing.
-use Prim.Native.Nat.{ℕ, zero, suc, _+_, _-_, _≤_, _<_, max}
+use Prim.Native.Nat.{ℕ, _+_, _-_, _≤_, _<_, max}
 use mathlib.Core.Path.{_≡_, refl, sym, ap, _∙_, subst}
 use mathlib.Core.List.{List, [], _∷_, _++_, map}
-use mathlib.Core.Bool.{Bool, true, false, cond}
+use mathlib.Core.Bool.{Bool, true, false}
 use native.Mathlib.Omega.{arith}
 use lib.ListN.{length}
-use Rattle.rules.specs.Text.{textWidth, greatest, upFrom, oneIf, All}
+use Rattle.rules.specs.Text.{textWidth, greatest, upFrom, All}
 use Rattle.rules.specs.Sheet.{Row, Table}
 use Rattle.rules.specs.Limits.{Optional}
 use Rattle.rules.specs.Style.{topBorder, headerLines, headerRule, contentLines, rowRule, bottomBorder, anyJunction, bordersOf, isVisible}

@@ -1,28 +1,27 @@
 -- The report names a step exactly if that rule fixed the column, one for each visible column; and how the width came of it. Assumes nothing.
 use Prim.Native.Nat.{ℕ, _+_, _≤_, _<_}
-use mathlib.Core.Path.{_≡_, refl, sym, ap, _∙_, subst}
-use mathlib.Core.List.{List, map}
-use mathlib.Core.Bool.{Bool, true, false, not, _&&_}
+use mathlib.Core.Path.{_≡_, refl, sym, ap, _∙_}
+use mathlib.Core.Bool.{Bool, true, false, _&&_}
 use mathlib.Core.Option.{Option, none, some}
 use native.Mathlib.Omega.{arith}
 use lib.ListN.{length, getD}
-use lib.Dec.{eqb, leb, ltb}
-use borrow.Author.Tests.{eqb-true, eqb-false, eq-eqb, ne-eqb, leb-true, leb-false, ltb-true, ltb-false, lt-ltb, le-ltb}
-use Rattle.rules.specs.Text.{orElse, upFrom}
+use lib.Dec.{eqb, leb}
+use borrow.Author.Tests.{leb-true, leb-false}
+use Rattle.rules.specs.Text.{upFrom}
 use Rattle.rules.specs.Sheet.{Table, columnAt, padding, isHidden}
-use Rattle.rules.specs.Widths.{State, lifted, contentOf, longest, numbers, upper, evaluate, noted, first, isUntargeted, belowLongest, untargeted}
-use Rattle.rules.specs.Widths.{undecided, isUndecided, average, averageIsSome, start, pass, aboveAverage, withinAverage, atUpper, fittingAverage}
-use Rattle.rules.specs.Widths.{splitAtAverage, run1, run2, run3, step1, step2, step3, shared, ofRemainder, widened, step4, contents}
+use Rattle.rules.specs.Widths.{State, lifted, contentOf, longest, numbers, upper, evaluate, noted, first, isUntargeted, belowLongest}
+use Rattle.rules.specs.Widths.{isUndecided, average, averageIsSome, start, pass, aboveAverage, withinAverage, atUpper, fittingAverage}
+use Rattle.rules.specs.Widths.{splitAtAverage, run1, run2, run3, step1, step2, step3, shared}
 use Rattle.rules.specs.Fixing.{AtTurn, Any, Fixed, after1, after2, after3, passes1, passes2, passes3}
 use Rattle.rules.specs.Fixing.{by-first, by-lower, by-upper, by-longest, by-part, by-share, by-untargeted, by-untargeted-upper}
-use Rattle.rules.specs.Reasons.{stepNumber, untargetedStep, fittedStep, targetedStep, stepOf, isWidened, ColumnExplained, Explained}
+use Rattle.rules.specs.Reasons.{stepNumber, untargetedStep, fittedStep, targetedStep, stepOf}
 use Rattle.rules.specs.declared.WidthStep.{WidthStep}
-use Rattle.rules.specs.declared.WidthStep.the-variants.{NoStep, FirstConstraint, LowerBound, UpperBound, LongestWithinAverage, SplitPart, EvenShare}
+use Rattle.rules.specs.declared.WidthStep.the-variants.{FirstConstraint, LowerBound, UpperBound, LongestWithinAverage, SplitPart, EvenShare}
 use Rattle.rules.specs.declared.WidthStep.the-variants.{UntargetedLongest, UntargetedUpper}
-use Rattle.laws.proofs.Lists.{getD-map, getD-upFrom, all-getD}
-use Rattle.laws.proofs.Contents.{length-numbers, length-start, length-step1, length-step2, length-steps, decided-some, shared-some}
+use Rattle.laws.proofs.Lists.{getD-map, getD-upFrom}
+use Rattle.laws.proofs.Contents.{length-numbers, length-start, length-step1, length-step2}
 use Rattle.laws.proofs.Runs.{Goes, run-goes}
-use Rattle.laws.proofs.Turns.{never, any-imp, any-so, noted-width, run-shut, run-width, run-open, turn-first, turn-width, turn-found}
+use Rattle.laws.proofs.Turns.{never, any-imp, any-so, noted-width, run-open, turn-first, turn-width, turn-found}
 
 within-fits : (l a w : ℕ) → withinAverage l a ≡ some w → l ≤ a
 unfolding withinAverage

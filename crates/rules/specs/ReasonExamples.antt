@@ -1,7 +1,7 @@
 -- The report on the desk's sheet and on sheets that show each step and each kind of difference, as one table and one result. Assumes nothing.
 use Prim.Native.Nat.{ℕ}
 use mathlib.Core.Path.{_≡_, refl}
-use mathlib.Core.List.{List, [], _∷_, _++_, map}
+use mathlib.Core.List.{List, [], _∷_, map}
 use mathlib.Core.Bool.{true, false}
 use lib.IntN.{pos, negsuc}
 use lib.ListN.{replicate}
@@ -10,7 +10,7 @@ use Rattle.rules.specs.Quote.{ascii}
 use Rattle.rules.specs.Sheet.{Column, Row, Table, noWidth, noColumn}
 use Rattle.rules.specs.Widths.{contents}
 use Rattle.rules.specs.Reasons.{stepNumbers, widenedColumns, difference, reasons}
-use Rattle.rules.specs.Examples.{grid, bare, house, houseTable, single, held, rowOf}
+use Rattle.rules.specs.Examples.{bare, house, houseTable, single, held}
 
 -- a table with another arrangement and target, and with another style
 abbrev aimed : ℕ → ℕ → Table → Table

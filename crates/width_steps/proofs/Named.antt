@@ -9,12 +9,12 @@ use lib.ListN.{length, getD}
 use lib.Dec.{eqb, leb, ltb}
 use borrow.Author.Tests.{le-ltb}
 use Rattle.rules.specs.declared.WidthStep.{WidthStep}
-use Rattle.rules.specs.declared.WidthStep.the-variants.{NoStep, FirstConstraint, LowerBound, UpperBound, LongestWithinAverage, SplitPart, EvenShare}
+use Rattle.rules.specs.declared.WidthStep.the-variants.{FirstConstraint, LowerBound, UpperBound, LongestWithinAverage, SplitPart, EvenShare}
 use Rattle.rules.specs.declared.WidthStep.the-variants.{UntargetedLongest, UntargetedUpper}
 use Rattle.rules.specs.Sheet.{Table, columnAt, padding, isHidden}
 use Rattle.rules.specs.Calls.{asArray}
 use Rattle.rules.specs.Widths as doc
-use Rattle.rules.specs.Widths.{isUndecided, isUntargeted, belowLongest, atUpper, contentOf, longestPart, contents}
+use Rattle.rules.specs.Widths.{isUndecided, isUntargeted, belowLongest, atUpper, contentOf, longestPart}
 use Rattle.rules.specs.Fixing.{after1, after2, after3}
 use Rattle.rules.specs.Reasons.{stepNumber, untargetedStep, fittedStep, targetedStep, stepOf, isWidened, stepNumbers, widenedColumns}
 use Rattle.laws.proofs.Explained.{explained}

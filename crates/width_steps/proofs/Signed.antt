@@ -1,9 +1,9 @@
 -- The difference of two small numbers, as an i32. Assumes nothing.
-use Prim.Native.Nat.{ℕ, zero, suc, _+_, _-_, _^_, _<_}
+use Prim.Native.Nat.{ℕ, zero, suc, _-_, _<_}
 use mathlib.Core.Path.{_≡_, sym, subst, _∙_}
 use mathlib.Core.Bool.{Bool, true, false, cond}
 use native.Mathlib.Omega.{arith}
-use lib.IntN.{ℤ, pos, negsuc, _-ℤ_, subℕ}
+use lib.IntN.{ℤ, pos, negsuc, _-ℤ_}
 use lib.Dec.{ltb}
 use mir.Syntax.{w32}
 use lib.Signed.{mag}

@@ -1,7 +1,7 @@
 -- The step of a column by the course of the widths, and the report. Assumes nothing.
 use Prim.Native.Nat.{ℕ, _+_}
 use mathlib.Core.List.{List}
-use mathlib.Core.Bool.{Bool, true, false}
+use mathlib.Core.Bool.{Bool, false}
 use mathlib.Core.Option.{Option, none, some}
 use lib.ListN.{getD, set, replicate}
 use lib.Dec.{eqb, leb, ltb}
