@@ -1,4 +1,4 @@
-// Replays sheets against stored answers of the Rust: every call, with buffers that are full, short and wide. Standard input
+// Replays sheets against stored answers of the Rust: every call of document 01, with buffers that are full, short and wide. Standard input
 // holds records one after another; the README of tools/differential/sample has their format.
 use libc::STDIN_FILENO;
 use libc::STDOUT_FILENO;
@@ -25,7 +25,7 @@ struct Replayed {
     next: usize,
 }
 
-// The stored answers take 172,316 bytes. Were they cut short here, the totals written would show it.
+// The stored answers take 171,922 bytes. Were they cut short here, the totals written would show it.
 fn text_space() -> [u8; 200000]
     ensures { λ r. ⌜ 200000 ≡ length r ⌝ }
 {
