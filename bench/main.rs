@@ -9,8 +9,6 @@ mod oracle;
 #[allow(dead_code)]
 #[path = "../tools/differential/src/random.rs"]
 mod random;
-#[cfg(reasons)]
-mod reasons;
 #[allow(dead_code)]
 #[path = "../tools/differential/src/sheet.rs"]
 mod sheet;
@@ -91,8 +89,8 @@ fn time_write(_: &Slices, _: &[u8]) -> Option<f64> {
 /// An archive from before reports has no such call either.
 #[cfg(reasons)]
 fn time_reasons(sheet: &[u8]) -> Option<f64> {
-    assert!(reasons::reasons(sheet).number == 0, "the sheet is accepted");
-    Some(time(|| reasons::reasons(black_box(sheet))))
+    assert!(Calls { sheet }.reasons().number == 0, "the sheet is accepted");
+    Some(time(|| Calls { sheet: black_box(sheet) }.reasons()))
 }
 
 #[cfg(not(reasons))]
