@@ -1,5 +1,7 @@
 // What a column would need after a split: `longest_line_after_split` of comfy-table's `arrangement/dynamic.rs`, a function for each of
 // its loops. No text is copied: each line is the part of the sheet that holds it.
+#![tactic(auto)]
+
 ghost use Rattle.std.specs.Prelude.{◌≡◌, ◌+◌, ◌<◌, max, ltb};
 ghost use Rattle.rules.specs.Sheet.{column_at};
 ghost use Rattle.rules.specs.Widths.{shorter_by3, longest_part};

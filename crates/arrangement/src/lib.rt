@@ -1,4 +1,6 @@
 // The width of each column: comfy-table's `arrangement/mod.rs`.
+#![tactic(auto)]
+
 pub mod disabled;
 pub mod dynamic;
 pub mod layout;

@@ -1,4 +1,6 @@
 // Borders and rules, comfy-table's `borders.rs`: one way of drawing for all four, whose characters differ.
+#![tactic(auto)]
+
 ghost use Rattle.std.specs.Prelude.{◌≡◌, ◌++◌, ◌+◌, ◌≤◌, ◌<◌, length};
 ghost use Rattle.buffer.specs.Put.{over, put_at, byte_if};
 ghost use Rattle.row.specs.Packed.{view_of};

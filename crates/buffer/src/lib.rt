@@ -1,4 +1,6 @@
 // Writers into a lent buffer, from a place on: what stands before and after is kept.
+#![tactic(auto)]
+
 ghost use Rattle.std.specs.Prelude.{◌≡◌, ◌+◌, ◌≤◌, length, replicate};
 ghost use Rattle.buffer.specs.Put.{put_at, byte_if, lead};
 

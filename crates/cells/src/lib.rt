@@ -1,4 +1,6 @@
 // The wrapped lines of a cell, found one after another. Each is a part of a cell line, which the sheet's reader hands on as a part of the sheet.
+#![tactic(auto)]
+
 ghost use Rattle.std.specs.Prelude.{◌≡◌, ◌+◌, ◌≤◌, ◌<◌, leb, length};
 ghost use Rattle.rules.specs.Text.{All, text_width};
 ghost use Rattle.rules.specs.Limits.{Printable};

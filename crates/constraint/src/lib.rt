@@ -1,4 +1,6 @@
 // Constraints, bounds and the state of an arrangement: comfy-table's `arrangement/helper.rs` and `constraint.rs`.
+#![tactic(auto)]
+
 ghost use Rattle.std.specs.Prelude.{◌≡◌, ◌+◌, ◌-◌, ◌≤◌, ◌<◌, eqb};
 ghost use Rattle.constraint.specs.Widths.{choose, visible, borders, percent, bound, offered, value, lower, upper, average, set_width, bit};
 ghost use Rattle.constraint.specs.Widths.{decided, fixed, taking, absolute, covered, first, evaluated, hide};

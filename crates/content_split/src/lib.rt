@@ -1,5 +1,6 @@
 // Where a line of a cell is split: comfy-table's `content_split`, by positions in the text. A wrapped line is always a part of the text,
 // whose own delimiters stand in it. A character is a byte or a pair, and takes one column.
+#![tactic(auto)]
 
 ghost use Rattle.std.specs.Prelude.{◌≡◌, ◌≤◌, ◌<◌, length, map, true};
 ghost use Rattle.rules.specs.Text.{text_width, greatest};

@@ -1,4 +1,6 @@
 // What every line of a page is drawn from, read from an accepted sheet once. The visible columns are numbers in an array beside it, which is lent.
+#![tactic(auto)]
+
 ghost use Rattle.std.specs.Prelude.{◌≡◌, true, ◌+◌, ◌<◌, length};
 ghost use Rattle.rules.specs.Sheet.{most_columns};
 ghost use Rattle.rules.specs.Limits.{PlainTable};

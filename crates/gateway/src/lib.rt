@@ -1,5 +1,7 @@
 // The calls for C: include/cagwoni.h declares them. A slice is a pointer and a length there.
 // None has a `requires`: whatever the host passes, the call answers.
+#![tactic(auto)]
+
 ghost use Rattle.std.specs.Prelude.{◌≡◌};
 ghost use Rattle.rules.specs.Calls as calls;
 ghost use Rattle.rules.specs.Reasons.{reasons};

@@ -31,22 +31,23 @@ module _ (q : ℕ → Bool) (d : ℕ) (out : q d ≡ true) where
   rest-cons : (c : ℕ) (l m : List ℕ) → rest l ≡ rest m → rest (c ∷ l) ≡ rest (c ∷ m)
   rest-cons c l m e = rest-append (c ∷ []) l ∙ ap (λ r. rest (c ∷ []) ++ r) e ∙ sym (rest-append (c ∷ []) m)
 
+  grown : (c : ℕ) (ps : List (List ℕ)) → flat (onto c ps) ≡ c ∷ flat ps
+  unfolding onto flat
+  grown c [] = refl
+  grown c (p ∷ ps) = refl
+
   rest-pieces : (l : List ℕ) → rest (flat (pieces d l)) ≡ rest l
   unfolding pieces flat
   rest-pieces [] = refl
   rest-pieces (c ∷ l) = go (eqb c d) refl (rest-pieces l)
     where
-      grown : (ps : List (List ℕ)) → flat (onto c ps) ≡ c ∷ flat ps
-      grown [] = unfold onto in refl
-      grown (p ∷ ps) = unfold onto in refl
-
       gone : eqb c d ≡ true → rest (c ∷ l) ≡ rest l
       gone e = unfold keep in rw (eqb-true c d e, out, keep)
 
       go : (b : Bool) → eqb c d ≡ b → rest (flat (pieces d l)) ≡ rest l
           → rest (flat (elim b as (λ x. List (List ℕ)) [ true ↦ [] ∷ pieces d l | false ↦ onto c (pieces d l) ])) ≡ rest (c ∷ l)
       go true e i = i ∙ sym (gone e)
-      go false e i = rw (grown (pieces d l)) (rest-cons c (flat (pieces d l)) l i)
+      go false e i = rw (grown c (pieces d l)) (rest-cons c (flat (pieces d l)) l i)
 
   module _ (w : ℕ) (some : 0 < w) where
     abbrev Keeping : ℕ → Type 0

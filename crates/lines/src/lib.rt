@@ -1,4 +1,6 @@
 // The lines of an opened page: counted, sought and written, all part after part in one order.
+#![tactic(auto)]
+
 ghost use Rattle.std.specs.Prelude.{◌≤◌, length};
 ghost use Rattle.rules.specs.Limits.{most_lines};
 ghost use Rattle.display_info.specs.Opened.{Opened};

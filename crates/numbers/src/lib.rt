@@ -1,4 +1,6 @@
 // Small choices between numbers and between truths, which the language has no operation for.
+#![tactic(auto)]
+
 ghost use Rattle.std.specs.Prelude.{◌≡◌, ◌&&◌, ◌||◌, ◌-◌, ◌<◌, max, min};
 ghost use Rattle.rules.specs.Text.{or_else};
 

@@ -1,4 +1,6 @@
 // The calls: check, count, widths, their reasons, and the page printed as a whole, by a line or by lines.
+#![tactic(auto)]
+
 ghost use Rattle.std.specs.Prelude.{◌≡◌, [], true};
 ghost use Rattle.rules.specs.Limits.{PlainTable};
 ghost use Rattle.rules.specs.Field.{refused};

@@ -1,6 +1,8 @@
 // A sheet on standard input becomes its page on standard output, or `refused N at P`; what can't be read or written, a line on standard error.
 // A page can be far larger than memory: it goes out by as many whole lines at a time as the space holds, and a row and a line in it are kept
 // between them.
+#![tactic(auto)]
+
 mod refusal;
 
 ghost use Rattle.std.specs.Prelude.{◌≡◌, ◌+◌, ◌≤◌, length};

@@ -1,4 +1,6 @@
 // The calls that print, and what each leaves in a buffer.
+#![tactic(auto)]
+
 ghost use Rattle.std.specs.Prelude.{◌≤◌, ◌<◌, length};
 
 use libc::STDOUT_FILENO;

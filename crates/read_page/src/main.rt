@@ -1,5 +1,7 @@
 // Reads a sheet on standard input through a page reader, line after line, and writes its page. The sheet is the trial desk's: a style other than the
 // house grid is named, and so is a bare style that sets anything, so that only the page comes out where both are as they should be.
+#![tactic(auto)]
+
 ghost use Rattle.std.specs.Prelude.{◌≡◌, length};
 
 use libc::{STDIN_FILENO, STDOUT_FILENO};

@@ -1,4 +1,6 @@
 // A page reader: the lent sheet and the number of its next line.
+#![tactic(auto)]
+
 ghost use Rattle.std.specs.Prelude.{◌≡◌, ◌+◌, ◌<◌, ◌^◌};
 ghost use Rattle.reader.specs.Read.{ReadIs, line_after};
 

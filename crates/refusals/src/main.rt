@@ -1,5 +1,7 @@
 // Replays sheets against stored answers. Each line of standard input is a name, a colon and a sheet's bytes in hexadecimal,
 // `HH*N` for one byte N times; each line written is the name and what the check answers.
+#![tactic(auto)]
+
 ghost use Rattle.std.specs.Prelude.{◌≡◌, ◌≤◌, ◌<◌, length};
 
 use libc::{STDIN_FILENO, STDOUT_FILENO};

@@ -1,5 +1,7 @@
 // Replays sheets against stored answers of the Rust: every call of document 01, with buffers that are full, short and wide. Standard input
 // holds records one after another; the README of tools/differential/sample has their format.
+#![tactic(auto)]
+
 ghost use Rattle.std.specs.Prelude.{◌≡◌, ◌<◌, length};
 
 use libc::{STDIN_FILENO, STDOUT_FILENO};

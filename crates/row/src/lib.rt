@@ -1,4 +1,6 @@
 // A row's cells opened at one of its lines, comfy-table's `format_row`, and their heights.
+#![tactic(auto)]
+
 pub mod packed;
 
 ghost use Rattle.std.specs.Prelude.{◌≡◌, ◌*◌, ◌≤◌, ◌<◌, length};

@@ -1,4 +1,6 @@
 // Step 4, what the columns' widths end with: `distribute_remaining_space` and `use_full_width` of comfy-table's `arrangement/dynamic.rs`.
+#![tactic(auto)]
+
 ghost use Rattle.std.specs.Prelude.{◌≡◌, ◌+◌, ◌≤◌, ◌<◌, get_or};
 ghost use Rattle.rules.specs.Sheet.{most_columns};
 ghost use Rattle.sharing.specs.Limits.{Small};

@@ -1,4 +1,6 @@
 // Sheet, edition 1: checks a sheet. Most have no pair, and are read without looking for one; the others are read again.
+#![tactic(auto)]
+
 mod columns;
 mod field;
 mod rows;

@@ -1,4 +1,6 @@
 // The stored answers: numbers, low byte first, and parts of the text. Past the end every byte reads as 0.
+#![tactic(auto)]
+
 pub mod answers;
 
 ghost use Rattle.std.specs.Prelude.{◌≤◌, ◌<◌, length};

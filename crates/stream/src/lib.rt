@@ -1,4 +1,6 @@
 // Standard input and output, with an error told from the end of the input. What was interrupted or wasn't ready is tried again.
+#![tactic(auto)]
+
 ghost use Rattle.std.specs.Prelude.{◌≡◌, ◌+◌, ◌≤◌, length};
 ghost use Rattle.io.specs.Counts.{IsPrefixLen};
 

@@ -1,3 +1,5 @@
 // How a table looks: the records of comfy-table's `style` folder.
+#![tactic(auto)]
+
 pub mod column;
 pub mod table_style;

@@ -1,4 +1,5 @@
 // The columns of a text: comfy-table's `measure_text_width`. A character is a byte, or a pair whose second byte is B0, and takes one column.
+#![tactic(auto)]
 
 ghost use Rattle.std.specs.Prelude.{◌≡◌, ◌-◌, ◌≤◌, ◌<◌, length, [], ◌∷◌};
 ghost use Rattle.std.proofs.Math.Seq.{slice};

@@ -1,4 +1,6 @@
 // The step that set each column's width, told from the columns that were decided after each step: document 02, order 5.
+#![tactic(auto)]
+
 ghost use Rattle.std.specs.Prelude.{◌≡◌, ◌≤◌, ◌<◌, pos, ◌-ℤ◌};
 ghost use Rattle.rules.specs.Limits.{longest_line};
 ghost use Rattle.rules.specs.Sheet.{most_columns};

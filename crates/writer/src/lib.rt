@@ -1,5 +1,7 @@
 // The writer: the editor's table, two slices of numbers and text, becomes a sheet, or is refused with a number and a place.
 // One walk over the fields judges and writes: the first run is lent no buffer, the second the sheet's, once all is in order and fits.
+#![tactic(auto)]
+
 ghost use Rattle.std.specs.Prelude.{◌≡◌, []};
 ghost use Rattle.rules.specs.Writer as calls;
 ghost use Rattle.rules.specs.Format as format;
