@@ -16,7 +16,7 @@ use table::records::{Cells, Lines, Rows};
 use table::{settings, walk};
 
 // The longest part that was found, and where the walk stands.
-#[derive(Drop)]
+#[derive(Clone, Copy)]
 pub struct Tried {
     pub longest: usize,
     pub end: usize,

@@ -243,7 +243,7 @@ fn optimize_space_after_split(sheet: &[u8], t: Layout, s: State) -> State
 
 // How the widths came about: the visible columns that were decided after the first step and after each of steps 1 to 3, the widths before step 4,
 // and the state in the end.
-#[derive(Drop)]
+#[derive(Clone, Copy)]
 pub struct Course {
     pub first: u16,
     pub lower: u16,

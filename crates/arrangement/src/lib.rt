@@ -19,7 +19,7 @@ use dynamic::Course;
 use rules::MOST_COLUMNS;
 
 // Content widths and hidden columns: the first `count` are the sheet's, past them they are 0 and not hidden.
-#[derive(Drop)]
+#[derive(Clone, Copy)]
 pub struct Widths {
     pub count: usize,
     pub content: [u16; MOST_COLUMNS],
@@ -103,7 +103,7 @@ pub fn widths_of(t: Layout, c: Course) -> Widths
 }
 
 // The layout that a sheet's widths go by, and the course that they took.
-#[derive(Drop)]
+#[derive(Clone, Copy)]
 pub struct Found {
     pub layout: Layout,
     pub course: Course,

@@ -10,7 +10,7 @@ use row::{VisibleColumn, packed};
 use rules::MOST_COLUMNS;
 
 // The characters of a border or a rule, and which of them are drawn.
-#[derive(Drop)]
+#[derive(Clone, Copy)]
 pub struct RuleStyle {
     pub left: u8,
     pub fill: u8,

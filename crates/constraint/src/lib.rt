@@ -11,7 +11,7 @@ use style::column;
 use style::column::{ConstraintWidth, ContentWidth};
 
 // What the widths depend on, beside the parts that cell lines split into.
-#[derive(Drop)]
+#[derive(Clone, Copy)]
 pub struct Layout {
     pub arrangement: u8,
     pub target: u16,
@@ -24,7 +24,7 @@ pub struct Layout {
 }
 
 // The widths that are being found, and the set of decided visible columns.
-#[derive(Drop)]
+#[derive(Clone, Copy)]
 pub struct State {
     pub widths: [u16; MOST_COLUMNS],
     pub decided: u16,
@@ -33,14 +33,14 @@ pub struct State {
 }
 
 // A bound that a constraint sets.
-#[derive(Drop)]
+#[derive(Clone, Copy)]
 pub enum Bound {
     Unset,
     At(ConstraintWidth),
 }
 
 // What a rule offers an undecided column.
-#[derive(Drop)]
+#[derive(Clone, Copy)]
 pub enum Offer {
     Keep,
     Take(ContentWidth),

@@ -10,7 +10,7 @@ ghost use Rattle.content_split.specs.Cut.{Near, Start, Back, AtWidth, Straddle, 
 ghost use Rattle.content_split.specs.Parts.{PartIs};
 
 // The next wrapped line, from `start` up to `end`, with the place where the search goes on; or that none is left.
-#[derive(Drop)]
+#[derive(Clone, Copy)]
 pub enum Part {
     Line {
         start: usize,

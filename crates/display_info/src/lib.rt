@@ -31,7 +31,7 @@ use table::records::{Indicator, Rows};
 use table::{settings, walk};
 
 // How the lines of a row look: its text lines, the rule after it, and whether that rule is visible.
-#[derive(Drop)]
+#[derive(Clone, Copy)]
 pub struct RowStyle {
     pub lines: TextStyle,
     pub rule: RuleStyle,
@@ -39,7 +39,7 @@ pub struct RowStyle {
 }
 
 // How the lines of a page look, and which borders are visible.
-#[derive(Drop)]
+#[derive(Clone, Copy)]
 pub struct LineStyles {
     pub top: RuleStyle,
     pub header: RowStyle,
@@ -51,7 +51,7 @@ pub struct LineStyles {
 
 // A page over some rows of the sheet: how many columns are visible, the indicator, the lines' styles, the header and the rows. On a plain page no
 // cell has a pair, so that each text line has as many bytes as columns.
-#[derive(Drop)]
+#[derive(Clone, Copy)]
 pub struct Page {
     pub plain: bool,
     pub count: usize,

@@ -15,7 +15,7 @@ use rules::MOST_COLUMNS;
 pub const MOST: u16 = MOST_COLUMNS as u16;
 
 // A field with its value. It has its value even where that is a fault: the items that it counts are walked all the same.
-#[derive(Drop)]
+#[derive(Clone, Copy)]
 pub struct Field {
     pub value: u16,
     pub walk: Walk,
@@ -50,7 +50,7 @@ pub fn byte_between(
 ) -> Field
     ensures sheet_after { state result.walk sheet.new
         ≡ byte_entered (field.between low high) fault numbers.now (state from sheet.old) }
-    ensures value_value { result.value ≡ (slices.number_at numbers.now (cursor_of from)).value }
+    ensures value { result.value ≡ (slices.number_at numbers.now (cursor_of from)).value }
 {
     let taken = walk::number(numbers, from);
     let value = taken.value;
@@ -135,7 +135,7 @@ fn count_fault(limited: bool) -> u64
 pub fn cell_count(numbers: &[u16], sheet: &mut [u8], from: Walk, columns: u16) -> Field
     ensures sheet_after { state result.walk sheet.new
         ≡ walked (format.cell_count columns) numbers.now [] (state from sheet.old) }
-    ensures value_value { result.value ≡ (slices.number_at numbers.now (cursor_of from)).value }
+    ensures value { result.value ≡ (slices.number_at numbers.now (cursor_of from)).value }
 {
     let taken = walk::number(numbers, from);
     let value = taken.value;

@@ -10,7 +10,7 @@ use super::{field, walk};
 use rules::{STYLE_CHARACTERS, Step};
 
 // What a text is: the indicator, the style, or a line of a cell.
-#[derive(Drop)]
+#[derive(Clone, Copy)]
 pub enum Kind {
     Indicator,
     Style,

@@ -8,7 +8,7 @@ ghost use Rattle.editor.specs.Walk.{state, entered, cursor_of, moved, noted, adv
 ghost use Rattle.editor.specs.Walk as definition;
 
 // `missing`: a number or text was missing, and nothing is taken any more. `fault`: the first fault's number, 0 for none; `at`: its place.
-#[derive(Drop)]
+#[derive(Clone, Copy)]
 pub struct Walk {
     pub numbers: usize,
     pub text: usize,
@@ -19,7 +19,7 @@ pub struct Walk {
 }
 
 // A number that was taken; 0 where it was missing.
-#[derive(Drop)]
+#[derive(Clone, Copy)]
 pub struct Taken {
     pub value: u16,
     pub next: Walk,
@@ -41,8 +41,8 @@ pub fn lacking(from: Walk) -> Walk
 
 // The next number.
 pub fn number(numbers: &[u16], from: Walk) -> Taken
-    ensures value_value { result.value ≡ (slices.number_at numbers.now (cursor_of from)).value }
-    ensures next_value { result.next ≡ moved (slices.number_at numbers.now (cursor_of from)).after from }
+    ensures value { result.value ≡ (slices.number_at numbers.now (cursor_of from)).value }
+    ensures next { result.next ≡ moved (slices.number_at numbers.now (cursor_of from)).after from }
 {
     if from.missing {
         return Taken {

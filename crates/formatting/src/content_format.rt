@@ -45,7 +45,7 @@ fn align_line(
     alignment: u8,
     spare: usize,
 ) -> usize
-    requires spare_value { spare ≡ v.width - text_width (text.now ++ marks.now) }
+    requires spare { spare ≡ v.width - text_width (text.now ++ marks.now) }
     requires marks_in_bounds { at + length (area_in v alignment (text.now ++ marks.now)) ≤ length page.old }
     ensures value { result ≡ at + length (area_in v alignment (text.now ++ marks.now)) }
     ensures page_after { page.new ≡ put_at page.old at (area_in v alignment (text.now ++ marks.now)) }
@@ -70,7 +70,7 @@ pub fn marks_shown(cut: bool, count: usize, width: usize) -> usize
 }
 
 // Where a cell's line ends as it is shown, and its columns.
-#[derive(Drop)]
+#[derive(Clone, Copy)]
 pub struct Shown {
     pub end: usize,
     pub columns: usize,
@@ -154,7 +154,7 @@ pub fn advance(sheet: &[u8], width: usize, t: Pending) -> Pending
 }
 
 // Where a column's area ends, and the cell's next line.
-#[derive(Drop)]
+#[derive(Clone, Copy)]
 pub struct Drawn {
     pub at: usize,
     pub pending: Pending,
@@ -174,7 +174,7 @@ fn draw_column(
 ) -> Drawn
     requires ready { Ready sheet.now v t × IndicatorIs indicator }
     requires last_in_bounds { at + (length (byte_if joins junction) + length (column_piece sheet.now v t (take indicator.count indicator.characters) last)) ≤ length page.old }
-    ensures at_value { (result.at ≡ at + (length (byte_if joins junction) + length (column_piece sheet.now v t (take indicator.count indicator.characters) last)))
+    ensures place { (result.at ≡ at + (length (byte_if joins junction) + length (column_piece sheet.now v t (take indicator.count indicator.characters) last)))
         × After sheet.now v.width t result.pending }
     ensures page_after { page.new ≡ put_at page.old at
         (byte_if joins junction ++ column_piece sheet.now v t (take indicator.count indicator.characters) last) }
@@ -191,7 +191,7 @@ fn draw_column(
 }
 
 // The characters of a text line, and which of them are drawn.
-#[derive(Drop)]
+#[derive(Clone, Copy)]
 pub struct TextStyle {
     pub left: u8,
     pub junction: u8,
@@ -202,7 +202,7 @@ pub struct TextStyle {
 }
 
 // What was written, and whether a cell has a line after it.
-#[derive(Drop)]
+#[derive(Clone, Copy)]
 pub struct Lined {
     pub written: usize,
     pub more: bool,
@@ -223,7 +223,7 @@ fn write_line(
     requires ready_all { ReadyAll sheet.now (view_of columns.now count) (pendings_of plain state.old) × IndicatorIs indicator }
     requires last_in_bounds { length (line_bytes sheet.now (view_of columns.now count) (take indicator.count indicator.characters) style (pendings_of plain state.old) last)
         ≤ length page.old }
-    ensures written_value { result.written ≡ length (line_bytes sheet.now (view_of columns.now count) (take indicator.count indicator.characters) style
+    ensures written { result.written ≡ length (line_bytes sheet.now (view_of columns.now count) (take indicator.count indicator.characters) style
         (pendings_of plain state.old) last) }
     ensures after_all { AfterAll sheet.now (view_of columns.now count) (pendings_of plain state.old) (pendings_of plain state.new)
         × (result.more ≡ any_found (pendings_of plain state.new) count) }
@@ -288,7 +288,7 @@ pub fn is_last(limit: usize, line: usize) -> bool
 }
 
 // A row's limit, and whether the row has the line that is asked for.
-#[derive(Drop)]
+#[derive(Clone, Copy)]
 pub struct Entered {
     pub limit: usize,
     pub more: bool,
@@ -317,7 +317,7 @@ pub fn enter_row(
 }
 
 // Lines that were written, their bytes, and whether they were all that were asked for.
-#[derive(Drop)]
+#[derive(Clone, Copy)]
 pub struct Part {
     pub lines: usize,
     pub bytes: usize,

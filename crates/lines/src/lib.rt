@@ -13,7 +13,7 @@ use parts::{cursor, lengths, part, sizes};
 use rules::MOST_COLUMNS;
 
 // A page's lines and bytes.
-#[derive(Drop)]
+#[derive(Clone, Copy)]
 pub struct Totals {
     pub lines: usize,
     pub bytes: usize,
@@ -39,7 +39,7 @@ pub fn count(sheet: &[u8], columns: &[[usize; 6]; MOST_COLUMNS], p: Page) -> Tot
 }
 
 // A line's cursor, and how many lines stand before it.
-#[derive(Drop)]
+#[derive(Clone, Copy)]
 pub struct Sought {
     pub cursor: Cursor,
     pub passed: usize,
@@ -68,7 +68,7 @@ pub fn seek(sheet: &[u8], columns: &[[usize; 6]; MOST_COLUMNS], p: Page, k: usiz
 }
 
 // Line k looked for, to be written into some room: number 0, the bytes that it needs and its cursor; or 21 and the line count; or 20 and the bytes needed.
-#[derive(Drop)]
+#[derive(Clone, Copy)]
 pub struct Found {
     pub number: u64,
     pub place: usize,
@@ -131,7 +131,7 @@ pub fn longest_line(sheet: &[u8], columns: &[[usize; 6]; MOST_COLUMNS], p: Page)
 }
 
 // What was written, and the cursor after it.
-#[derive(Drop)]
+#[derive(Clone, Copy)]
 pub struct Written {
     pub lines: usize,
     pub bytes: usize,

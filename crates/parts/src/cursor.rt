@@ -10,7 +10,7 @@ use table::records::Rows;
 use table::walk;
 
 // The part that comes next.
-#[derive(Drop)]
+#[derive(Clone, Copy)]
 pub enum Stage {
     Top,
     Header,
@@ -20,7 +20,7 @@ pub enum Stage {
 }
 
 // The part that comes next, the rows still to come, and the next line's number in the part.
-#[derive(Drop)]
+#[derive(Clone, Copy)]
 pub struct Cursor {
     pub stage: Stage,
     pub here: Rows,

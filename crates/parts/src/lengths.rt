@@ -10,7 +10,7 @@ use row::packed;
 use rules::MOST_COLUMNS;
 
 // How long lines are, without their 0A: text lines in columns and rules, and borders.
-#[derive(Drop)]
+#[derive(Clone, Copy)]
 pub struct Lengths {
     pub line: usize,
     pub border: usize,

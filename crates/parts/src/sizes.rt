@@ -30,7 +30,7 @@ fn band_bytes(
 ) -> usize
     requires opened { Opened sheet.now columns.now p × (RowsAt sheet.now here
         × SizedBand sheet.now (view_of columns.now p.count) style (rows_in sheet.now here) p.plain size) }
-    requires n_value { n ≡ length (band_lines sheet.now (view_of columns.now p.count) style (rows_in sheet.now here)) }
+    requires counted { n ≡ length (band_lines sheet.now (view_of columns.now p.count) style (rows_in sheet.now here)) }
     ensures { result ≡ length (closed (band_lines sheet.now (view_of columns.now p.count) style (rows_in sheet.now here))) }
 {
     if p.plain {
@@ -58,7 +58,7 @@ pub fn bytes(
     n: usize,
 ) -> usize
     requires opened { Opened sheet.now columns.now p × (RowsAt sheet.now c.here × LengthsAre sheet.now l) }
-    requires n_value { n ≡ length (part_lines sheet.now p c) }
+    requires counted { n ≡ length (part_lines sheet.now p c) }
     ensures { result ≡ length (closed (part_lines sheet.now p c)) }
 {
     let stage = c.stage;

@@ -14,7 +14,7 @@ const BLANK: u8 = 7;
 const LAST: usize = 18446744073709551615;
 
 // The page, line k, or lines from line k on.
-#[derive(Drop)]
+#[derive(Clone, Copy)]
 enum Call {
     Page,
     Line(usize),
@@ -22,7 +22,7 @@ enum Call {
 }
 
 // Lines tried, and answers that differ.
-#[derive(Drop)]
+#[derive(Clone, Copy)]
 pub struct Lines {
     pub count: usize,
     pub differences: u64,

@@ -7,21 +7,21 @@ ghost use Rattle.reader.specs.Read.{ReadIs, line_after};
 use rules::Printed;
 
 // Whoever prints a page line by line KeepsValue one of these between two lines.
-#[derive(Drop)]
+#[derive(Clone, Copy)]
 pub struct PageReader<'a> {
     pub sheet: &'a [u8],
     pub line: usize,
 }
 
 // What `next` gives: the reader moved on, and the answer.
-#[derive(Drop)]
+#[derive(Clone, Copy)]
 pub struct ReadLine<'a> {
     pub reader: PageReader<'a>,
     pub answer: Printed,
 }
 
 // The same without the sheet: the number of the line to come, and the answer.
-#[derive(Drop)]
+#[derive(Clone, Copy)]
 pub struct LineRead {
     pub line: usize,
     pub answer: Printed,

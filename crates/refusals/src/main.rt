@@ -8,7 +8,7 @@ use libc::{STDIN_FILENO, STDOUT_FILENO};
 use rules::Checked;
 
 // A count in a line, and where the line goes on.
-#[derive(Drop)]
+#[derive(Clone, Copy)]
 struct Repeat {
     count: usize,
     next: usize,

@@ -10,7 +10,7 @@ use stored::answers::{differs, sum};
 use stored::{Accepted, answers};
 
 // What was replayed, and how many answers differ.
-#[derive(Drop)]
+#[derive(Clone, Copy)]
 struct Tally {
     sheets: u64,
     lines: u64,
@@ -18,7 +18,7 @@ struct Tally {
 }
 
 // A record's lines and differences, and where the next record begins.
-#[derive(Drop)]
+#[derive(Clone, Copy)]
 struct Replayed {
     lines: u64,
     differences: u64,

@@ -20,7 +20,7 @@ use table::records::{Cells, Lines};
 use table::walk;
 
 // A visible column as it is drawn: its number in the sheet, its content width and paddings, and what a cell takes that chooses nothing.
-#[derive(Drop)]
+#[derive(Clone, Copy)]
 pub struct VisibleColumn {
     pub number: usize,
     pub width: usize,
@@ -31,7 +31,7 @@ pub struct VisibleColumn {
 }
 
 // A cell's pending line: the one that is drawn next, and where the line after it is looked for.
-#[derive(Drop)]
+#[derive(Clone, Copy)]
 pub struct Pending {
     pub line: Next,
     pub delimiter: u8,

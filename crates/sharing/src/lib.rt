@@ -10,7 +10,7 @@ use constraint::{Layout, State};
 use style::column::ContentWidth;
 
 // Columns that share a width: the state, and how many have their part.
-#[derive(Drop)]
+#[derive(Clone, Copy)]
 pub struct Sharing {
     pub state: State,
     pub given: u16,

@@ -57,8 +57,8 @@ fn column(sheet: &[u8], from: Step) -> Step
 
 // The columns, with their count: rows are held to it.
 pub fn columns(sheet: &[u8], from: Step) -> Field
-    ensures next_value { result.next ≡ after (counted 0 most_columns format.column) sheet.now from }
-    ensures value_value { result.value ≡ byte_of sheet.now from }
+    ensures next { result.next ≡ after (counted 0 most_columns format.column) sheet.now from }
+    ensures value { result.value ≡ byte_of sheet.now from }
 {
     let count = field::byte_between(sheet, from, 0, MOST_CELLS, 5);
     let n = count.value;

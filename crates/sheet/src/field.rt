@@ -8,7 +8,7 @@ ghost use Rattle.sheet.specs.Steps.{byte_between};
 use rules::{MOST_CELLS, Step};
 
 // A field of one byte. It has its value even where it is turned down: a loop that goes by it only hands the refusal on.
-#[derive(Drop)]
+#[derive(Clone, Copy)]
 pub struct Field {
     pub value: u8,
     pub next: Step,
@@ -16,8 +16,8 @@ pub struct Field {
 
 // A byte from low to high: 1 where the sheet has ended, else `number` where the byte is beyond them.
 pub fn byte_between(sheet: &[u8], from: Step, low: u8, high: u8, number: u64) -> Field
-    ensures next_value { result.next ≡ read_from (byte_between low high number) sheet.now from }
-    ensures value_value { result.value ≡ byte_of sheet.now from }
+    ensures next { result.next ≡ read_from (byte_between low high number) sheet.now from }
+    ensures value { result.value ≡ byte_of sheet.now from }
 {
     let Step::At(at) = from else {
         return Field {
@@ -161,8 +161,8 @@ pub fn zero_word(sheet: &[u8], from: Step) -> Step
 
 // A cell count: beyond the limit it is 5, and 7 only where the limit is kept and the columns are fewer.
 pub fn cell_count(sheet: &[u8], from: Step, columns: u8) -> Field
-    ensures next_value { result.next ≡ after (cell_count columns) sheet.now from }
-    ensures value_value { result.value ≡ byte_of sheet.now from }
+    ensures next { result.next ≡ after (cell_count columns) sheet.now from }
+    ensures value { result.value ≡ byte_of sheet.now from }
 {
     let count = byte_between(sheet, from, 0, MOST_CELLS, 5);
     let value = count.value;

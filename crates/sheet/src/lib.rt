@@ -117,7 +117,7 @@ fn at_first(sheet: &[u8], step: Step) -> bool
 }
 
 // Number and place of the first refusal from the input, both 0 where the sheet is accepted. `plain`: the reading without pairs stood.
-#[derive(Drop)]
+#[derive(Clone, Copy)]
 pub struct Examined {
     pub number: u64,
     pub place: u64,

@@ -23,14 +23,14 @@ const TARGETS: usize = 11;
 const COLUMN: usize = 11;
 
 // A text: its length, and its number among the texts of that length.
-#[derive(Drop)]
+#[derive(Clone, Copy)]
 pub struct Text {
     pub length: usize,
     pub number: usize,
 }
 
 // An arrangement and a target, and which of the rows of texts.
-#[derive(Drop)]
+#[derive(Clone, Copy)]
 pub struct Place {
     pub arrangement: usize,
     pub target: usize,
@@ -38,7 +38,7 @@ pub struct Place {
 }
 
 // All that a sheet of the family chooses. With one column the second text is empty, and isn't written.
-#[derive(Drop)]
+#[derive(Clone, Copy)]
 pub struct Choice {
     pub columns: usize,
     pub arrangement: usize,
@@ -84,7 +84,7 @@ fn text_at(k: usize) -> Text
 
 // Table m of those with so many columns, of which there are so many rows of texts.
 fn place_in(columns: usize, rows: usize, m: usize) -> Place
-    requires rows_value { rows ≡ length (choices texts columns) }
+    requires rows_counted { rows ≡ length (choices texts columns) }
     requires rows_nonzero { (0 < rows) × (rows ≤ 961) }
     requires m_bound { m < 3 * (11 * rows) }
     ensures { IsPlace columns m result }

@@ -7,7 +7,7 @@ ghost use Rattle.std.specs.Prelude.{◌≤◌, ◌<◌, length};
 ghost use Rattle.rules.specs.Sheet.{most_columns};
 
 // What a record holds beyond number and place: where its widths and its page stand, and its counts.
-#[derive(Drop)]
+#[derive(Clone, Copy)]
 pub struct Accepted {
     pub columns: usize,
     pub widths: usize,

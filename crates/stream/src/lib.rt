@@ -12,7 +12,7 @@ use libc::{EAGAIN, EINTR, STDERR_FILENO, STDIN_FILENO, STDOUT_FILENO};
 const TURNS: u64 = 1000000;
 
 // How far reading or writing has come: the bytes that were moved, whether there is another turn, whether all went well.
-#[derive(Drop)]
+#[derive(Clone, Copy)]
 pub struct Progress {
     pub done: usize,
     pub more: bool,

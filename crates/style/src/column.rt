@@ -6,11 +6,11 @@ ghost use Rattle.style.specs.Column.{content};
 use rules::Column;
 
 // Leaves padding out.
-#[derive(Drop)]
+#[derive(Clone, Copy)]
 pub struct ContentWidth(pub u16);
 
 // Counts padding.
-#[derive(Drop)]
+#[derive(Clone, Copy)]
 pub struct ConstraintWidth(pub u16);
 
 pub fn padding_width(c: Column) -> u16

@@ -5,7 +5,7 @@ ghost use Rattle.rules.specs.Style.{is_set, any_left, any_right, any_junction, i
 ghost use Rattle.style.specs.Bytes.{bytes_of, line_bytes};
 
 // A border or a rule.
-#[derive(Drop)]
+#[derive(Clone, Copy)]
 pub struct LineStyle {
     pub left: u8,
     pub fill: u8,
@@ -14,7 +14,7 @@ pub struct LineStyle {
 }
 
 // A line that holds text.
-#[derive(Drop)]
+#[derive(Clone, Copy)]
 pub struct ContentLineStyle {
     pub left: u8,
     pub junction: u8,
@@ -22,7 +22,7 @@ pub struct ContentLineStyle {
 }
 
 // The fields stand in the order of the sheet's 22 characters.
-#[derive(Drop)]
+#[derive(Clone, Copy)]
 pub struct TableStyle {
     pub top_border: LineStyle,
     pub header_lines: ContentLineStyle,

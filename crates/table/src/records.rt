@@ -2,7 +2,7 @@
 use rules::{Column, MOST_COLUMNS};
 
 // Codes as the sheet has them: a target or a delimiter of 0 is none.
-#[derive(Drop)]
+#[derive(Clone, Copy)]
 pub struct Settings {
     pub arrangement: u8,
     pub target: u16,
@@ -10,49 +10,49 @@ pub struct Settings {
 }
 
 // The first `count` characters are the indicator.
-#[derive(Drop)]
+#[derive(Clone, Copy)]
 pub struct Indicator {
     pub count: usize,
     pub characters: [u8; 8],
 }
 
 // The first `count` columns are the sheet's.
-#[derive(Drop)]
+#[derive(Clone, Copy)]
 pub struct Columns {
     pub count: usize,
     pub each: [Column; MOST_COLUMNS],
 }
 
 // Rows still to come: `left` of them, the first at `at` in the sheet.
-#[derive(Drop)]
+#[derive(Clone, Copy)]
 pub struct Rows {
     pub at: usize,
     pub left: usize,
 }
 
 // Cells of a row still to come.
-#[derive(Drop)]
+#[derive(Clone, Copy)]
 pub struct Cells {
     pub at: usize,
     pub left: usize,
 }
 
 // Lines of a cell still to come.
-#[derive(Drop)]
+#[derive(Clone, Copy)]
 pub struct Lines {
     pub at: usize,
     pub left: usize,
 }
 
 // A row: its height limit, 0 for none, and its cells.
-#[derive(Drop)]
+#[derive(Clone, Copy)]
 pub struct Row {
     pub limit: usize,
     pub cells: Cells,
 }
 
 // A cell: its delimiter and alignment, 0 for none, and its lines.
-#[derive(Drop)]
+#[derive(Clone, Copy)]
 pub struct Cell {
     pub delimiter: u8,
     pub alignment: u8,

@@ -10,7 +10,7 @@ use rules::MOST_COLUMNS;
 
 // What is left behind a line: the lines of its cell, the cells of its row, the rows of its section, and the section of rows behind the header.
 // `begun` counts the row's cells up to the line's own, so that the next one is in column `begun`.
-#[derive(Drop)]
+#[derive(Clone, Copy)]
 pub struct Left {
     pub sections: usize,
     pub rows: usize,
@@ -20,7 +20,7 @@ pub struct Left {
 }
 
 // Where a step stands in the rest of the sheet, and what is left there.
-#[derive(Drop)]
+#[derive(Clone, Copy)]
 pub struct Stand {
     pub at: usize,
     pub left: Left,
@@ -28,7 +28,7 @@ pub struct Stand {
 
 // A line that was taken: in the rest of the sheet that the step was given, its length byte is at `at` and its text ends at `end`; `longest` is
 // the longest of its column's lines up to it.
-#[derive(Drop)]
+#[derive(Clone, Copy)]
 pub struct Taken {
     pub at: usize,
     pub end: usize,
@@ -38,14 +38,14 @@ pub struct Taken {
 }
 
 // What a head leads to, where one comes next.
-#[derive(Drop)]
+#[derive(Clone, Copy)]
 pub enum Head {
     To(Stand),
     Nothing,
 }
 
 // What a step did: it took a line, or there was none.
-#[derive(Drop)]
+#[derive(Clone, Copy)]
 pub enum Stepped {
     Line(Taken),
     End,

@@ -7,7 +7,7 @@ ghost use Rattle.rules.specs.Text.{text_width};
 ghost use Rattle.text_width.specs.Measure.{IsPlain, Reached};
 
 // Where some columns of a text end, and how many of them it lacks.
-#[derive(Drop)]
+#[derive(Clone, Copy)]
 pub struct Place {
     pub at: usize,
     pub left: usize,

@@ -146,7 +146,7 @@ fn widened_columns(t: Layout, a: Course) -> [bool; MOST_COLUMNS]
 }
 
 // The report on an accepted sheet's widths; the widths and the target are what its lines are measured by.
-#[derive(Drop)]
+#[derive(Clone, Copy)]
 pub struct Report {
     pub widths: Widths,
     pub target: u16,

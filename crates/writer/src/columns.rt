@@ -60,7 +60,7 @@ fn column(numbers: &[u16], sheet: &mut [u8], from: Walk) -> Walk
 pub fn columns(numbers: &[u16], sheet: &mut [u8], from: Walk) -> Field
     ensures sheet_after { state result.walk sheet.new
         ≡ walked (description.counted 0 most_columns format.column) numbers.now [] (state from sheet.old) }
-    ensures value_value { result.value ≡ (slices.number_at numbers.now (cursor_of from)).value }
+    ensures value { result.value ≡ (slices.number_at numbers.now (cursor_of from)).value }
 {
     let count = field::byte_between(numbers, sheet, from, 0, field::MOST, 5);
     let n = count.value;

@@ -17,7 +17,7 @@ use editor::{field, text};
 use rules::Printed;
 
 // What is answered: number and place, both 0 where the sheet is to be written.
-#[derive(Drop)]
+#[derive(Clone, Copy)]
 pub struct Decided {
     pub number: u64,
     pub place: usize,

@@ -1,0 +1,15 @@
+-- `sheet::style` meets its contract. The loop: what is left to read from here comes to what there was to read. Assumes nothing.
+use Prim.Native.Nat.{◌-◌}
+use mathlib.Core.Path.{◌∙◌}
+use borrow.Author.Rules.{rules}
+use Rattle.rules.specs.Description.{optional}
+use Rattle.rules.specs.Steps.{after, times}
+use Rattle.sheet.proofs.Loops.{Items, items_begin, items-again, items_done}
+use Rattle.sheet.proofs.Sections.{style_whole}
+use Rattle.sheet.proofs.style.Given as goal
+
+abbrev pub invariant-loop-i : goal.invariant-loop-i
+invariant-loop-i l = Items (after optional l.sheet) l.n l.i l.step (times l.n (after optional l.sheet) l.initial.step)
+
+abbrev pub decreases-loop-i : goal.decreases-loop-i
+decreases-loop-i l = l.n - l.i
