@@ -17,7 +17,7 @@ use Rattle.table.specs.Held.{IsAccepted, table_of}
 use Rattle.table.specs.Step.{lines_at, cells_at, rows_at, section_stop, in_sections, in_rows, in_cells, ahead, ahead_end}
 use Rattle.table.specs.Pass.{start}
 use Rattle.table.specs.declared.step.Left.{Left}
-use Rattle.table.proofs.Held.{held, table_here}
+use Rattle.table.proofs.Held.{held, table_here_lem}
 
 -- ---- the bytes from a on
 
@@ -190,11 +190,11 @@ all_read s h =
     texts : map (map (map (text_at s))) (rows_at s (header_place s) ++ rows_at s (rows_place s)) ≡ map row_lines (all_rows (table_of s))
     texts =
         map-append (map (map (text_at s))) (rows_at s (header_place s)) (rows_at s (rows_place s))
-        ∙ (rw (rows_read s (header_place s), rows_read s (rows_place s), table_here s h, stands.header-here s, stands.rows-here s)
+        ∙ (rw (rows_read s (header_place s), rows_read s (rows_place s), table_here_lem s h, stands.header-here s, stands.rows-here s)
         (sym (map-append row_lines (parts (byte_at s (header_place s)) (row_here s) (row_stop s) (header_place s + 1))
         (parts (byte_at s (rows_place s)) (row_here s) (row_stop s) (rows_place s + 1)))))
 
 pub all_inside : (s : List ℕ) → IsAccepted s → ahead_end s (start s).at (start s).left ≡ length s
 all_inside s h =
     let r = held s h in
-    all_end s ∙ (sym (stands.rows_end s) ∙ stands.end-place s (table_of s) r.end r.reads)
+    all_end s ∙ (sym (stands.rows_end_lem s) ∙ stands.end-place s (table_of s) r.end r.reads)

@@ -16,7 +16,7 @@ use Rattle.table.specs.declared.records.Cells.{Cells}
 use Rattle.table.specs.declared.records.Lines.{Lines}
 use Rattle.table.specs.declared.records.Row.{Row}
 use Rattle.table.specs.declared.records.Cell.{Cell}
-use Rattle.table.proofs.Held.{held, table_here, room}
+use Rattle.table.proofs.Held.{held, table_here_lem, room}
 
 -- with i of n parts passed and standing at p, the last of them ends at w
 pub record Passing (stop : ℕ → ℕ) (n i p w : ℕ) : Type 0 where
@@ -172,14 +172,14 @@ lines_inside s c x some h is = rw is.ends (cell_whole s c some h)
 pub header_is : (s : List ℕ) (p n : ℕ) → IsAccepted s → p ≡ header_place s → n ≡ byte_at s p
     → (rows_in s (record { at = p + 1; left = n }) ≡ (table_of s).header) × (rows_end s (record { at = p + 1; left = n }) ≡ rows_place s)
 unfolding rows_in rows_end
-header_is s p n h e i = (rw (table_here s h, i, e) (sym (stands.header-here s)), rw (i, e) (sym (stands.rows_begin s)))
+header_is s p n h e i = (rw (table_here_lem s h, i, e) (sym (stands.header-here s)), rw (i, e) (sym (stands.rows_begin s)))
 
 pub rows_are : (s : List ℕ) (p n : ℕ) → IsAccepted s → p ≡ rows_place s → n ≡ byte_at s p
     → (rows_in s (record { at = p + 1; left = n }) ≡ (table_of s).rows) × (rows_end s (record { at = p + 1; left = n }) ≡ length s)
 unfolding rows_in rows_end
 rows_are s p n h e i =
     let r = held s h in
-    (rw (table_here s h, i, e) (sym (stands.rows-here s)), rw (i, e) (sym (stands.rows_end_lem s) ∙ stands.end-place s (table_of s) r.end r.reads))
+    (rw (table_here_lem s h, i, e) (sym (stands.rows-here s)), rw (i, e) (sym (stands.rows_end_lem s) ∙ stands.end-place s (table_of s) r.end r.reads))
 
 pub cells-none : (s : List ℕ) (c : Cells) → c.left ≤ 0 → cells_end s c ≡ c.at
 unfolding cells_end past

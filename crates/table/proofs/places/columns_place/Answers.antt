@@ -1,0 +1,11 @@
+-- `table::places::columns_place` meets its contract. Assumes nothing.
+use native.Mathlib.Omega.{arith}
+use borrow.Author.Rules.{rules}
+use Rattle.table.proofs.Held.{room}
+use Rattle.table.proofs.places.columns_place.Goals as goal
+
+pub overflow_add-result : goal.overflow_add-result
+overflow_add-result c = let r = room _ c.requires in omega (arith, c.style_place.ensures)
+
+pub returns : goal.returns
+returns c = let r = room _ c.requires in omega (arith, c.style_place.ensures)

@@ -1,0 +1,36 @@
+-- `table::walk::cell_end` meets its contract. The loop: the lines that are left end where the cell does. Assumes nothing.
+use Rattle.table.proofs.Walks.{Passing, cell_begin, passing-again, passing_done, passing_inside}
+use Rattle.laws.proofs.Stands.{cell-onward, lines-onward}
+use Rattle.rules.specs.Places.{line_stop, cell_stop}
+use lib.ListN.{length}
+use Prim.Native.Nat.{◌-◌, ◌≤◌}
+use borrow.Author.Rules.{rules}
+use native.Mathlib.Omega.{arith}
+use Rattle.table.proofs.walk.cell_end.Goals as goal
+
+pub overflow_add-at : goal.overflow_add-at
+overflow_add-at c = let h = cell-onward c.args.sheet.now c.args.at in omega arith
+
+pub bounds-sheet-at : goal.bounds-sheet-at
+bounds-sheet-at c = let h = cell-onward c.args.sheet.now c.args.at in omega arith
+
+pub overflow_add-p : goal.overflow_add-p
+overflow_add-p c = let h = cell-onward c.args.sheet.now c.args.at in omega arith
+
+pub loop-i-init : goal.loop-i-init
+loop-i-init c = (cell_begin _ _ _ c.size-n.ensures.0, c.requires)
+
+pub line_end-p-requires : goal.line_end-p-requires
+line_end-p-requires c =
+    let h = passing_inside _ _ _ _ _ (lines-onward _) c.loop-i-test.true c.loop-i.invariant.0 in
+    omega (arith, c.loop-i.invariant.1)
+
+pub loop-i-preserved : goal.loop-i-preserved
+loop-i-preserved c =
+    (
+      passing-again _ _ _ _ _ _ c.loop-i-test.true c.loop-i.invariant.0 c.line_end-p.ensures,
+      c.loop-i.invariant.1,
+    )
+
+pub returns : goal.returns
+returns c = passing_done _ _ _ _ _ c.loop-i-test.false c.loop-i.invariant.0

@@ -1,0 +1,36 @@
+-- `table::walk::row_end` meets its contract. The loop: the cells that are left end where the row does. Assumes nothing.
+use Rattle.table.proofs.Walks.{Passing, row_begin, passing-again, passing_done, passing_inside}
+use Rattle.laws.proofs.Stands.{row-onward, cells-onward}
+use Rattle.rules.specs.Places.{cell_stop, row_stop}
+use lib.ListN.{length}
+use Prim.Native.Nat.{◌-◌, ◌≤◌}
+use borrow.Author.Rules.{rules}
+use native.Mathlib.Omega.{arith}
+use Rattle.table.proofs.walk.row_end.Goals as goal
+
+pub overflow_add-at : goal.overflow_add-at
+overflow_add-at c = let h = row-onward c.args.sheet.now c.args.at in omega arith
+
+pub bounds-sheet-at : goal.bounds-sheet-at
+bounds-sheet-at c = let h = row-onward c.args.sheet.now c.args.at in omega arith
+
+pub overflow_add-p : goal.overflow_add-p
+overflow_add-p c = let h = row-onward c.args.sheet.now c.args.at in omega arith
+
+pub loop-i-init : goal.loop-i-init
+loop-i-init c = (row_begin _ _ _ c.size-n.ensures.0, c.requires)
+
+pub cell_end-p-requires : goal.cell_end-p-requires
+cell_end-p-requires c =
+    let h = passing_inside _ _ _ _ _ (cells-onward _) c.loop-i-test.true c.loop-i.invariant.0 in
+    omega (arith, c.loop-i.invariant.1)
+
+pub loop-i-preserved : goal.loop-i-preserved
+loop-i-preserved c =
+    (
+      passing-again _ _ _ _ _ _ c.loop-i-test.true c.loop-i.invariant.0 c.cell_end-p.ensures,
+      c.loop-i.invariant.1,
+    )
+
+pub returns : goal.returns
+returns c = passing_done _ _ _ _ _ c.loop-i-test.false c.loop-i.invariant.0

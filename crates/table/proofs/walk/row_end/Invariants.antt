@@ -1,0 +1,15 @@
+-- `table::walk::row_end` meets its contract. The loop: the cells that are left end where the row does. Assumes nothing.
+use Rattle.table.proofs.Walks.{Passing, row_begin, passing-again, passing_done, passing_inside}
+use Rattle.laws.proofs.Stands.{row-onward, cells-onward}
+use Rattle.rules.specs.Places.{cell_stop, row_stop}
+use lib.ListN.{length}
+use Prim.Native.Nat.{◌-◌, ◌≤◌}
+use borrow.Author.Rules.{rules}
+use native.Mathlib.Omega.{arith}
+use Rattle.table.proofs.walk.row_end.Given as goal
+
+abbrev pub invariant-loop-i : goal.invariant-loop-i
+invariant-loop-i l = Passing (cell_stop l.sheet) l.n l.i l.p (row_stop l.sheet l.at) × (row_stop l.sheet l.at ≤ length l.sheet)
+
+abbrev pub decreases-loop-i : goal.decreases-loop-i
+decreases-loop-i l = l.n - l.i

@@ -1,0 +1,34 @@
+-- `table::walk::rows` meets its contract. The loop: what is left of the header ends where the rows' count stands. Assumes nothing.
+use Rattle.table.proofs.Walks.{rows_are, rows_none, rows-room}
+use Rattle.table.proofs.Walks.{rows_are, rows_none}
+use Rattle.table.proofs.Held.{room}
+use Rattle.table.specs.Walk.{rows_end}
+use Rattle.table.specs.Held.{IsAccepted}
+use Rattle.rules.specs.Places.{rows_place}
+use mathlib.Core.Path.{◌≡◌, sym, ◌∙◌}
+use borrow.Author.Rules.{rules}
+use native.Mathlib.Omega.{arith}
+use Rattle.table.proofs.walk.rows.Goals as goal
+
+pub loop-c-init : goal.loop-c-init
+loop-c-init c = c.requires
+
+pub next_row-c-requires : goal.next_row-c-requires
+next_row-c-requires c = (c.loop-c-test.true, let r = room _ c.loop-c.invariant.0 in omega (arith, c.loop-c.invariant.1))
+
+pub loop-c-smaller : goal.loop-c-smaller
+loop-c-smaller c = omega (arith, c.next_row-c.ensures.left)
+
+pub loop-c-preserved : goal.loop-c-preserved
+loop-c-preserved c = (c.loop-c.invariant.0, c.next_row-c.ensures.ends ∙ c.loop-c.invariant.1)
+
+pub bounds-sheet-place : goal.bounds-sheet-place
+bounds-sheet-place c = let h = rows-room c.args.sheet.now c.loop-c.c c.loop-c.invariant.0 c.loop-c.invariant.1 c.loop-c-test.false in omega arith
+
+pub overflow_add-result : goal.overflow_add-result
+overflow_add-result c =
+    let h = rows-room c.args.sheet.now c.loop-c.c c.loop-c.invariant.0 c.loop-c.invariant.1 c.loop-c-test.false in
+    omega arith
+
+pub returns : goal.returns
+returns c = rows_are _ _ _ c.loop-c.invariant.0 (sym (rows_none _ _ c.loop-c-test.false) ∙ c.loop-c.invariant.1) c.size-left.ensures.0

@@ -1,0 +1,12 @@
+-- `table::walk::skip_cells` meets its contract. Assumes nothing.
+use borrow.Author.Rules.{rules}
+use Prim.Native.Nat.{◌-◌}
+use native.Mathlib.Omega.{arith}
+use Rattle.table.proofs.Walks.{Skipping, skip_begins, skip-again, skip_short, skip_done}
+use Rattle.table.proofs.walk.skip_cells.Given as goal
+
+abbrev pub invariant-loop-i : goal.invariant-loop-i
+invariant-loop-i l = Skipping l.sheet l.initial.c l.c l.n l.i
+
+abbrev pub decreases-loop-i : goal.decreases-loop-i
+decreases-loop-i l = l.n - l.i
