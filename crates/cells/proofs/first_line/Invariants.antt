@@ -1,0 +1,10 @@
+use borrow.Author.Rules.{rules}
+use native.Mathlib.Omega.{arith}
+use Rattle.cells.proofs.Laws.{first_known, head_in, Seeking, seeking_begins, seeking_found, seeking-on, seeking_done}
+use Rattle.cells.proofs.first_line.Given as goal
+
+abbrev pub invariant-loop-c : goal.invariant-loop-c
+invariant-loop-c l = Seeking l.sheet l.width l.delimiter l.plain l.initial.c l.c
+
+abbrev pub decreases-loop-c : goal.decreases-loop-c
+decreases-loop-c l = l.c.left

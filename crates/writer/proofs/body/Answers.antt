@@ -1,0 +1,7 @@
+-- `writer::body` meets its contract. Assumes nothing.
+use borrow.Author.Rules.{rules}
+use Rattle.writer.proofs.Walks.{body-walked}
+use Rattle.writer.proofs.body.Goals as goal
+
+pub returns : goal.returns
+returns c = body-walked _ _ _ _ _ _ _ c.columns-columns.ensures.sheet_after c.columns-columns.ensures.value c.rows-rows.ensures c.rows.ensures

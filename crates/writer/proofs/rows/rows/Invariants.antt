@@ -1,0 +1,15 @@
+-- `writer::rows::rows` meets its contract. The loop: what is left to walk from here comes to what there was to walk. Assumes nothing.
+use mathlib.Core.Path.{refl}
+use borrow.Author.Rules.{rules}
+use Rattle.rules.specs.Description.{counted}
+use Rattle.rules.specs.Format.{row}
+use Rattle.editor.specs.Walk.{state, again, walked}
+use Rattle.writer.proofs.Walks.{Left, left_begin, left-again, left_done, still_less, counted-walked, kept-length}
+use Rattle.writer.proofs.rows.rows.Given as goal
+
+abbrev pub invariant-loop-left : goal.invariant-loop-left
+invariant-loop-left l = Left (λ u. walked (row l.columns) l.numbers l.text u) l.left (state l.at l.sheet)
+    (again l.initial.left (λ u. walked (row l.columns) l.numbers l.text u) (state l.initial.at l.initial.sheet))
+
+abbrev pub decreases-loop-left : goal.decreases-loop-left
+decreases-loop-left l = l.left
