@@ -75,7 +75,7 @@ unfolding column_from
 no-column = refl
 
 pub column-at : (cols : List (List ℕ)) (n i : ℕ) → visible_at (view_of cols n) i ≡ column_from (get_or cols i [])
-column-at cols n i = ap (λ (d : VisibleColumn). get_or (map column_from cols) i d) no-column ∙ ListN.get_d_map column_from cols i []
+column-at cols n i = ap (λ (d : VisibleColumn). get_or (map column_from cols) i d) no-column ∙ ListN.get_or-map column_from cols i []
 
 module _ (plain : Bool) (st : List (List ℕ)) where
   pub pendings-length : length (pendings_of plain st) ≡ length st

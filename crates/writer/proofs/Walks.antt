@@ -55,10 +55,13 @@ takes_stays zero_word ns ts c m = number_stays ns c m
 takes_stays (text low high good) ns ts c m = text_stays ns ts c m
 takes_stays (cell_text low high) ns ts c m = text_stays ns ts c m
 takes_stays (listed count x) ns ts c m =
-    rw (takes_stays count ns ts c m) (several_stays (λ d. takes x ns ts d) c (takes_stays x ns ts c m) (takes count ns ts c).value)
+    let n = (takes count ns ts c).value in
+    ap (λ (d : Cursor). (several_taken n (λ e. takes x ns ts e) d).after) (takes_stays count ns ts c m)
+    ∙ several_stays (λ d. takes x ns ts d) c (takes_stays x ns ts c m) n
 takes_stays (give a) ns ts c m = refl
 takes_stays (next of x g) ns ts c m =
-    rw (takes_stays x ns ts c m) (takes_stays (g (takes x ns ts c).value) ns ts c m)
+    let v = (takes x ns ts c).value in
+    ap (λ (d : Cursor). (takes (g v) ns ts d).after) (takes_stays x ns ts c m) ∙ takes_stays (g v) ns ts c m
 
 field_stays : {A : Type 0} (x : Format A) (ns ts : List ℕ) (s : State) → s.walk.missing ≡ true → field_entered x ns ts s ≡ s
 unfolding field_entered

@@ -19,10 +19,10 @@ loop-left-preserved c =
     c.loop-left.invariant
     c.cell-at.ensures c.still-left-in-loop-left.ensures
 
-pub shape_of-sheet : goal.shape_of-sheet
-shape_of-sheet c = kept-length (listed (cell_count _) cell) _ _ _ _ _ _ (returns c)
-
 pub returns : goal.returns
 returns c =
     cells-walked _ _ _ _ _ _ _ c.cell_count-count.ensures.sheet_after c.cell_count-count.ensures.value
     (left_done cell _ _ _ _ _ _ _ _ c.loop-left-test.false c.loop-left.invariant refl c.still-left.ensures)
+
+pub shape_of-sheet : goal.shape_of-sheet
+shape_of-sheet c = kept-length (listed (cell_count _) cell) _ _ _ _ _ _ (returns c)

@@ -19,10 +19,10 @@ loop-left-preserved c =
     c.loop-left.invariant
     c.row-at.ensures c.still-left-in-loop-left.ensures
 
-pub shape_of-sheet : goal.shape_of-sheet
-shape_of-sheet c = kept-length (counted 0 _ (row _)) _ _ _ _ _ _ (returns c)
-
 pub returns : goal.returns
 returns c =
     counted-walked (row _) _ _ _ _ _ _ _ _ c.byte_between-count.ensures.sheet_after c.byte_between-count.ensures.value
     (left_done (row _) _ _ _ _ _ _ _ _ c.loop-left-test.false c.loop-left.invariant refl c.still-left.ensures)
+
+pub shape_of-sheet : goal.shape_of-sheet
+shape_of-sheet c = kept-length (counted 0 _ (row _)) _ _ _ _ _ _ (returns c)

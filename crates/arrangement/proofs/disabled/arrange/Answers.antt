@@ -1,0 +1,16 @@
+use borrow.Author.Rules.{rules}
+use Prim.Native.Nat.{◌-◌}
+use native.Mathlib.Omega.{arith}
+use Rattle.constraint.specs.Widths.{step}
+use Rattle.constraint.proofs.Laws.{Walk, walk_begin, walk-again, walk_done}
+use Rattle.arrangement.specs.Arrange.{untargeted}
+use Rattle.arrangement.proofs.disabled.arrange.Goals as goal
+
+pub loop-i-init : goal.loop-i-init
+loop-i-init c = search (rules, walk_begin)
+
+pub loop-i-preserved : goal.loop-i-preserved
+loop-i-preserved c = search (rules, walk-again)
+
+pub returns : goal.returns
+returns c = search (rules, walk_done)

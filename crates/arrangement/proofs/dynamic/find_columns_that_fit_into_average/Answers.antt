@@ -1,0 +1,18 @@
+use borrow.Author.Rules.{rules}
+use Prim.Native.Nat.{◌+◌}
+use native.Mathlib.Omega.{arith}
+use Rattle.arrangement.specs.Arrange.{fit_pass, repeated}
+use Rattle.arrangement.proofs.Rounds.{fit_grew, left, Going, weight, round_begin, round_done, round-again, round_less}
+use Rattle.arrangement.proofs.dynamic.find_columns_that_fit_into_average.Goals as goal
+
+pub loop-found_smaller-init : goal.loop-found_smaller-init
+loop-found_smaller-init c = round_begin _ _ (search rules)
+
+pub loop-found_smaller-smaller : goal.loop-found_smaller-smaller
+loop-found_smaller-smaller c = search (rules, round_less, fit_grew)
+
+pub loop-found_smaller-preserved : goal.loop-found_smaller-preserved
+loop-found_smaller-preserved c = search (rules, round-again, fit_grew)
+
+pub returns : goal.returns
+returns c = search (rules, round_done)

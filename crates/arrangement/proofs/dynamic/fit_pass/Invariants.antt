@@ -1,0 +1,15 @@
+use borrow.Author.Rules.{rules}
+use Prim.Native.Nat.{◌-◌}
+use native.Mathlib.Omega.{arith}
+use mathlib.Core.Path.{◌≡◌, refl, ap, ◌∙◌}
+use Rattle.constraint.specs.declared.State.{State}
+use Rattle.constraint.specs.Widths.{step, average}
+use Rattle.constraint.proofs.Laws.{Walk, walk_begin, walk-again, walk_done}
+use Rattle.arrangement.specs.Arrange.{fit_rule}
+use Rattle.arrangement.proofs.dynamic.fit_pass.Given as goal
+
+abbrev pub invariant-loop-i : goal.invariant-loop-i
+invariant-loop-i l = Walk (step fit_rule l.t) l.initial.r l.t.count l.n l.i l.r × (l.last ≡ l.r)
+
+abbrev pub decreases-loop-i : goal.decreases-loop-i
+decreases-loop-i l = l.n - l.i

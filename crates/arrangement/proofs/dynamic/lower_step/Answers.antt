@@ -1,0 +1,14 @@
+use native.Mathlib.Omega.{arith}
+use Rattle.constraint.proofs.Laws.{open_by, step-decided, step_open}
+use Rattle.arrangement.proofs.Ways.{lower_rule_lem}
+use borrow.Author.Rules.{rules}
+use Rattle.arrangement.proofs.dynamic.lower_step.Goals as goal
+
+pub returns-then-is_decided : goal.returns-then-is_decided
+returns-then-is_decided c = search (rules, step-decided)
+
+pub take-requires : goal.take-requires
+take-requires c = (omega arith, search (rules, open_by))
+
+pub returns : goal.returns
+returns c = search (rules, step_open, lower_rule_lem)

@@ -1,0 +1,17 @@
+use mathlib.Core.Path.{ap, ◌∙◌}
+use Prim.Native.Nat.{◌-◌}
+use native.Mathlib.Omega.{arith}
+use Rattle.constraint.specs.Widths.{in_order}
+use Rattle.constraint.proofs.Laws.{Walk, walk_begin, walk-again, walk_done}
+use Rattle.arrangement.specs.Arrange.{charged}
+use borrow.Author.Rules.{rules}
+use Rattle.arrangement.proofs.dynamic.remaining_width.Goals as goal
+
+pub loop-i-init : goal.loop-i-init
+loop-i-init c = search (rules, walk_begin)
+
+pub loop-i-preserved : goal.loop-i-preserved
+loop-i-preserved c = search (rules, walk-again)
+
+pub returns : goal.returns
+returns c = walk_done _ _ _ _ _ _ c.loop-i.invariant (omega arith) ∙ ap (in_order (charged c.args.t c.args.s) c.args.t.count) c.room-r.ensures

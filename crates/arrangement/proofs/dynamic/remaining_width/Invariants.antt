@@ -1,0 +1,14 @@
+use mathlib.Core.Path.{ap, ◌∙◌}
+use Prim.Native.Nat.{◌-◌}
+use native.Mathlib.Omega.{arith}
+use Rattle.constraint.specs.Widths.{in_order}
+use Rattle.constraint.proofs.Laws.{Walk, walk_begin, walk-again, walk_done}
+use Rattle.arrangement.specs.Arrange.{charged}
+use borrow.Author.Rules.{rules}
+use Rattle.arrangement.proofs.dynamic.remaining_width.Given as goal
+
+abbrev pub invariant-loop-i : goal.invariant-loop-i
+invariant-loop-i l = Walk (charged l.t l.s) l.initial.r l.t.count l.n l.i l.r
+
+abbrev pub decreases-loop-i : goal.decreases-loop-i
+decreases-loop-i l = l.n - l.i

@@ -1,0 +1,6 @@
+use borrow.Author.Rules.{rules}
+use Rattle.row.proofs.Lent.{pending_repacked}
+use Rattle.row.proofs.packed.repack_pending.Goals as goal
+
+pub returns : goal.returns
+returns c = pending_repacked _ _ c.bit-f.result c.bit-f.ensures c.requires
