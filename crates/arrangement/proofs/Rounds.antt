@@ -23,7 +23,7 @@ unfolding in_order
 order_induct P f zero x h p = p
 order_induct P f (suc n) x h p = h n (in_order f n x) (omega arith) (order_induct P f n x (λ i y l q. h i y (omega arith) q) p)
 
--- what each column KeepsValue, a pass KeepsValue
+-- what each column keeps, a pass keeps
 pub order-keeps : {A : Type 0} (P : A → Type 0) (f : ℕ → A → A) (n : ℕ) (x : A) → ((i : ℕ) (y : A) → i < n → P y → P (f i y)) → P x → P (in_order f n x)
 order-keeps P f n x h p = order_induct (λ i y. P y) f n x h p
 

@@ -214,7 +214,7 @@ pub fn fix_column(s: State, i: usize, w: ContentWidth) -> State
     r
 }
 
-// An offer that KeepsValue the column open changes nothing.
+// An offer that keeps the column open changes nothing.
 pub fn take(s: State, i: usize, o: Offer) -> State
     requires { (i < most_columns) × (bit s.decided i ≡ 0) }
     ensures { result ≡ taking s i (offered o) }

@@ -51,7 +51,7 @@ use Rattle.display_info.specs.declared.LineStyles.{LineStyles}
 use Rattle.display_info.specs.Opened.{styles_of, RowsAt}
 use Rattle.display_info.specs.Opening.{shown_from, behind, showing}
 
--- the table of a sheet that passes KeepsValue every limit
+-- the table of a sheet that passes keeps every limit
 pub limits_of : (s : List ℕ) → IsAccepted s → TableLimits (table_of s)
 unfolding table_of
 limits_of s h = let r = checked-reading s h in let e = r.reads in rw e (accepted_limits s r.table r.end e)

@@ -51,7 +51,7 @@ part-full l ls b h =
       whole = sym (lt-leb (suc (length ls)) 0 (omega arith));
     }
 
--- a part KeepsValue the buffer's length
+-- a part keeps the buffer's length
 pub part_length : (ls : List (List ℕ)) (b a : List ℕ) (r : Part) → PartIs ls b a r → length a ≡ length b
 part_length ls b a r P = ap length P.page ∙ length_over (closed (whole_lines (length b) ls)) b (fitted (length b) ls)
 

@@ -111,7 +111,7 @@ cut_at w ind (suc h) j ls e = go (ltb (suc h) (length ls)) refl (eqb (j + 1) (su
         rw k
     go false f false g = refl
 
--- a cell KeepsValue line j if it has it and the limit leaves it
+-- a cell keeps line j if it has it and the limit leaves it
 pub cut_has : (w : ℕ) (ind : List ℕ) (h j : ℕ) (ls : List (List ℕ)) → ltb j (length (cut w ind h ls)) ≡ (in_limit h j && ltb j (length ls))
 unfolding cut exceeds
 cut_has w ind zero j ls = refl

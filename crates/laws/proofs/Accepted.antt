@@ -1,4 +1,4 @@
--- An accepted sheet's table KeepsValue every limit and stands in the sheet from its first byte to its last; a refusal is numbered 1 to 9. Assumes nothing.
+-- An accepted sheet's table keeps every limit and stands in the sheet from its first byte to its last; a refusal is numbered 1 to 9. Assumes nothing.
 use Prim.Native.Nat.{ℕ, ◌≤◌}
 use mathlib.Core.Path.{◌≡◌, refl, ap, sym, subst, ◌∙◌}
 use mathlib.Core.Logic.{◌⊎◌, inl, inr}
@@ -25,7 +25,7 @@ pub use Rattle.laws.proofs.Reading.{between_both}
 use Rattle.laws.proofs.Reading.{Number, KeepsValue, Reads, Sound, sound, steps}
 use Rattle.rules.proofs.Parts.{Whole, table_whole}
 
--- ---- what passed the tests KeepsValue the limits
+-- ---- what passed the tests keeps the limits
 
 or_either : (a b : Bool) → (a || b) ≡ true → (a ≡ true) ⊎ (b ≡ true)
 or_either true b e = inl refl
@@ -181,7 +181,7 @@ refused_number s n p e = subst (SheetSound s) e (sheet_sound s)
 pub accepted : (s : List ℕ) (t : Table) (q : ℕ) → sheet s ≡ got t q → Accepted s t q
 accepted s t q e = subst (SheetSound s) e (sheet_sound s)
 
--- the table of an accepted sheet KeepsValue every limit
+-- the table of an accepted sheet keeps every limit
 pub accepted_limits : (s : List ℕ) (t : Table) (q : ℕ) → sheet s ≡ got t q → TableLimits t
 accepted_limits s t q e = table_limits t (accepted s t q e).read.kept
 

@@ -167,7 +167,7 @@ rows-longest j (r ∷ rs) a =
       cells-cons j r rs,
     )
 
--- the rows of a table that KeepsValue the limits
+-- the rows of a table that keeps the limits
 row_limits : (t : Table) → TableLimits t → All (RowLimits (length t.columns)) (all_rows t)
 row_limits t l = all_append (RowLimits (length t.columns)) t.header t.rows l.header_row l.each_row
 

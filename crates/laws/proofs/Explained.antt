@@ -94,7 +94,7 @@ module _ (t : Table) (j : ℕ) (l : j < length t.columns) where
     unfolding is_widened
     open_still d = rw (n, d, is_widened)
 
-    -- a column that is decided KeepsValue its width where columns are left
+    -- a column that is decided keeps its width where columns are left
     shared_own : is_undecided (after3 t) j ≡ false → shared (after3 t) j ≡ before
     unfolding shared
     shared_own d = or_else_own before _ d

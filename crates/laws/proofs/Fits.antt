@@ -18,7 +18,7 @@ use Rattle.laws.proofs.Texts.{plain-all}
 use Rattle.laws.proofs.Sizes.{width-area, length-area}
 use Rattle.laws.proofs.Split.{Short, short-lines}
 
--- a property of lines that cutting a line to its width and indicator gives, cutting a cell KeepsValue
+-- a property of lines that cutting a line to its width and indicator gives, cutting a cell keeps
 pub all-cut : (P : List ℕ → Type 0) (w : ℕ) (i : List ℕ) (h : ℕ) (ls : List (List ℕ)) → P [] → ((l : List ℕ) → P l → P (cut_line w i l)) → All P ls →
     All P (cut w i h ls)
 unfolding cut

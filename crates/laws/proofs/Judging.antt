@@ -277,7 +277,7 @@ module _ {A : Type 0} (x : Format A) (a : A) (p : ℕ) where
   judged-step : (y : Step) → judges x a p ≡ y → Judged (writes x a) (KeepsValue x a) (TestsFields x) p y
   judged-step y e = subst (Judged (writes x a) (KeepsValue x a) (TestsFields x) p) e (judged_so x a p)
 
-  -- a value that is not refused ends where its bytes do, and KeepsValue what the tests ask
+  -- a value that is not refused ends where its bytes do, and keeps what the tests ask
   pub judged_ends : (q : ℕ) → judges x a p ≡ At q → q ≡ p + length (writes x a)
   judged_ends q e = (judged-step (At q) e).end
 
@@ -287,7 +287,7 @@ module _ {A : Type 0} (x : Format A) (a : A) (p : ℕ) where
   pub judged_number : (n q : ℕ) → judges x a p ≡ Refused n q → FaultNumber n
   judged_number n q e = (judged-step (Refused n q) e).number
 
-  -- what KeepsValue what the tests ask is not refused
+  -- what keeps what the tests ask is not refused
   pub keeps-judged : KeepsValue x a → judges x a p ≡ At (p + length (writes x a))
   keeps-judged k = go (judges x a p) refl
     where

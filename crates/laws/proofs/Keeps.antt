@@ -1,4 +1,4 @@
--- Wrapping KeepsValue every character but delimiters, in order. Assumes nothing.
+-- Wrapping keeps every character but delimiters, in order. Assumes nothing.
 use Prim.Native.Nat.{ℕ, zero, suc, ◌+◌, ◌-◌, ◌≤◌, ◌<◌}
 use mathlib.Core.Path.{◌≡◌, refl, sym, ap, ◌∙◌}
 use mathlib.Core.List.{List, [], ◌∷◌, ◌++◌, map, append_assoc, append-nil}

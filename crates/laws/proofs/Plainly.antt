@@ -179,7 +179,7 @@ plain-table t k =
     (all_imp (KeepsValue (row_by plain_line m)) PlainRow (plain_row m) t.header k.1.1.1.1.1.1.1.0.1)
     (all_imp (KeepsValue (row_by plain_line m)) PlainRow (plain_row m) t.rows k.1.1.1.1.1.1.1.1.0.1)
 
--- a table that was read KeepsValue its tests
+-- a table that was read keeps its tests
 abbrev Kept : Format (List ℕ) → Read Table → Type 0
 Kept x (got t q) = KeepsValue (table_by x) t
 Kept x (refused n q) = Unit {0}

@@ -65,7 +65,7 @@ unfolding pairs_of flat
 pairs-seconds [] = unfold keep in refl
 pairs-seconds (l ∷ ls) = omega (arith, seconds-append l (flat ls), length-seconds l, pairs-seconds ls)
 
--- wrapping KeepsValue them
+-- wrapping keeps them
 pairs-wrapped : (w d : ℕ) → 0 < w → is_second d ≡ false → (ls : List (List ℕ)) → pairs_of (wrap_lines w d ls) ≡ pairs_of ls
 pairs-wrapped w d some delimiter ls =
     pairs-seconds (wrap_lines w d ls) ∙ ap length (kept-lines (λ b. not (is_second b)) d (rw delimiter) w some ls) ∙ sym (pairs-seconds ls)

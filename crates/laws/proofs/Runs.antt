@@ -46,7 +46,7 @@ module _ (begins : State → Bool) (rule : Rule) (n : ℕ) where
       (ran_goes (begins s) (ltb (undecided (pass rule n s)) (undecided s)) (run begins rule n fuel (pass rule n s)) s (run_goes fuel (pass rule n s)))
 
 module _ (rule : Rule) (n : ℕ) (P : State → Type 0) (h : (s : State) → P s → P (pass rule n s)) where
-  -- what a pass KeepsValue, passes keep
+  -- what a pass keeps, passes keep
   pub goes-keeps : {s u : State} {vs : List State} → Goes rule n s vs u → P s → P u
   goes-keeps stays p = p
   goes-keeps {s} (goes a) p = goes-keeps a (h s p)

@@ -1,4 +1,4 @@
--- The writer KeepsValue what document 02's order 4 asks of it. Assumes nothing.
+-- The writer keeps what document 02's order 4 asks of it. Assumes nothing.
 use Prim.Native.Nat.{ℕ, ◌≤◌, ◌<◌}
 use mathlib.Core.Path.{◌≡◌, refl, ap, sym, subst, ◌∙◌}
 use mathlib.Core.Logic.{◌≢◌}

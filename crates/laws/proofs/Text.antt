@@ -102,7 +102,7 @@ pub rest-suc : (n b : ℕ) (l : List ℕ) → is_second b ≡ false → rest_of 
 unfolding rest_of
 rest-suc n b l h = ap (λ k. drop k (b ∷ l)) (bytes-suc n b l h)
 
--- a cut at n KeepsValue n columns, or all
+-- a cut at n keeps n columns, or all
 pub width-first : (n : ℕ) (l : List ℕ) → text_width (first_of n l) ≡ min n (text_width l)
 width-first n [] = rw first-nil (omega (arith, width-nil))
 width-first n (b ∷ l) = go n (is_second b) refl (λ m. width-first m l)

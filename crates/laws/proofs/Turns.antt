@@ -53,7 +53,7 @@ module _ (rule : Rule) where
   fix-other i j (some w) s n = get_or-set_other s.widths i j (lifted w) 0 n
   fix-other i j none s n = refl
 
-  -- another column KeepsValue its width
+  -- another column keeps its width
   visit-other : (i j : ℕ) (s : State) → (j ≡ i → ⊥) → width_at (visit rule i s) j ≡ width_at s j
   visit-other i j s n = go (is_undecided s i) refl
     where
@@ -85,7 +85,7 @@ module _ (rule : Rule) where
   turn_open j s = ap (λ (w : ℕ). eqb w 0) (turn_finds j j s (omega arith))
 
   module _ (n j : ℕ) (h : j < n) (s : State) where
-    -- a decided column KeepsValue its width
+    -- a decided column keeps its width
     pass-keeps : is_undecided s j ≡ false → width_at (pass rule n s) j ≡ width_at s j
     pass-keeps d =
         turn_leaves n j s h ∙ ap (λ (u : State). width_at u j) (visit_shut j (pass rule j s) (turn_open j s ∙ d)) ∙ turn_finds j j s (omega arith)
@@ -114,7 +114,7 @@ module _ (rule : Rule) where
   -- ---- a run
 
   module _ (n j : ℕ) (h : j < n) where
-    -- a decided column KeepsValue its width
+    -- a decided column keeps its width
     pub run-width : {s u : State} {vs : List State} → Goes rule n s vs u → is_undecided s j ≡ false → width_at u j ≡ width_at s j
     run-width stays d = refl
     run-width {s} (goes a) d = let k = pass-keeps n j h s d in run-width a (rw k d) ∙ k

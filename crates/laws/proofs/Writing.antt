@@ -361,7 +361,7 @@ sheet_says t = go (ltb 32768 (length (writes table t)))
         ap (λ (y : Read Table). onward y (λ u p. onward (ended s p) (λ v q. got u q))) (says table t (table-made t) s 0 [] (sym (append-nil s)))
         ∙ ended_says s t (judges table t 0) (judges_ends table t 0)
 
--- a table that KeepsValue the limits has a sheet that is accepted, unless it is too long
+-- a table that keeps the limits has a sheet that is accepted, unless it is too long
 pub written_accepted : (t : Table) → KeepsValue table t → length (written t) ≤ 32768 → sheet (written t) ≡ got t (length (written t))
 unfolding written judged
 written_accepted t k short =

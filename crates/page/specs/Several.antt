@@ -12,7 +12,7 @@ pub record Several : Type 0 where
   pub answer : PrintedLines
   pub buffer : List ℕ
 
--- a refused call: nothing written, no next line, and the buffer KeepsValue every byte
+-- a refused call: nothing written, no next line, and the buffer keeps every byte
 abbrev pub no_lines : ℕ → ℕ → List ℕ → Several
 no_lines n p b = record { answer = record { number = n; place = p; written = 0; next = 0 }; buffer = b }
 

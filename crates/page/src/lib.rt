@@ -136,7 +136,7 @@ fn turned_down(number: u64, place: u64) -> Printed
     }
 }
 
-// The page over the buffer's start. It is counted before it is written, so that a short buffer KeepsValue every byte.
+// The page over the buffer's start. It is counted before it is written, so that a short buffer keeps every byte.
 pub fn print_page(sheet: &[u8], page: &mut [u8]) -> Printed
     ensures value { result ≡ (calls.print_page sheet.now page.old).answer }
     ensures page_after { page.new ≡ (calls.print_page sheet.now page.old).buffer }

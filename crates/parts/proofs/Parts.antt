@@ -76,7 +76,7 @@ first_has P s c A h a =
     (λ (e : rows_in s c ≡ drop A.skipped (table_of s).rows). rw e (all_drop P A.skipped (table_of s).rows rows))
     A.among)
 
--- a first row KeepsValue the limits
+-- a first row keeps the limits
 pub first_limits : (s : List ℕ) (c : Rows) → RowsAt s c → 0 < c.left → RowLimits (length (table_of s).columns) (first_row s c)
 first_limits s c A h = all_get_d _ (rows_in s c) 0 no_row (omega (arith, rows_number s c)) A.sound
 

@@ -6,7 +6,7 @@ ghost use Rattle.reader.specs.Read.{ReadIs, line_after};
 
 use rules::Printed;
 
-// Whoever prints a page line by line KeepsValue one of these between two lines.
+// Whoever prints a page line by line keeps one of these between two lines.
 #[derive(Clone, Copy)]
 pub struct PageReader<'a> {
     pub sheet: &'a [u8],

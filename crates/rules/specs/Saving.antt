@@ -38,5 +38,5 @@ pub record Saving : Type 0 where
   pub places : (t : Table) (n p : ℕ) → judged t ≡ Refused n p → n ≢ 2 → (p < length (written t)) × (length (written t) ≤ 32768)
   -- the editor can say every table, also one that no sheet describes
   pub said : (t : Table) (b : List ℕ) → write_sheet (numbers_of table t) (text_of table t) b ≡ save t b
-  -- "after any refusal the sheet buffer KeepsValue its bytes"
+  -- "after any refusal the sheet buffer keeps its bytes"
   pub kept : (ns ts b : List ℕ) → (write_sheet ns ts b).answer.number ≢ 0 → ((write_sheet ns ts b).buffer ≡ b) × ((write_sheet ns ts b).answer.written ≡ 0)

@@ -95,6 +95,6 @@ shown_indicator w i = elim (leb (text_width i) w) [ true ↦ i | false ↦ [] ]
 unfoldable pub cut_line : ℕ → List ℕ → List ℕ → List ℕ
 cut_line w i l = first_of (w - text_width (shown_indicator w i)) l ++ shown_indicator w i
 
--- a cell with more lines than the height limit KeepsValue that many
+-- a cell with more lines than the height limit keeps that many
 unfoldable pub cut : ℕ → List ℕ → ℕ → List (List ℕ) → List (List ℕ)
 cut w i h ls = elim (exceeds h (length ls)) [ true ↦ take (h - 1) ls ++ (cut_line w i (get_or ls (h - 1) []) ∷ []) | false ↦ ls ]

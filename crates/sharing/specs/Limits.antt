@@ -1,4 +1,4 @@
--- What KeepsValue every sum of widths within its type. Assumes nothing.
+-- What keeps every sum of widths within its type. Assumes nothing.
 use Rattle.std.specs.Prelude.{ℕ, ◌≤◌, get_or}
 use Rattle.constraint.specs.declared.State.{State}
 

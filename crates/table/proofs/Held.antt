@@ -1,4 +1,4 @@
--- The table of a sheet that is_accepted stands in its bytes. Assumes nothing.
+-- The table of a sheet that is accepted stands in its bytes. Assumes nothing.
 use Prim.Native.Nat.{ℕ, ◌+◌, ◌*◌, ◌≤◌, ◌<◌}
 use mathlib.Core.Path.{◌≡◌, ap, sym, ◌∙◌}
 use mathlib.Core.List.{List, append-nil}
@@ -18,7 +18,7 @@ use Rattle.laws.proofs.Stands as stands
 use Rattle.table.proofs.Copies.{Copied, copied_done, drop-replicate}
 use Rattle.table.specs.Held.{IsAccepted, table_of, settings_of, indicator_of, columns_of}
 
--- a caller that has asked the check knows that the sheet is_accepted
+-- a caller that has asked the check knows that the sheet is accepted
 pub is_accepted : (s : List ℕ) (r : Checked) → r ≡ check s → r.number ≡ 0 → IsAccepted s
 is_accepted s r e h = ap (λ (x : Checked). x.number) (sym e) ∙ h
 

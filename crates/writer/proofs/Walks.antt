@@ -1,4 +1,4 @@
--- Laws of the walk: once something was missing it stands still, and the buffer KeepsValue its length; sections as the code walks them; loops. Assumes nothing.
+-- Laws of the walk: once something was missing it stands still, and the buffer keeps its length; sections as the code walks them; loops. Assumes nothing.
 use Prim.Native.Nat.{ℕ, zero, suc, ◌+◌, ◌-◌, ◌≤◌, ◌<◌}
 use mathlib.Core.Path.{◌≡◌, refl, sym, ap, ◌∙◌}
 use mathlib.Core.List.{List, [], map}
@@ -92,7 +92,7 @@ walked_stays (give a) ns ts s m = refl
 walked_stays (next of x g) ns ts s m =
     rw (walked_stays x ns ts s m) (walked_stays (g (value_at x ns ts s)) ns ts s m)
 
--- ---- the buffer KeepsValue its length
+-- ---- the buffer keeps its length
 
 stamped-length : (d : List ℕ) (p : ℕ) (l : List ℕ) → length (stamped d p l) ≡ length d
 unfolding stamped

@@ -27,4 +27,4 @@ returns c =
           (left_done column _ [] _ _ _ _ _ _ c.loop-left-test.false c.loop-left.invariant refl c.still-left.ensures); value = c.byte_between-count.ensures.value }
 
 pub shape_of-sheet : goal.shape_of-sheet
-shape_of-sheet c = kept-length (counted 0 most_columns column) _ [] _ _ _ _ (returns c).0
+shape_of-sheet c = kept-length (counted 0 most_columns column) _ [] _ _ _ _ (returns c).sheet_after
