@@ -1,0 +1,14 @@
+use borrow.Author.Rules.{rules}
+use native.Mathlib.Omega.{arith}
+use Prim.Native.Nat.{◌-◌}
+use mathlib.Core.Path.{sym}
+use lib.ListN.{length-set}
+use Rattle.row.specs.Packed.{view_of}
+use Rattle.borders.proofs.Rule.{rule-length, rule_whole, Ruling, ruling_begins, ruling_done, fill_narrow, fill-room, fill_on}
+use Rattle.borders.proofs.draw_line.Given as goal
+
+abbrev pub invariant-loop-i : goal.invariant-loop-i
+invariant-loop-i l = Ruling (view_of l.columns l.count) l.style l.initial.page l.initial.at l.page l.at l.i
+
+abbrev pub decreases-loop-i : goal.decreases-loop-i
+decreases-loop-i l = l.count - l.i

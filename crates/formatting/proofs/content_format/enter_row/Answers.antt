@@ -1,0 +1,19 @@
+use borrow.Author.Rules.{rules}
+use Rattle.table.specs.Walk.{first_row}
+use Rattle.table.proofs.Walks.{cells_inside}
+use Rattle.row.specs.Packed.{view_of, pendings_of}
+use Rattle.formatting.proofs.RowText.{enters}
+use Rattle.formatting.proofs.content_format.enter_row.Goals as goal
+
+pub format_row-found-requires : goal.format_row-found-requires
+format_row-found-requires c = let D = c.requires.0 in record { rising = (D.rising, (D.usable, c.requires.1)); cells_in_bounds = (cells_inside c.args.sheet.now c.args.here c.row-r.result D.some D.ends c.row-r.ensures, rw c.row-r.ensures.cells D.known) }
+
+pub returns : goal.returns
+returns c =
+    let D = c.requires.0 in
+    record {
+      limit = c.row-r.ensures.limit;
+      stands = enters c.args.sheet.now (view_of c.args.columns.now c.args.count) (first_row c.args.sheet.now c.args.here) D.views c.args.n
+          (pendings_of c.args.plain c.format_row-found.new.1.1.1.1.1.1.0) c.format_row-found.result c.has_line.result _ (rw c.row-r.ensures.cells at c.format_row-found.ensures.0) c.format_row-found.ensures.1
+          c.row-r.ensures.limit c.has_line.ensures;
+    }

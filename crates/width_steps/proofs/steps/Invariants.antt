@@ -1,0 +1,13 @@
+use Prim.Native.Nat.{◌-◌}
+use native.Mathlib.Omega.{arith}
+use Rattle.constraint.proofs.Laws.{Walk, walk_begin, walk-again, walk_done}
+use Rattle.width_steps.specs.Steps.{naming}
+use Rattle.width_steps.proofs.Ways.{naming-at}
+use borrow.Author.Rules.{rules}
+use Rattle.width_steps.proofs.steps.Given as goal
+
+abbrev pub invariant-loop-i : goal.invariant-loop-i
+invariant-loop-i l = Walk (naming l.t l.a) l.initial.numbers l.t.count l.n l.i l.numbers
+
+abbrev pub decreases-loop-i : goal.decreases-loop-i
+decreases-loop-i l = l.n - l.i

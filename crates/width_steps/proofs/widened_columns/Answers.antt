@@ -1,0 +1,16 @@
+use Prim.Native.Nat.{◌-◌}
+use native.Mathlib.Omega.{arith}
+use Rattle.constraint.proofs.Laws.{Walk, walk_begin, walk-again, walk_done}
+use Rattle.width_steps.specs.Steps.{widening}
+use Rattle.width_steps.proofs.Ways.{widening-at}
+use borrow.Author.Rules.{rules}
+use Rattle.width_steps.proofs.widened_columns.Goals as goal
+
+pub loop-i-init : goal.loop-i-init
+loop-i-init c = search (rules, walk_begin)
+
+pub loop-i-preserved : goal.loop-i-preserved
+loop-i-preserved c = search (rules, walk-again, widening-at)
+
+pub returns : goal.returns
+returns c = search (rules, walk_done)
