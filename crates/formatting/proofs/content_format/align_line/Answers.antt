@@ -20,12 +20,12 @@ fill-p-requires c =
 pub copy-q-requires : goal.copy-q-requires
 copy-q-requires c =
     let z = area_total c.args.v c.args.alignment c.args.text.now c.args.marks.now c.args.spare c.spaces_before-b.result c.requires.spare c.spaces_before-b.ensures.0 in
-    omega (arith, z, c.requires.marks_in_bounds, c.fill-p.ensures.value, c.fill-p.auto.0)
+    omega (arith, z, c.requires.marks_in_bounds, c.fill-p.ensures.value, c.fill-p.auto.dst)
 
 pub copy-m-requires : goal.copy-m-requires
 copy-m-requires c =
     let z = area_total c.args.v c.args.alignment c.args.text.now c.args.marks.now c.args.spare c.spaces_before-b.result c.requires.spare c.spaces_before-b.ensures.0 in
-    omega (arith, z, c.requires.marks_in_bounds, c.fill-p.ensures.value, c.fill-p.auto.0, c.copy-q.ensures.value, c.copy-q.auto.0)
+    omega (arith, z, c.requires.marks_in_bounds, c.fill-p.ensures.value, c.fill-p.auto.dst, c.copy-q.ensures.value, c.copy-q.auto.dst)
 
 pub overflow_sub-spare : goal.overflow_sub-spare
 overflow_sub-spare c =
@@ -40,7 +40,7 @@ overflow_add-spare c =
 pub fill-requires : goal.fill-requires
 fill-requires c =
     let z = area_total c.args.v c.args.alignment c.args.text.now c.args.marks.now c.args.spare c.spaces_before-b.result c.requires.spare c.spaces_before-b.ensures.0 in
-    omega (arith, z, c.requires.marks_in_bounds, c.fill-p.ensures.value, c.fill-p.auto.0, c.copy-q.ensures.value, c.copy-q.auto.0, c.copy-m.ensures.value, c.copy-m.auto.0)
+    omega (arith, z, c.requires.marks_in_bounds, c.fill-p.ensures.value, c.fill-p.auto.dst, c.copy-q.ensures.value, c.copy-q.auto.dst, c.copy-m.ensures.value, c.copy-m.auto.dst)
 
 pub returns : goal.returns
 returns c =

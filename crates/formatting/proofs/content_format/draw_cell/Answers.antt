@@ -47,7 +47,7 @@ align_line-requires c =
     let x = shown_is c.args.sheet.now c.args.v.width c.args.t c.requires.in_sheet.0 _ c.line_at-text.ensures c.args.indicator c.requires.in_sheet.1 c.args.cut c.marks_shown-m.result
     c.marks_shown-m.ensures.0 c.marks_shown-m.ensures.1.1 c.marks_shown-m.ensures.1.0 c.shorten-shown.result c.shorten-shown.ensures in
     let y = shown_spare c.args.sheet.now c.args.v.width c.args.t c.requires.in_sheet.0 _ c.line_at-text.ensures c.args.indicator c.requires.in_sheet.1 c.args.cut c.marks_shown-m.result
-    c.marks_shown-m.ensures.0 c.marks_shown-m.ensures.1.1 c.marks_shown-m.ensures.1.0 c.shorten-shown.result c.shorten-shown.ensures in let r = rw x (y, c.requires.t_in_bounds) in record { spare = r.0; marks_in_bounds = r.1 }
+    c.marks_shown-m.ensures.0 c.marks_shown-m.ensures.1.1 c.marks_shown-m.ensures.1.0 c.shorten-shown.result c.shorten-shown.ensures in record { spare = rw x y; marks_in_bounds = rw x c.requires.t_in_bounds }
 
 pub returns : goal.returns
 returns c =

@@ -17,7 +17,7 @@ draw_edge-p-requires c = omega (arith, c.requires.last_in_bounds)
 pub draw_cell-q-requires : goal.draw_cell-q-requires
 draw_cell-q-requires c =
     let ind = take c.args.indicator.count c.args.indicator.characters in
-    let z = ap length (piece_is c.args.sheet.now c.args.v c.args.t c.advance-next.result ind c.args.last c.both-cut.result c.both-cut.ensures c.advance-next.ensures) in record { in_sheet = (c.requires.ready.0.line, c.requires.ready.1); t_in_bounds = omega (arith, z, c.requires.last_in_bounds, c.draw_edge-p.ensures.value, c.draw_edge-p.auto.0) }
+    let z = ap length (piece_is c.args.sheet.now c.args.v c.args.t c.advance-next.result ind c.args.last c.both-cut.result c.both-cut.ensures c.advance-next.ensures) in record { in_sheet = (c.requires.ready.0.line, c.requires.ready.1); t_in_bounds = omega (arith, z, c.requires.last_in_bounds, c.draw_edge-p.ensures.value, c.draw_edge-p.auto.dst) }
 
 pub returns : goal.returns
 returns c =

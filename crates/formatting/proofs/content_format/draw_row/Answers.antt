@@ -12,6 +12,7 @@ use Rattle.formatting.specs.Line.{line_bytes}
 use Rattle.formatting.proofs.RowText.{Running, running_begins, running-length, running-room, running-on, running-full, running_ends}
 use Rattle.formatting.proofs.RowText.{stands_less, stands_measurable, line-some, too_long, short_enough}
 use Rattle.formatting.proofs.content_format.draw_row.Goals as goal
+use Rattle.formatting.proofs.content_format.draw_row.Goals.{then-room-most+else-not-fits, else-room-most}
 
 pub enter_row-entered-requires : goal.enter_row-entered-requires
 enter_row-entered-requires c = (c.requires.drawable.0, refl)
@@ -76,8 +77,8 @@ returns-then-not-fits c =
     running-full c.args.sheet.now (view_of c.args.columns.now c.args.count) c.args.style r c.args.first c.requires.drawable.0.views c.args.page.now c.loop-more.page
     (pendings_of c.args.plain c.loop-more.state) c.loop-more.more c.loop-more.at c.loop-more.line c.loop-more.invariant t c.args.indicator c.requires.drawable.1 _ e.limit c.is_last-last.result c.is_last-last.ensures
     (too_long c.args.plain c.args.size _ _ c.args.count _
-    (omega (arith, c.if-room-most.taken, c.most_bytes-most.ensures))
-    m.each m.shown (sym c.fits_after_all-fits.ensures ∙ not-true _ c.if-not-fits.true))
+    (omega (arith, c.if-room-most.true, c.most_bytes-most.ensures))
+    m.each m.shown (sym c.fits_after_all-fits.ensures ∙ c.if-not-fits.true))
 
 pub slice_bounds-write_line-count : goal.slice_bounds-write_line-count
 slice_bounds-write_line-count c =
@@ -104,9 +105,10 @@ write_line-l-requires c =
     let w : length (line_bytes c.args.sheet.now (view_of c.args.columns.now c.args.count) (take c.args.indicator.count c.args.indicator.characters)
     c.args.style (pendings_of c.args.plain c.loop-more.state) c.is_last-last.result)
     ≤ length c.loop-more.page - c.loop-more.at =
-    ⊎_elim (λ w. short_enough c.args.plain _ _ _ m.shown (sym w.1.ensures ∙ not-false _ w.2.left))
-    (λ w. omega (arith, w.left, c.most_bytes-most.ensures, m.most))
-    c.if-room-most.branch in record { ready_all = (m.ready, m.indicator); last_in_bounds = omega (arith, w, ap length (lent c.loop-more.page c.loop-more.at), length-drop c.loop-more.at c.loop-more.page) }
+    elim c.if-room-most.branch [
+      then-room-most+else-not-fits w ↦ short_enough c.args.plain _ _ _ m.shown (sym w.fits_after_all-fits.ensures ∙ w.if-not-fits.false)
+    | else-room-most w ↦ omega (arith, w.if-room-most.false, c.most_bytes-most.ensures, m.most)
+    ] in record { ready_all = (m.ready, m.indicator); last_in_bounds = omega (arith, w, ap length (lent c.loop-more.page c.loop-more.at), length-drop c.loop-more.at c.loop-more.page) }
 
 pub overflow_add-at : goal.overflow_add-at
 overflow_add-at c =
@@ -119,9 +121,10 @@ overflow_add-at c =
     let w : length (line_bytes c.args.sheet.now (view_of c.args.columns.now c.args.count) (take c.args.indicator.count c.args.indicator.characters)
     c.args.style (pendings_of c.args.plain c.loop-more.state) c.is_last-last.result)
     ≤ length c.loop-more.page - c.loop-more.at =
-    ⊎_elim (λ w. short_enough c.args.plain _ _ _ m.shown (sym w.1.ensures ∙ not-false _ w.2.left))
-    (λ w. omega (arith, w.left, c.most_bytes-most.ensures, m.most))
-    c.if-room-most.branch in
+    elim c.if-room-most.branch [
+      then-room-most+else-not-fits w ↦ short_enough c.args.plain _ _ _ m.shown (sym w.fits_after_all-fits.ensures ∙ w.if-not-fits.false)
+    | else-room-most w ↦ omega (arith, w.if-room-most.false, c.most_bytes-most.ensures, m.most)
+    ] in
     omega (
       arith,
       c.write_line-l.ensures.written,
@@ -156,9 +159,10 @@ loop-more-smaller c =
     let w : length (line_bytes c.args.sheet.now (view_of c.args.columns.now c.args.count) (take c.args.indicator.count c.args.indicator.characters)
     c.args.style (pendings_of c.args.plain c.loop-more.state) c.is_last-last.result)
     ≤ length c.loop-more.page - c.loop-more.at =
-    ⊎_elim (λ w. short_enough c.args.plain _ _ _ m.shown (sym w.1.ensures ∙ not-false _ w.2.left))
-    (λ w. omega (arith, w.left, c.most_bytes-most.ensures, m.most))
-    c.if-room-most.branch in
+    elim c.if-room-most.branch [
+      then-room-most+else-not-fits w ↦ short_enough c.args.plain _ _ _ m.shown (sym w.fits_after_all-fits.ensures ∙ w.if-not-fits.false)
+    | else-room-most w ↦ omega (arith, w.if-room-most.false, c.most_bytes-most.ensures, m.most)
+    ] in
     omega (
       arith,
       c.write_line-l.ensures.written,
@@ -181,13 +185,14 @@ loop-more-preserved c =
     let w : length (line_bytes c.args.sheet.now (view_of c.args.columns.now c.args.count) (take c.args.indicator.count c.args.indicator.characters)
     c.args.style (pendings_of c.args.plain c.loop-more.state) c.is_last-last.result)
     ≤ length c.loop-more.page - c.loop-more.at =
-    ⊎_elim (λ w. short_enough c.args.plain _ _ _ m.shown (sym w.1.ensures ∙ not-false _ w.2.left))
-    (λ w. omega (arith, w.left, c.most_bytes-most.ensures, m.most))
-    c.if-room-most.branch in
+    elim c.if-room-most.branch [
+      then-room-most+else-not-fits w ↦ short_enough c.args.plain _ _ _ m.shown (sym w.fits_after_all-fits.ensures ∙ w.if-not-fits.false)
+    | else-room-most w ↦ omega (arith, w.if-room-most.false, c.most_bytes-most.ensures, m.most)
+    ] in
     running-on c.args.sheet.now (view_of c.args.columns.now c.args.count) c.args.style q c.args.first c.requires.drawable.0.views c.args.page.now c.loop-more.page
     (pendings_of c.args.plain c.loop-more.state) c.loop-more.more c.loop-more.at c.loop-more.line c.loop-more.invariant t c.args.indicator c.requires.drawable.1 _ e.limit c.is_last-last.result
-    c.is_last-last.ensures w _ c.write_line-l.new.page _ c.write_line-l.result.more c.has_line-more.result c.write_line-l.result.written c.write_line-l.ensures.after_all.1 refl c.write_line-l.ensures.written c.write_line-l.ensures.after_all.0.0
-    c.write_line-l.ensures.after_all.0.1 c.has_line-more.ensures
+    c.is_last-last.ensures w _ c.write_line-l.new.page _ c.write_line-l.result.more c.has_line-more.result c.write_line-l.result.written c.write_line-l.ensures.page_after refl c.write_line-l.ensures.written c.write_line-l.ensures.after_all.0
+    c.write_line-l.ensures.after_all.1 c.has_line-more.ensures
 
 pub overflow_sub-result-2 : goal.overflow_sub-result-2
 overflow_sub-result-2 c =

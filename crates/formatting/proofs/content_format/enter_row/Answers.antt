@@ -14,6 +14,6 @@ returns c =
     record {
       limit = c.row-r.ensures.limit;
       stands = enters c.args.sheet.now (view_of c.args.columns.now c.args.count) (first_row c.args.sheet.now c.args.here) D.views c.args.n
-          (pendings_of c.args.plain c.format_row-found.new.1.1.1.1.1.1.0) c.format_row-found.result c.has_line.result _ (rw c.row-r.ensures.cells at c.format_row-found.ensures.0) c.format_row-found.ensures.1
+          (pendings_of c.args.plain c.format_row-found.new.state) c.format_row-found.result c.has_line.result _ (rw c.row-r.ensures.cells at c.format_row-found.ensures.0) c.format_row-found.ensures.1
           c.row-r.ensures.limit c.has_line.ensures;
     }

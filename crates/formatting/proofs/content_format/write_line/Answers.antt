@@ -42,7 +42,7 @@ draw_column-d-requires c =
             arith,
             c.requires.last_in_bounds,
             c.draw_edge-at.ensures.value,
-            c.draw_edge-at.auto.0,
+            c.draw_edge-at.auto.dst,
             line-length c.args.sheet.now (view_of c.args.columns.now c.args.count)
                 (take c.args.indicator.count c.args.indicator.characters) c.args.style (pendings_of c.args.plain c.args.state.now) c.args.last,
           )) c.loop-i.page c.loop-i.state
@@ -54,7 +54,7 @@ draw_column-d-requires c =
             arith,
             c.requires.last_in_bounds,
             c.draw_edge-at.ensures.value,
-            c.draw_edge-at.auto.0,
+            c.draw_edge-at.auto.dst,
             line-length c.args.sheet.now (view_of c.args.columns.now c.args.count)
                 (take c.args.indicator.count c.args.indicator.characters) c.args.style (pendings_of c.args.plain c.args.state.now) c.args.last,
           )) c.loop-i.page c.loop-i.state
@@ -90,13 +90,13 @@ overflow_add-i c =
 
 pub loop-i-preserved : goal.loop-i-preserved
 loop-i-preserved c =
-    column-drawn c.args.sheet.now c.args.columns.now c.args.count c.args.indicator c.args.style c.args.plain c.args.state.now c.args.last c.draw_edge-at.last.0 c.draw_edge-at.result
+    column-drawn c.args.sheet.now c.args.columns.now c.args.count c.args.indicator c.args.style c.args.plain c.args.state.now c.args.last c.draw_edge-at.new.dst c.draw_edge-at.result
     c.requires.ready_all.0
     (omega (
       arith,
       c.requires.last_in_bounds,
       c.draw_edge-at.ensures.value,
-      c.draw_edge-at.kept.0,
+      c.draw_edge-at.auto.dst,
       line-length c.args.sheet.now (view_of c.args.columns.now c.args.count)
           (take c.args.indicator.count c.args.indicator.characters) c.args.style (pendings_of c.args.plain c.args.state.now) c.args.last,
     )) c.loop-i.page c.loop-i.state c.loop-i.more
@@ -104,7 +104,7 @@ loop-i-preserved c =
     _ _ _ c.column_from-v.ensures
     c.pending_from-t.ensures
     c.joins_before-joins.ensures
-    c.draw_column-d.new.page c.draw_column-d.result.pending c.draw_column-d.result.at _ _ c.draw_column-d.ensures.place.0 c.draw_column-d.ensures.place.1 c.draw_column-d.ensures.page_after c.draw_column-d.auto.0
+    c.draw_column-d.new.page c.draw_column-d.result.pending c.draw_column-d.result.at _ _ c.draw_column-d.ensures.place.0 c.draw_column-d.ensures.place.1 c.draw_column-d.ensures.page_after c.draw_column-d.auto.page
     c.either-more.ensures c.repack_pending-z.ensures
 
 pub draw_edge-e-requires : goal.draw_edge-e-requires
@@ -118,7 +118,7 @@ draw_edge-e-requires c =
       D.size,
       c.requires.last_in_bounds,
       c.draw_edge-at.ensures.value,
-      c.draw_edge-at.auto.0,
+      c.draw_edge-at.auto.dst,
       line-length c.args.sheet.now (view_of c.args.columns.now c.args.count)
           (take c.args.indicator.count c.args.indicator.characters) c.args.style (pendings_of c.args.plain c.args.state.now) c.args.last,
     )
@@ -134,9 +134,9 @@ bounds-page-e c =
       D.size,
       c.requires.last_in_bounds,
       c.draw_edge-at.ensures.value,
-      c.draw_edge-at.auto.0,
+      c.draw_edge-at.auto.dst,
       c.draw_edge-e.ensures.value,
-      c.draw_edge-e.auto.0,
+      c.draw_edge-e.auto.dst,
       line-length c.args.sheet.now
           (view_of c.args.columns.now c.args.count) (take c.args.indicator.count c.args.indicator.characters) c.args.style (pendings_of c.args.plain c.args.state.now)
           c.args.last,
@@ -154,7 +154,7 @@ overflow_add-result c =
       D.size,
       c.requires.last_in_bounds,
       c.draw_edge-at.ensures.value,
-      c.draw_edge-at.auto.0,
+      c.draw_edge-at.auto.dst,
       c.draw_edge-e.ensures.value,
       line-length c.args.sheet.now
           (view_of c.args.columns.now c.args.count) (take c.args.indicator.count c.args.indicator.characters) c.args.style (pendings_of c.args.plain c.args.state.now)
@@ -166,7 +166,7 @@ shape_of-page c =
     let D = drawing_done c.args.sheet.now (view_of c.args.columns.now c.args.count) (take c.args.indicator.count c.args.indicator.characters) c.args.style
     (pendings_of c.args.plain c.args.state.now) c.args.last c.draw_edge-at.new.dst c.draw_edge-at.result c.requires.ready_all.0 c.loop-i.page (pendings_of c.args.plain c.loop-i.state) c.loop-i.more c.loop-i.at c.loop-i.i
     c.loop-i.invariant c.loop-i-test.false in
-    simp length-set (omega (arith, D.size, c.draw_edge-at.auto.0, c.draw_edge-e.auto.0))
+    simp length-set (omega (arith, D.size, c.draw_edge-at.auto.dst, c.draw_edge-e.auto.dst))
 
 pub returns : goal.returns
 returns c =
@@ -174,14 +174,8 @@ returns c =
     (pendings_of c.args.plain c.args.state.now) c.args.last in
     let D = drawing_done c.args.sheet.now (view_of c.args.columns.now c.args.count) (take c.args.indicator.count c.args.indicator.characters) c.args.style
     (pendings_of c.args.plain c.args.state.now) c.args.last c.draw_edge-at.new.dst c.draw_edge-at.result c.requires.ready_all.0 c.loop-i.page (pendings_of c.args.plain c.loop-i.state) c.loop-i.more c.loop-i.at c.loop-i.i
-    c.loop-i.invariant c.loop-i-test.false in let r = (
-      omega (arith, D.place, c.draw_edge-at.ensures.value, c.draw_edge-e.ensures.value, z),
-      (
-        passing_done c.args.sheet.now (view_of c.args.columns.now c.args.count) (pendings_of c.args.plain c.args.state.now) (pendings_of c.args.plain c.loop-i.state) c.loop-i.more c.loop-i.i
-            c.loop-i-test.false c.loop-i.invariant.passing,
-        line_whole c.args.sheet.now (view_of c.args.columns.now c.args.count) (take c.args.indicator.count c.args.indicator.characters) c.args.style
+    c.loop-i.invariant c.loop-i-test.false in record { written = omega (arith, D.place, c.draw_edge-at.ensures.value, c.draw_edge-e.ensures.value, z); after_all = passing_done c.args.sheet.now (view_of c.args.columns.now c.args.count) (pendings_of c.args.plain c.args.state.now) (pendings_of c.args.plain c.loop-i.state) c.loop-i.more c.loop-i.i
+            c.loop-i-test.false c.loop-i.invariant.passing; page_after = line_whole c.args.sheet.now (view_of c.args.columns.now c.args.count) (take c.args.indicator.count c.args.indicator.characters) c.args.style
             (pendings_of c.args.plain c.args.state.now) c.args.last c.args.page.now c.draw_edge-at.new.dst c.loop-i.page c.draw_edge-e.new.dst c.draw_edge-at.result c.loop-i.at c.draw_edge-e.result
             c.draw_edge-at.ensures.dst_after D.text c.draw_edge-e.ensures.dst_after (omega (arith, c.draw_edge-at.ensures.value)) (sym D.place) (sym c.draw_edge-e.ensures.value)
-            (omega (arith, D.place, D.size, c.requires.last_in_bounds, c.draw_edge-at.ensures.value, c.draw_edge-at.auto.0, c.draw_edge-e.ensures.value, c.draw_edge-e.auto.0, z)),
-      ),
-    ) in record { written = r.0; after_all = r.1; page_after = r.2 }
+            (omega (arith, D.place, D.size, c.requires.last_in_bounds, c.draw_edge-at.ensures.value, c.draw_edge-at.auto.dst, c.draw_edge-e.ensures.value, c.draw_edge-e.auto.dst, z)) }
