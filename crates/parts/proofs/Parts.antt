@@ -380,7 +380,7 @@ module _ (s : List ℕ) (cols : List (List ℕ)) (p : Page) (O : Opened s cols p
             short = λ j i. rw (text_at k r j i) (text-line-bound (table_of s) T r R k j);
             few = omega (arith, row-height_few s here A h);
           };
-          small = omega (arith, L.Line-small);
+          small = omega (arith, L.line_small);
           each = plain-each k here A h;
           most = λ j i. most_of p.plain refl j i;
           shown = λ j i.
@@ -456,7 +456,7 @@ module _ (s : List ℕ) (cols : List (List ℕ)) (p : Page) (O : Opened s cols p
       held = λ h. text-pairs header_lines p.header O.header_at (omega (arith, rows_number s p.header));
       shown = λ h. text-shown header_lines p.header;
       rule = rule_sized header_rule;
-      small = omega (arith, L.Line-small);
+      small = omega (arith, L.line_small);
     })
 
     pub body_sized : (here : Rows) (y : RowStyle) → RowsAt s here → y ≡ body_style p.styles.body here.left → SizedBand s
@@ -467,7 +467,7 @@ module _ (s : List ℕ) (cols : List (List ℕ)) (p : Page) (O : Opened s cols p
       held = λ h. text-pairs content_lines here A (omega (arith, rows_number s here));
       shown = λ h. text-shown content_lines here;
       rule = rule_sized row_rule;
-      small = omega (arith, L.Line-small);
+      small = omega (arith, L.line_small);
     })
 
 -- each line of a border has its length

@@ -1,0 +1,12 @@
+use native.Mathlib.Omega.{arith}
+use Rattle.parts.proofs.Parts.{after_last, after_more}
+use Rattle.parts.proofs.cursor.after_row.Goals as goal
+
+pub returns-then-here-le1 : goal.returns-then-here-le1
+returns-then-here-le1 c = after_last _ _ c.requires c.if-here-le1.true
+
+pub next_row-here-requires : goal.next_row-here-requires
+next_row-here-requires c = (omega (arith, c.if-here-le1.false), c.requires.ends)
+
+pub returns : goal.returns
+returns c = after_more _ _ _ c.requires c.next_row-here.ensures

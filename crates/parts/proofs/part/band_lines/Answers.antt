@@ -1,0 +1,23 @@
+use borrow.Author.Rules.{rules}
+use native.Mathlib.Omega.{arith}
+use Rattle.parts.proofs.Parts.{row-height_few, drawable}
+use Rattle.parts.proofs.Bands.{band-none, band-some}
+use Rattle.parts.proofs.part.band_lines.Goals as goal
+
+pub returns-then-here-eq0 : goal.returns-then-here-eq0
+returns-then-here-eq0 c = band-none _ _ _ c.if-here-eq0.true
+
+pub row_lines-requires : goal.row_lines-requires
+row_lines-requires c = drawable _ _ _ c.requires.0 _ c.requires.1 (omega (arith, c.if-here-eq0.false))
+
+pub overflow_add-result : goal.overflow_add-result
+overflow_add-result c =
+    omega (
+      arith,
+      row-height_few _ _ c.requires.1 (omega (arith, c.if-here-eq0.false)),
+      c.row_lines.ensures,
+      c.where_drawn.ensures.1,
+    )
+
+pub returns : goal.returns
+returns c = band-some _ _ _ _ _ c.if-here-eq0.false c.row_lines.ensures c.where_drawn.ensures.0

@@ -1,0 +1,5 @@
+use borrow.Author.Rules.{rules}
+use Rattle.parts.proofs.part.body_style.Goals as goal
+
+pub returns : goal.returns
+returns c = rw c.both.ensures
