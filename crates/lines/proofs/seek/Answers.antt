@@ -1,0 +1,51 @@
+use borrow.Author.Rules.{rules}
+use borrow.Author.Tests.{not-true, not-false}
+use native.Mathlib.Omega.{arith}
+use mathlib.Core.Path.{sym, ◌∙◌}
+use Rattle.parts.specs.Ahead.{steps_of}
+use Rattle.parts.proofs.Bands.{lines_few}
+use Rattle.lines.proofs.Walks.{Reaching, reaching_begins, reaching_found, reaching-on, reaching_ends}
+use Rattle.lines.proofs.seek.Goals as goal
+
+pub loop-p-init : goal.loop-p-init
+loop-p-init c =
+    reaching_begins c.args.sheet.now c.args.columns.now c.args.p c.requires c.args.k _
+    c.first-c.ensures
+
+pub lines-n-requires : goal.lines-n-requires
+lines-n-requires c = (c.requires, c.loop-p.invariant.at.rows)
+
+pub further-cursor-requires : goal.further-cursor-requires
+further-cursor-requires c =
+    omega (
+      arith,
+      c.if-left-n.true,
+      c.lines-n.ensures,
+      c.loop-p.invariant.start,
+      lines_few c.args.sheet.now c.args.columns.now c.args.p
+          c.requires c.loop-p.c c.loop-p.invariant.at.rows,
+    )
+
+pub returns-then-left-n : goal.returns-then-left-n
+returns-then-left-n c =
+    reaching_found _ _ c.args.k c.loop-p.c c.loop-p.left c.loop-p.invariant _
+    c.lines-n.ensures c.if-left-n.true _ c.further-cursor.ensures
+
+pub next-c-requires : goal.next-c-requires
+next-c-requires c = c.loop-p.invariant.at.rows
+
+pub loop-p-smaller : goal.loop-p-smaller
+loop-p-smaller c = c.next-c.ensures.fewer (sym c.is_end.ensures ∙ not-true c.is_end.result c.loop-p-test.true)
+
+pub loop-p-preserved : goal.loop-p-preserved
+loop-p-preserved c =
+    reaching-on _ _ c.args.k c.loop-p.c c.loop-p.left c.loop-p.invariant _
+    c.lines-n.ensures c.if-left-n.false _ c.next-c.ensures
+
+pub overflow_sub-result : goal.overflow_sub-result
+overflow_sub-result c = c.loop-p.invariant.within
+
+pub returns : goal.returns
+returns c =
+    reaching_ends _ _ c.args.k c.loop-p.c c.loop-p.left
+    c.loop-p.invariant (sym c.is_end.ensures ∙ not-false c.is_end.result c.loop-p-test.false)
