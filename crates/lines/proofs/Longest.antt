@@ -64,7 +64,7 @@ module _ (s : List ℕ) (cols : List (List ℕ)) (p : Page) (O : Opened s cols p
     by-line a b e =
         record {
           longest = L.line ∙ sym (longest-line (table_of s) optional (widths_in s) (rows_in s p.rows) (sym top_as ∙ a) (sym bottom_as ∙ b) (some (length (lines_of s p)) refl));
-          small = L.Line-small;
+          small = L.line_small;
         }
       where
         some : (n : ℕ) → length (lines_of s p) ≡ n → 0 < n

@@ -32,7 +32,7 @@ pub next-c-requires : goal.next-c-requires
 next-c-requires c = c.loop-p.invariant.at.rows
 
 pub loop-p-smaller : goal.loop-p-smaller
-loop-p-smaller c = c.next-c.ensures.fewer (sym c.is_end.ensures ∙ not-true c.is_end.result c.loop-p-test.true)
+loop-p-smaller c = c.next-c.ensures.fewer (sym c.is_end.ensures ∙ c.loop-p-test.true)
 
 pub loop-p-preserved : goal.loop-p-preserved
 loop-p-preserved c = counting-on _ _ c.loop-p.c _ _ c.loop-p.invariant _ _ c.lines-n.ensures c.bytes-more.ensures _ c.next-c.ensures
@@ -40,4 +40,4 @@ loop-p-preserved c = counting-on _ _ c.loop-p.c _ _ c.loop-p.invariant _ _ c.lin
 pub returns : goal.returns
 returns c =
     counting_done _ _ c.loop-p.c _ _ c.loop-p.invariant
-    (sym c.is_end.ensures ∙ not-false c.is_end.result c.loop-p-test.false)
+    (sym c.is_end.ensures ∙ c.loop-p-test.false)

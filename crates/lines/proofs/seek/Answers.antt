@@ -35,7 +35,7 @@ pub next-c-requires : goal.next-c-requires
 next-c-requires c = c.loop-p.invariant.at.rows
 
 pub loop-p-smaller : goal.loop-p-smaller
-loop-p-smaller c = c.next-c.ensures.fewer (sym c.is_end.ensures ∙ not-true c.is_end.result c.loop-p-test.true)
+loop-p-smaller c = c.next-c.ensures.fewer (sym c.is_end.ensures ∙ c.loop-p-test.true)
 
 pub loop-p-preserved : goal.loop-p-preserved
 loop-p-preserved c =
@@ -48,4 +48,4 @@ overflow_sub-result c = c.loop-p.invariant.within
 pub returns : goal.returns
 returns c =
     reaching_ends _ _ c.args.k c.loop-p.c c.loop-p.left
-    c.loop-p.invariant (sym c.is_end.ensures ∙ not-false c.is_end.result c.loop-p-test.false)
+    c.loop-p.invariant (sym c.is_end.ensures ∙ c.loop-p-test.false)

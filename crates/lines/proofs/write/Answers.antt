@@ -75,8 +75,7 @@ next-c-requires c = c.loop-p.invariant.stands.rows
 
 pub loop-p-smaller : goal.loop-p-smaller
 loop-p-smaller c =
-    c.next-c.ensures.fewer (sym c.is_end.ensures ∙ not-true c.is_end.result
-    c.loop-p-test.true)
+    c.next-c.ensures.fewer (sym c.is_end.ensures ∙ c.loop-p-test.true)
 
 pub loop-p-preserved : goal.loop-p-preserved
 loop-p-preserved c =
@@ -92,4 +91,4 @@ shape_of-page c =
 pub returns : goal.returns
 returns c =
     filling_done c.args.sheet.now c.args.p c.args.from c.args.page.now c.loop-p.page c.loop-p.c c.loop-p.lines
-    c.loop-p.bytes c.loop-p.invariant (sym c.is_end.ensures ∙ not-false c.is_end.result c.loop-p-test.false)
+    c.loop-p.bytes c.loop-p.invariant (sym c.is_end.ensures ∙ c.loop-p-test.false)
