@@ -14,11 +14,10 @@ pub line-line-requires : goal.line-line-requires
 line-line-requires c = (c.loop-c-test.true, c.loop-c.invariant.known.inside)
 
 pub longer-longest-requires : goal.longer-longest-requires
-longer-longest-requires c =
-    (
-      saves-some _ _ _ c.saves_too_little.ensures c.if-saves_too_little.false,
-      line_sound _ _ _ _ c.loop-c-test.true c.line-line.ensures c.loop-c.invariant.known,
-    )
+longer-longest-requires c = (
+  saves-some _ _ _ c.saves_too_little.ensures c.if-saves_too_little.false,
+  line_sound _ _ _ _ c.loop-c-test.true c.line-line.ensures c.loop-c.invariant.known,
+)
 
 pub next_line-c-requires : goal.next_line-c-requires
 next_line-c-requires c = (c.loop-c-test.true, c.loop-c.invariant.known.inside)

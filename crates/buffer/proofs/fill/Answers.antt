@@ -9,7 +9,11 @@ use Rattle.buffer.proofs.Laws.{put_store, put-nil, put_one}
 use Rattle.buffer.proofs.fill.Goals as goal
 
 pub returns-then-n-eq1 : goal.returns-then-n-eq1
-returns-then-n-eq1 c = record { value = omega arith; dst_after = put_one c.args.dst.now c.args.at c.args.b (omega arith) ∙ ap (λ (k : ℕ). put_at c.args.dst.now c.args.at (replicate k c.args.b)) (sym c.if-n-eq1.true) }
+returns-then-n-eq1 c =
+    record {
+      value = omega arith;
+      dst_after = put_one c.args.dst.now c.args.at c.args.b (omega arith) ∙ ap (λ (k : ℕ). put_at c.args.dst.now c.args.at (replicate k c.args.b)) (sym c.if-n-eq1.true);
+    }
 
 pub loop-i-init : goal.loop-i-init
 loop-i-init c = (omega arith, sym (put-nil _ _), refl)

@@ -15,11 +15,10 @@ first_part-part-requires c =
     (h.0, (h.1, rw c.line-text.ensures (first_known _ _ _ c.loop-c-test.true c.loop-c.invariant.texts)))
 
 pub take_part-r-requires : goal.take_part-r-requires
-take_part-r-requires c =
-    (
-      head_in _ _ _ _ c.first_part-part.result c.first_part-part.ensures,
-      rw c.line-text.ensures (first_known _ _ _ c.loop-c-test.true c.loop-c.invariant.texts).plain,
-    )
+take_part-r-requires c = (
+  head_in _ _ _ _ c.first_part-part.result c.first_part-part.ensures,
+  rw c.line-text.ensures (first_known _ _ _ c.loop-c-test.true c.loop-c.invariant.texts).plain,
+)
 
 pub returns-then-r : goal.returns-then-r
 returns-then-r c =

@@ -28,7 +28,11 @@ returns-then-r c =
     c.if-r.true
 
 pub first_line-requires : goal.first_line-requires
-first_line-requires c = let n = c.next_line-others.ensures in record { lines_in_bounds = (omega (arith, n.ends, c.requires.0.ends), texts_next c.args.c.plain _ _ _ n c.requires.0.texts); width_nonzero = c.requires.1 }
+first_line-requires c = let n = c.next_line-others.ensures in
+    record {
+      lines_in_bounds = (omega (arith, n.ends, c.requires.0.ends), texts_next c.args.c.plain _ _ _ n c.requires.0.texts);
+      width_nonzero = c.requires.1;
+    }
 
 pub returns : goal.returns
 returns c =

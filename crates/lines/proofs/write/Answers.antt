@@ -25,11 +25,10 @@ slice_bounds-draw-start c =
     c.loop-p.bytes c.loop-p.invariant
 
 pub draw-drawn-requires : goal.draw-drawn-requires
-draw-drawn-requires c =
-    (
-      c.requires.0,
-      (c.loop-p.invariant.stands, c.measure-l.ensures),
-    )
+draw-drawn-requires c = (
+  c.requires.0,
+  (c.loop-p.invariant.stands, c.measure-l.ensures),
+)
 
 pub overflow_add-lines : goal.overflow_add-lines
 overflow_add-lines c =

@@ -13,7 +13,11 @@ use Rattle.page.proofs.print_line.Goals as goal
 pub returns-then-examined-ne0 : goal.returns-then-examined-ne0
 returns-then-examined-ne0 c =
     let e = line_refused _ _ (examined _ _ c.examine-examined.ensures) c.if-examined-ne0.true _
-    c.args.page.now in record { value = c.turned_down.ensures ∙ sym (ap (λ (w : Written). w.answer) e); page_after = sym (ap (λ (w : Written). w.buffer) e) }
+    c.args.page.now in
+    record {
+      value = c.turned_down.ensures ∙ sym (ap (λ (w : Written). w.answer) e);
+      page_after = sym (ap (λ (w : Written). w.buffer) e);
+    }
 
 pub open-p-requires : goal.open-p-requires
 open-p-requires c =
@@ -29,7 +33,11 @@ returns-then-found-ne0 c =
     c.if-examined-ne0.false in
     let e = line_turned _ h _ c.open-p.ensures.1 _
     c.args.page.now _
-    c.find-found.ensures c.if-found-ne0.true in record { value = c.turned_down-then-found-ne0.ensures ∙ sym (ap (λ (w : Written). w.answer) e); page_after = sym (ap (λ (w : Written). w.buffer) e) }
+    c.find-found.ensures c.if-found-ne0.true in
+    record {
+      value = c.turned_down-then-found-ne0.ensures ∙ sym (ap (λ (w : Written). w.answer) e);
+      page_after = sym (ap (λ (w : Written). w.buffer) e);
+    }
 
 pub slice_bounds-write-end : goal.slice_bounds-write-end
 slice_bounds-write-end c =

@@ -9,7 +9,11 @@ use Rattle.page.proofs.print_lines.Goals as goal
 pub returns-then-examined-ne0 : goal.returns-then-examined-ne0
 returns-then-examined-ne0 c =
     let e = lines_refused _ _ (examined _ _ c.examine-examined.ensures) c.if-examined-ne0.true _
-    c.args.page.now in record { value = c.no_lines.ensures ∙ sym (ap (λ (w : Several). w.answer) e); page_after = sym (ap (λ (w : Several). w.buffer) e) }
+    c.args.page.now in
+    record {
+      value = c.no_lines.ensures ∙ sym (ap (λ (w : Several). w.answer) e);
+      page_after = sym (ap (λ (w : Several). w.buffer) e);
+    }
 
 pub open-p-requires : goal.open-p-requires
 open-p-requires c =
@@ -25,7 +29,11 @@ returns-then-found-ne0 c =
     c.if-examined-ne0.false in
     let e = lines_turned _ h _ c.open-p.ensures.1 _
     c.args.page.now _
-    c.find-found.ensures c.if-found-ne0.true in record { value = c.no_lines-then-found-ne0.ensures ∙ sym (ap (λ (w : Several). w.answer) e); page_after = sym (ap (λ (w : Several). w.buffer) e) }
+    c.find-found.ensures c.if-found-ne0.true in
+    record {
+      value = c.no_lines-then-found-ne0.ensures ∙ sym (ap (λ (w : Several). w.answer) e);
+      page_after = sym (ap (λ (w : Several). w.buffer) e);
+    }
 
 pub write-wrote-requires : goal.write-wrote-requires
 write-wrote-requires c =
@@ -61,4 +69,8 @@ returns c =
     let o = c.open-p.ensures in
     let f = c.find-found.ensures in
     let e = lines-answer _ h _ o.1 _ c.args.page.now _ f c.if-found-ne0.false _
-    c.write-wrote.result c.write-wrote.ensures in record { value = sym (ap (λ (w : Several). w.answer) e); page_after = sym (ap (λ (w : Several). w.buffer) e) }
+    c.write-wrote.result c.write-wrote.ensures in
+    record {
+      value = sym (ap (λ (w : Several). w.answer) e);
+      page_after = sym (ap (λ (w : Several). w.buffer) e);
+    }

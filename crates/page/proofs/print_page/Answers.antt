@@ -10,7 +10,11 @@ use Rattle.page.proofs.print_page.Goals as goal
 pub returns-then-examined-ne0 : goal.returns-then-examined-ne0
 returns-then-examined-ne0 c =
     let e = page_refused _ _ (examined _ _ c.examine-examined.ensures) c.if-examined-ne0.true
-    c.args.page.now in record { value = c.turned_down.ensures ∙ sym (ap (λ (w : Written). w.answer) e); page_after = sym (ap (λ (w : Written). w.buffer) e) }
+    c.args.page.now in
+    record {
+      value = c.turned_down.ensures ∙ sym (ap (λ (w : Written). w.answer) e);
+      page_after = sym (ap (λ (w : Written). w.buffer) e);
+    }
 
 pub open-p-requires : goal.open-p-requires
 open-p-requires c =
@@ -26,7 +30,11 @@ returns-then-page-totals c =
     c.if-examined-ne0.false in
     let t = count-all _ h _ c.open-p.ensures.1 _ c.count-totals.ensures in
     let e = page_short _ h c.args.page.now _
-    t.1 c.if-page-totals.true in record { value = c.turned_down-then-page-totals.ensures ∙ sym (ap (λ (w : Written). w.answer) e); page_after = sym (ap (λ (w : Written). w.buffer) e) }
+    t.1 c.if-page-totals.true in
+    record {
+      value = c.turned_down-then-page-totals.ensures ∙ sym (ap (λ (w : Written). w.answer) e);
+      page_after = sym (ap (λ (w : Written). w.buffer) e);
+    }
 
 pub write-wrote-requires : goal.write-wrote-requires
 write-wrote-requires c =
@@ -49,4 +57,8 @@ returns c =
     let t = count-all _ h _ o.1 _ c.count-totals.ensures in
     let e = page-written _ h _ o.1 c.args.page.now _ c.write-wrote.result (first-ahead _ _ _ o.0)
     (rw c.first.ensures at c.write-wrote.ensures)
-    (omega (arith, t.1, c.if-page-totals.false)) in record { value = sym (ap (λ (x : Written). x.answer) e); page_after = sym (ap (λ (x : Written). x.buffer) e) }
+    (omega (arith, t.1, c.if-page-totals.false)) in
+    record {
+      value = sym (ap (λ (x : Written). x.answer) e);
+      page_after = sym (ap (λ (x : Written). x.buffer) e);
+    }

@@ -30,14 +30,17 @@ skip_cells-left-requires c = c.loop-i.invariant.passing.ends
 
 pub open_cell-t-requires : goal.open_cell-t-requires
 open_cell-t-requires c =
-    record { width_nonzero = cell-wide c.args.sheet.now c.args.columns.now c.args.count c.requires.rising.0 c.requires.rising.1.0
+    record {
+      width_nonzero = cell-wide c.args.sheet.now c.args.columns.now c.args.count c.requires.rising.0 c.requires.rising.1.0
           (cells_in c.args.sheet.now c.args.cells) c.loop-i.left c.loop-i.passed c.loop-i.i c.loop-i-test.true _
-          c.column_from-v.ensures; cells_in_bounds = (
+          c.column_from-v.ensures;
+      cells_in_bounds = (
         omega (arith, c.skip_cells-left.ensures.ends, c.loop-i.invariant.passing.ends),
         known-here c.args.sheet.now c.args.columns.now c.args.count c.requires.rising.0 c.requires.rising.1.0
             (cells_in c.args.sheet.now c.args.cells) c.loop-i.left c.loop-i.passed c.loop-i.i c.loop-i-test.true _
             c.column_from-v.ensures c.args.plain c.requires.cells_in_bounds.1 c.loop-i.invariant.passing _ c.skip_cells-left.ensures.cells,
-      ) }
+      );
+    }
 
 pub offset_bounds-state-i : goal.offset_bounds-state-i
 offset_bounds-state-i c = omega (arith, c.requires.rising.0.most)

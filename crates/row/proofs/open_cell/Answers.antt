@@ -16,14 +16,18 @@ returns-then-cells-eq0 c =
 pub first_line-first-requires : goal.first_line-first-requires
 first_line-first-requires c =
     let some : 0 < c.args.cells.left = omega (arith, c.if-cells-eq0.false) in
-    let k = cell_known c.args.plain c.args.sheet.now c.args.cells some c.requires.cells_in_bounds.1 in record { lines_in_bounds = (
+    let k = cell_known c.args.plain c.args.sheet.now c.args.cells some c.requires.cells_in_bounds.1 in
+    record {
+      lines_in_bounds = (
         lines_inside c.args.sheet.now c.args.cells c.cell-x.result some c.requires.cells_in_bounds.0 c.cell-x.ensures,
         texts-here _ c.args.sheet.now c.args.cells c.cell-x.result c.cell-x.ensures k,
-      ); width_nonzero = (
+      );
+      width_nonzero = (
         c.requires.width_nonzero.0,
         delimiter-here _ c.args.sheet.now c.args.cells c.cell-x.result c.cell-x.ensures k c.args.v _ c.requires.width_nonzero.1
             c.or_else-delimiter.ensures,
-      ) }
+      );
+    }
 
 pub further-line-requires : goal.further-line-requires
 further-line-requires c =

@@ -12,13 +12,17 @@ returns-then-from-eq0 c = height-missing c.args.sheet.now c.args.from c.args.v c
 pub cell_height-requires : goal.cell_height-requires
 cell_height-requires c =
     let some : 0 < c.args.from.left = omega (arith, c.if-from-eq0.false) in
-    let k = cell_known c.args.plain c.args.sheet.now c.args.from some c.requires.from_in_bounds.1 in record { lines_in_bounds = (
+    let k = cell_known c.args.plain c.args.sheet.now c.args.from some c.requires.from_in_bounds.1 in
+    record {
+      lines_in_bounds = (
         lines_inside c.args.sheet.now c.args.from c.cell-x.result some c.requires.from_in_bounds.0 c.cell-x.ensures,
         texts-here _ c.args.sheet.now c.args.from c.cell-x.result c.cell-x.ensures k,
-      ); width_nonzero = (
+      );
+      width_nonzero = (
         c.requires.width_nonzero.0,
         delimiter-here _ c.args.sheet.now c.args.from c.cell-x.result c.cell-x.ensures k c.args.v _ c.requires.width_nonzero.1 c.or_else-delimiter.ensures,
-      ) }
+      );
+    }
 
 pub returns : goal.returns
 returns c =

@@ -28,14 +28,17 @@ skip_cells-left-requires c = c.loop-i.invariant.passing.ends
 
 pub open_height-lines-requires : goal.open_height-lines-requires
 open_height-lines-requires c =
-    record { width_nonzero = cell-wide c.args.sheet.now c.args.columns.now c.args.count c.requires.rising.0 c.requires.rising.1
+    record {
+      width_nonzero = cell-wide c.args.sheet.now c.args.columns.now c.args.count c.requires.rising.0 c.requires.rising.1
           (cells_in c.args.sheet.now c.args.from) c.loop-i.left c.loop-i.passed c.loop-i.i c.loop-i-test.true _
-          c.column_from-v.ensures; from_in_bounds = (
+          c.column_from-v.ensures;
+      from_in_bounds = (
         omega (arith, c.skip_cells-left.ensures.ends, c.loop-i.invariant.passing.ends),
         known-here c.args.sheet.now c.args.columns.now c.args.count c.requires.rising.0 c.requires.rising.1
             (cells_in c.args.sheet.now c.args.from) c.loop-i.left c.loop-i.passed c.loop-i.i c.loop-i-test.true _
             c.column_from-v.ensures c.args.plain c.requires.from_in_bounds.1 c.loop-i.invariant.passing _ c.skip_cells-left.ensures.cells,
-      ) }
+      );
+    }
 
 pub overflow_add-i : goal.overflow_add-i
 overflow_add-i c = omega (arith, c.requires.rising.0.most)

@@ -47,9 +47,17 @@ align_line-requires c =
     let x = shown_is c.args.sheet.now c.args.v.width c.args.t c.requires.in_sheet.0 _ c.line_at-text.ensures c.args.indicator c.requires.in_sheet.1 c.args.cut c.marks_shown-m.result
     c.marks_shown-m.ensures.0 c.marks_shown-m.ensures.1.1 c.marks_shown-m.ensures.1.0 c.shorten-shown.result c.shorten-shown.ensures in
     let y = shown_spare c.args.sheet.now c.args.v.width c.args.t c.requires.in_sheet.0 _ c.line_at-text.ensures c.args.indicator c.requires.in_sheet.1 c.args.cut c.marks_shown-m.result
-    c.marks_shown-m.ensures.0 c.marks_shown-m.ensures.1.1 c.marks_shown-m.ensures.1.0 c.shorten-shown.result c.shorten-shown.ensures in record { spare = rw x y; marks_in_bounds = rw x c.requires.t_in_bounds }
+    c.marks_shown-m.ensures.0 c.marks_shown-m.ensures.1.1 c.marks_shown-m.ensures.1.0 c.shorten-shown.result c.shorten-shown.ensures in
+    record {
+      spare = rw x y;
+      marks_in_bounds = rw x c.requires.t_in_bounds;
+    }
 
 pub returns : goal.returns
 returns c =
     let x = shown_is c.args.sheet.now c.args.v.width c.args.t c.requires.in_sheet.0 _ c.line_at-text.ensures c.args.indicator c.requires.in_sheet.1 c.args.cut c.marks_shown-m.result
-    c.marks_shown-m.ensures.0 c.marks_shown-m.ensures.1.1 c.marks_shown-m.ensures.1.0 c.shorten-shown.result c.shorten-shown.ensures in record { value = c.align_line.ensures.value ∙ ap (λ l. c.args.at + length (area_in c.args.v c.args.t.alignment l)) x; page_after = c.align_line.ensures.page_after ∙ ap (λ l. put_at c.args.page.now c.args.at (area_in c.args.v c.args.t.alignment l)) x }
+    c.marks_shown-m.ensures.0 c.marks_shown-m.ensures.1.1 c.marks_shown-m.ensures.1.0 c.shorten-shown.result c.shorten-shown.ensures in
+    record {
+      value = c.align_line.ensures.value ∙ ap (λ l. c.args.at + length (area_in c.args.v c.args.t.alignment l)) x;
+      page_after = c.align_line.ensures.page_after ∙ ap (λ l. put_at c.args.page.now c.args.at (area_in c.args.v c.args.t.alignment l)) x;
+    }

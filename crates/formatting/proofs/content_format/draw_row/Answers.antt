@@ -106,9 +106,13 @@ write_line-l-requires c =
     c.args.style (pendings_of c.args.plain c.loop-more.state) c.is_last-last.result)
     ≤ length c.loop-more.page - c.loop-more.at =
     elim c.if-room-most.branch [
-      then-room-most+else-not-fits w ↦ short_enough c.args.plain _ _ _ m.shown (sym w.fits_after_all-fits.ensures ∙ w.if-not-fits.false)
-    | else-room-most w ↦ omega (arith, w.if-room-most.false, c.most_bytes-most.ensures, m.most)
-    ] in record { ready_all = (m.ready, m.indicator); last_in_bounds = omega (arith, w, ap length (lent c.loop-more.page c.loop-more.at), length-drop c.loop-more.at c.loop-more.page) }
+      | then-room-most+else-not-fits w ↦ short_enough c.args.plain _ _ _ m.shown (sym w.fits_after_all-fits.ensures ∙ w.if-not-fits.false)
+      | else-room-most w ↦ omega (arith, w.if-room-most.false, c.most_bytes-most.ensures, m.most)
+    ] in
+    record {
+      ready_all = (m.ready, m.indicator);
+      last_in_bounds = omega (arith, w, ap length (lent c.loop-more.page c.loop-more.at), length-drop c.loop-more.at c.loop-more.page);
+    }
 
 pub overflow_add-at : goal.overflow_add-at
 overflow_add-at c =
@@ -122,8 +126,8 @@ overflow_add-at c =
     c.args.style (pendings_of c.args.plain c.loop-more.state) c.is_last-last.result)
     ≤ length c.loop-more.page - c.loop-more.at =
     elim c.if-room-most.branch [
-      then-room-most+else-not-fits w ↦ short_enough c.args.plain _ _ _ m.shown (sym w.fits_after_all-fits.ensures ∙ w.if-not-fits.false)
-    | else-room-most w ↦ omega (arith, w.if-room-most.false, c.most_bytes-most.ensures, m.most)
+      | then-room-most+else-not-fits w ↦ short_enough c.args.plain _ _ _ m.shown (sym w.fits_after_all-fits.ensures ∙ w.if-not-fits.false)
+      | else-room-most w ↦ omega (arith, w.if-room-most.false, c.most_bytes-most.ensures, m.most)
     ] in
     omega (
       arith,
@@ -160,8 +164,8 @@ loop-more-smaller c =
     c.args.style (pendings_of c.args.plain c.loop-more.state) c.is_last-last.result)
     ≤ length c.loop-more.page - c.loop-more.at =
     elim c.if-room-most.branch [
-      then-room-most+else-not-fits w ↦ short_enough c.args.plain _ _ _ m.shown (sym w.fits_after_all-fits.ensures ∙ w.if-not-fits.false)
-    | else-room-most w ↦ omega (arith, w.if-room-most.false, c.most_bytes-most.ensures, m.most)
+      | then-room-most+else-not-fits w ↦ short_enough c.args.plain _ _ _ m.shown (sym w.fits_after_all-fits.ensures ∙ w.if-not-fits.false)
+      | else-room-most w ↦ omega (arith, w.if-room-most.false, c.most_bytes-most.ensures, m.most)
     ] in
     omega (
       arith,
@@ -186,8 +190,8 @@ loop-more-preserved c =
     c.args.style (pendings_of c.args.plain c.loop-more.state) c.is_last-last.result)
     ≤ length c.loop-more.page - c.loop-more.at =
     elim c.if-room-most.branch [
-      then-room-most+else-not-fits w ↦ short_enough c.args.plain _ _ _ m.shown (sym w.fits_after_all-fits.ensures ∙ w.if-not-fits.false)
-    | else-room-most w ↦ omega (arith, w.if-room-most.false, c.most_bytes-most.ensures, m.most)
+      | then-room-most+else-not-fits w ↦ short_enough c.args.plain _ _ _ m.shown (sym w.fits_after_all-fits.ensures ∙ w.if-not-fits.false)
+      | else-room-most w ↦ omega (arith, w.if-room-most.false, c.most_bytes-most.ensures, m.most)
     ] in
     running-on c.args.sheet.now (view_of c.args.columns.now c.args.count) c.args.style q c.args.first c.requires.drawable.0.views c.args.page.now c.loop-more.page
     (pendings_of c.args.plain c.loop-more.state) c.loop-more.more c.loop-more.at c.loop-more.line c.loop-more.invariant t c.args.indicator c.requires.drawable.1 _ e.limit c.is_last-last.result

@@ -6,7 +6,11 @@ use Rattle.formatting.proofs.RowText.{enters}
 use Rattle.formatting.proofs.content_format.enter_row.Goals as goal
 
 pub format_row-found-requires : goal.format_row-found-requires
-format_row-found-requires c = let D = c.requires.0 in record { rising = (D.rising, (D.usable, c.requires.1)); cells_in_bounds = (cells_inside c.args.sheet.now c.args.here c.row-r.result D.some D.ends c.row-r.ensures, rw c.row-r.ensures.cells D.known) }
+format_row-found-requires c = let D = c.requires.0 in
+    record {
+      rising = (D.rising, (D.usable, c.requires.1));
+      cells_in_bounds = (cells_inside c.args.sheet.now c.args.here c.row-r.result D.some D.ends c.row-r.ensures, rw c.row-r.ensures.cells D.known);
+    }
 
 pub returns : goal.returns
 returns c =

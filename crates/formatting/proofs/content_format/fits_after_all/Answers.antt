@@ -11,7 +11,11 @@ pub overflow_add-line : goal.overflow_add-line
 overflow_add-line c = omega (arith, c.requires.1.1.0)
 
 pub row_shown-pairs-requires : goal.row_shown-pairs-requires
-row_shown-pairs-requires c = record { drawable = (c.requires.0, (c.requires.1.0, c.requires.0.short)); first_le_end = (omega arith, omega (arith, c.requires.1.1.0)) }
+row_shown-pairs-requires c =
+    record {
+      drawable = (c.requires.0, (c.requires.1.0, c.requires.0.short));
+      first_le_end = (omega arith, omega (arith, c.requires.1.1.0));
+    }
 
 pub overflow_add-result : goal.overflow_add-result
 overflow_add-result c = omega (arith, c.requires.1.1.1, c.row_shown-pairs.ensures.1, c.requires.0.views.most)

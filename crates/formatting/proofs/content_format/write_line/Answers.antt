@@ -36,7 +36,9 @@ bounds-state-i c = omega (arith, c.requires.ready_all.0.most)
 
 pub draw_column-d-requires : goal.draw_column-d-requires
 draw_column-d-requires c =
-    let h = c.loop-i-test.true in record { ready = column_fits c.args.sheet.now c.args.columns.now c.args.count c.args.indicator c.args.style c.args.plain c.args.state.now c.args.last c.draw_edge-at.new.dst c.draw_edge-at.result
+    let h = c.loop-i-test.true in
+    record {
+      ready = column_fits c.args.sheet.now c.args.columns.now c.args.count c.args.indicator c.args.style c.args.plain c.args.state.now c.args.last c.draw_edge-at.new.dst c.draw_edge-at.result
           c.requires.ready_all.0
           (omega (
             arith,
@@ -48,7 +50,8 @@ draw_column-d-requires c =
           )) c.loop-i.page c.loop-i.state
           c.loop-i.more c.loop-i.at c.loop-i.i c.loop-i.invariant h
           _ _ _ c.column_from-v.ensures c.pending_from-t.ensures
-          c.joins_before-joins.ensures c.requires.ready_all.1; last_in_bounds = column-room c.args.sheet.now c.args.columns.now c.args.count c.args.indicator c.args.style c.args.plain c.args.state.now c.args.last c.draw_edge-at.new.dst c.draw_edge-at.result
+          c.joins_before-joins.ensures c.requires.ready_all.1;
+      last_in_bounds = column-room c.args.sheet.now c.args.columns.now c.args.count c.args.indicator c.args.style c.args.plain c.args.state.now c.args.last c.draw_edge-at.new.dst c.draw_edge-at.result
           c.requires.ready_all.0
           (omega (
             arith,
@@ -60,7 +63,8 @@ draw_column-d-requires c =
           )) c.loop-i.page c.loop-i.state
           c.loop-i.more c.loop-i.at c.loop-i.i c.loop-i.invariant h
           _ _ _ c.column_from-v.ensures c.pending_from-t.ensures
-          c.joins_before-joins.ensures }
+          c.joins_before-joins.ensures;
+    }
 
 pub repack_pending-z-requires : goal.repack_pending-z-requires
 repack_pending-z-requires c =
@@ -174,8 +178,13 @@ returns c =
     (pendings_of c.args.plain c.args.state.now) c.args.last in
     let D = drawing_done c.args.sheet.now (view_of c.args.columns.now c.args.count) (take c.args.indicator.count c.args.indicator.characters) c.args.style
     (pendings_of c.args.plain c.args.state.now) c.args.last c.draw_edge-at.new.dst c.draw_edge-at.result c.requires.ready_all.0 c.loop-i.page (pendings_of c.args.plain c.loop-i.state) c.loop-i.more c.loop-i.at c.loop-i.i
-    c.loop-i.invariant c.loop-i-test.false in record { written = omega (arith, D.place, c.draw_edge-at.ensures.value, c.draw_edge-e.ensures.value, z); after_all = passing_done c.args.sheet.now (view_of c.args.columns.now c.args.count) (pendings_of c.args.plain c.args.state.now) (pendings_of c.args.plain c.loop-i.state) c.loop-i.more c.loop-i.i
-            c.loop-i-test.false c.loop-i.invariant.passing; page_after = line_whole c.args.sheet.now (view_of c.args.columns.now c.args.count) (take c.args.indicator.count c.args.indicator.characters) c.args.style
-            (pendings_of c.args.plain c.args.state.now) c.args.last c.args.page.now c.draw_edge-at.new.dst c.loop-i.page c.draw_edge-e.new.dst c.draw_edge-at.result c.loop-i.at c.draw_edge-e.result
-            c.draw_edge-at.ensures.dst_after D.text c.draw_edge-e.ensures.dst_after (omega (arith, c.draw_edge-at.ensures.value)) (sym D.place) (sym c.draw_edge-e.ensures.value)
-            (omega (arith, D.place, D.size, c.requires.last_in_bounds, c.draw_edge-at.ensures.value, c.draw_edge-at.auto.dst, c.draw_edge-e.ensures.value, c.draw_edge-e.auto.dst, z)) }
+    c.loop-i.invariant c.loop-i-test.false in
+    record {
+      written = omega (arith, D.place, c.draw_edge-at.ensures.value, c.draw_edge-e.ensures.value, z);
+      after_all = passing_done c.args.sheet.now (view_of c.args.columns.now c.args.count) (pendings_of c.args.plain c.args.state.now) (pendings_of c.args.plain c.loop-i.state) c.loop-i.more c.loop-i.i
+          c.loop-i-test.false c.loop-i.invariant.passing;
+      page_after = line_whole c.args.sheet.now (view_of c.args.columns.now c.args.count) (take c.args.indicator.count c.args.indicator.characters) c.args.style
+          (pendings_of c.args.plain c.args.state.now) c.args.last c.args.page.now c.draw_edge-at.new.dst c.loop-i.page c.draw_edge-e.new.dst c.draw_edge-at.result c.loop-i.at c.draw_edge-e.result
+          c.draw_edge-at.ensures.dst_after D.text c.draw_edge-e.ensures.dst_after (omega (arith, c.draw_edge-at.ensures.value)) (sym D.place) (sym c.draw_edge-e.ensures.value)
+          (omega (arith, D.place, D.size, c.requires.last_in_bounds, c.draw_edge-at.ensures.value, c.draw_edge-at.auto.dst, c.draw_edge-e.ensures.value, c.draw_edge-e.auto.dst, z));
+    }

@@ -35,17 +35,21 @@ skip_cells-left-requires c = c.loop-i.invariant.passing.ends
 
 pub cell_shown-more-requires : goal.cell_shown-more-requires
 cell_shown-more-requires c =
-    record { width_nonzero = (
+    record {
+      width_nonzero = (
         cell-wide c.args.sheet.now c.args.columns.now c.args.count c.requires.drawable.0.rising c.requires.drawable.0.usable
             (cells_in c.args.sheet.now c.row-r.result.cells) c.loop-i.left c.loop-i.passed c.loop-i.i c.loop-i-test.true _
             c.column_from-v.ensures,
         c.requires.drawable.1,
-      ); cells_in_bounds = (
-          omega (arith, c.skip_cells-left.ensures.ends, c.loop-i.invariant.passing.ends),
-          known-here c.args.sheet.now c.args.columns.now c.args.count c.requires.drawable.0.rising c.requires.drawable.0.usable
-              (cells_in c.args.sheet.now c.row-r.result.cells) c.loop-i.left c.loop-i.passed c.loop-i.i c.loop-i-test.true _
-              c.column_from-v.ensures c.args.plain (rw c.row-r.ensures.cells c.requires.drawable.0.known) c.loop-i.invariant.passing _ c.skip_cells-left.ensures.cells,
-        ); first_le_end = c.requires.first_le_end }
+      );
+      cells_in_bounds = (
+        omega (arith, c.skip_cells-left.ensures.ends, c.loop-i.invariant.passing.ends),
+        known-here c.args.sheet.now c.args.columns.now c.args.count c.requires.drawable.0.rising c.requires.drawable.0.usable
+            (cells_in c.args.sheet.now c.row-r.result.cells) c.loop-i.left c.loop-i.passed c.loop-i.i c.loop-i-test.true _
+            c.column_from-v.ensures c.args.plain (rw c.row-r.ensures.cells c.requires.drawable.0.known) c.loop-i.invariant.passing _ c.skip_cells-left.ensures.cells,
+      );
+      first_le_end = c.requires.first_le_end;
+    }
 
 pub overflow_add-sum : goal.overflow_add-sum
 overflow_add-sum c = omega (arith, c.requires.drawable.0.rising.most, c.loop-i.invariant.small, c.loop-i.invariant.passing.within, c.cell_shown-more.ensures.1)

@@ -66,9 +66,8 @@ loop-i-preserved c =
     )
 
 pub returns : goal.returns
-returns c =
-    (
-      width_done (view_of c.args.columns.now c.args.count) c.loop-i.i
-          c.args.count c.loop-i.sum c.loop-i.invariant.0 c.loop-i-test.false c.loop-i.invariant.1.0,
-      omega (arith, c.loop-i.invariant.0, c.loop-i.invariant.1.1),
-    )
+returns c = (
+  width_done (view_of c.args.columns.now c.args.count) c.loop-i.i
+      c.args.count c.loop-i.sum c.loop-i.invariant.0 c.loop-i-test.false c.loop-i.invariant.1.0,
+  omega (arith, c.loop-i.invariant.0, c.loop-i.invariant.1.1),
+)

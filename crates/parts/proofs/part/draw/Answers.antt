@@ -22,7 +22,11 @@ overflow_add-l-in-Header c =
     )
 
 pub draw_band-requires : goal.draw_band-requires
-draw_band-requires c = record { opened = (c.requires.0, (c.requires.0.header_at, header_sized c.args.sheet.now c.args.columns.now c.args.p c.requires.0 c.args.l c.requires.1.1)); first_in_bounds = header-within c.args.sheet.now c.args.columns.now c.args.p c.requires.0 c.args.c c.requires.1.0 c.in-Header.is }
+draw_band-requires c =
+    record {
+      opened = (c.requires.0, (c.requires.0.header_at, header_sized c.args.sheet.now c.args.columns.now c.args.p c.requires.0 c.args.l c.requires.1.1));
+      first_in_bounds = header-within c.args.sheet.now c.args.columns.now c.args.p c.requires.0 c.args.c c.requires.1.0 c.in-Header.is;
+    }
 
 pub overflow_add-l-in-Body : goal.overflow_add-l-in-Body
 overflow_add-l-in-Body c =
@@ -33,15 +37,18 @@ overflow_add-l-in-Body c =
 
 pub draw_band-requires-in-Body : goal.draw_band-requires-in-Body
 draw_band-requires-in-Body c =
-    record { opened = (
+    record {
+      opened = (
         c.requires.0,
         (
           c.requires.1.0.rows,
           body_sized c.args.sheet.now c.args.columns.now c.args.p c.requires.0 c.args.l c.requires.1.1 c.args.c.here
               c.body_style.result c.requires.1.0.rows c.body_style.ensures,
         ),
-      ); first_in_bounds = body-within c.args.sheet.now c.args.columns.now c.args.p c.requires.0 c.args.c c.requires.1.0 c.body_style.result
-          c.in-Body.is c.body_style.ensures }
+      );
+      first_in_bounds = body-within c.args.sheet.now c.args.columns.now c.args.p c.requires.0 c.args.c c.requires.1.0 c.body_style.result
+          c.in-Body.is c.body_style.ensures;
+    }
 
 pub overflow_add-l-in-Bottom : goal.overflow_add-l-in-Bottom
 overflow_add-l-in-Bottom c =

@@ -22,7 +22,11 @@ pub draw_row-text-requires : goal.draw_row-text-requires
 draw_row-text-requires c =
     let O = c.requires.opened.0 in
     let B = c.requires.opened.1 in
-    let some : 0 < c.args.here.left = omega (arith, c.if-here-eq0.false) in record { drawable = (drawable c.args.sheet.now c.args.columns.now c.args.p O c.args.here B.0 some, O.marks); sized = band_sized c.args.sheet.now (view_of c.args.columns.now c.args.p.count) c.args.style c.args.here _ _ B.1 some }
+    let some : 0 < c.args.here.left = omega (arith, c.if-here-eq0.false) in
+    record {
+      drawable = (drawable c.args.sheet.now c.args.columns.now c.args.p O c.args.here B.0 some, O.marks);
+      sized = band_sized c.args.sheet.now (view_of c.args.columns.now c.args.p.count) c.args.style c.args.here _ _ B.1 some;
+    }
 
 pub returns-then-not-text : goal.returns-then-not-text
 returns-then-not-text c =

@@ -17,8 +17,11 @@ returns-then-page-size c =
 
 pub draw_line-bytes-requires : goal.draw_line-bytes-requires
 draw_line-bytes-requires c =
-    record { narrow_all = c.requires.0; style_in_bounds = rule-room (view_of c.args.columns.now c.args.count) c.args.style c.args.page.now c.args.size c.requires.1
-          c.if-page-size.false }
+    record {
+      narrow_all = c.requires.0;
+      style_in_bounds = rule-room (view_of c.args.columns.now c.args.count) c.args.style c.args.page.now c.args.size c.requires.1
+          c.if-page-size.false;
+    }
 
 pub returns : goal.returns
 returns c =

@@ -4,7 +4,11 @@ use Rattle.parts.proofs.Bands.{row-lines_are}
 use Rattle.parts.proofs.part.row_lines.Goals as goal
 
 pub row_height-most-requires : goal.row_height-most-requires
-row_height-most-requires c = record { rising = (c.requires.rising, c.requires.usable); from_in_bounds = (cells_inside c.args.sheet.now c.args.here c.row-r.result c.requires.some c.requires.ends c.row-r.ensures, rw c.row-r.ensures.cells c.requires.known) }
+row_height-most-requires c =
+    record {
+      rising = (c.requires.rising, c.requires.usable);
+      from_in_bounds = (cells_inside c.args.sheet.now c.args.here c.row-r.result c.requires.some c.requires.ends c.row-r.ensures, rw c.row-r.ensures.cells c.requires.known);
+    }
 
 pub returns : goal.returns
 returns c =

@@ -40,8 +40,7 @@ overflow_mul-result-then-r-eq0 c =
 
 pub row_pairs-requires : goal.row_pairs-requires
 row_pairs-requires c =
-    let some : 0 < c.args.here.left = omega (arith, c.if-here-eq0.false) in
-    (
+    let some : 0 < c.args.here.left = omega (arith, c.if-here-eq0.false) in (
       c.requires.opened.0.rising,
       (
         cells_inside c.args.sheet.now c.args.here c.row-r.result some c.requires.opened.1.0.ends c.row-r.ensures,
@@ -78,10 +77,13 @@ overflow_mul-result-2 c =
 
 pub row_shown-requires : goal.row_shown-requires
 row_shown-requires c =
-    let some : 0 < c.args.here.left = omega (arith, c.if-here-eq0.false) in record { drawable = (
+    let some : 0 < c.args.here.left = omega (arith, c.if-here-eq0.false) in
+    record {
+      drawable = (
         drawable c.args.sheet.now c.args.columns.now c.args.p c.requires.opened.0 c.args.here c.requires.opened.1.0 some,
         (c.requires.opened.0.marks.indicator, accepted_short c.args.sheet.now c.requires.opened.0.passes),
-      ); first_le_end = (
+      );
+      first_le_end = (
         omega arith,
         omega (
           arith,
@@ -89,7 +91,8 @@ row_shown-requires c =
           bytes_few c.args.sheet.now (view_of c.args.columns.now c.args.p.count) c.args.style c.args.here c.args.p.plain
               c.args.size c.requires.opened.1.1 some,
         ),
-      ) }
+      );
+    }
 
 pub overflow_add-result-2 : goal.overflow_add-result-2
 overflow_add-result-2 c =

@@ -23,10 +23,13 @@ overflow_add-n c =
 
 pub row_shown-pairs-requires : goal.row_shown-pairs-requires
 row_shown-pairs-requires c =
-    let some = band_there c.args.sheet.now (view_of c.args.columns.now c.args.p.count) c.args.style c.args.here c.args.n c.requires.n_in_bounds in record { drawable = (
+    let some = band_there c.args.sheet.now (view_of c.args.columns.now c.args.p.count) c.args.style c.args.here c.args.n c.requires.n_in_bounds in
+    record {
+      drawable = (
         drawable c.args.sheet.now c.args.columns.now c.args.p c.requires.opened.0 c.args.here c.requires.opened.1.0 some,
         (c.requires.opened.0.marks.indicator, accepted_short c.args.sheet.now c.requires.opened.0.passes),
-      ); first_le_end = (
+      );
+      first_le_end = (
         omega arith,
         omega (
           arith,
@@ -34,7 +37,8 @@ row_shown-pairs-requires c =
           bytes_few c.args.sheet.now (view_of c.args.columns.now c.args.p.count) c.args.style c.args.here c.args.p.plain
               c.args.size c.requires.opened.1.1 some,
         ),
-      ) }
+      );
+    }
 
 pub overflow_add-result : goal.overflow_add-result
 overflow_add-result c =

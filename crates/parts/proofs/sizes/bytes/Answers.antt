@@ -8,17 +8,24 @@ pub overflow_mul-result : goal.overflow_mul-result
 overflow_mul-result c = omega (arith, top-most c.args.sheet.now c.args.columns.now c.args.p c.requires.opened.0 c.args.c c.args.l c.requires.opened.1.1 c.args.n c.requires.counted c.in-Top.is)
 
 pub band_bytes-requires : goal.band_bytes-requires
-band_bytes-requires c = record { opened = (c.requires.opened.0, (c.requires.opened.0.header_at, header_sized c.args.sheet.now c.args.columns.now c.args.p c.requires.opened.0 c.args.l c.requires.opened.1.1)); counted = header-here c.args.sheet.now c.args.columns.now c.args.p c.requires.opened.0 c.args.c c.in-Header.is c.args.n c.requires.counted }
+band_bytes-requires c =
+    record {
+      opened = (c.requires.opened.0, (c.requires.opened.0.header_at, header_sized c.args.sheet.now c.args.columns.now c.args.p c.requires.opened.0 c.args.l c.requires.opened.1.1));
+      counted = header-here c.args.sheet.now c.args.columns.now c.args.p c.requires.opened.0 c.args.c c.in-Header.is c.args.n c.requires.counted;
+    }
 
 pub band_bytes-requires-in-Body : goal.band_bytes-requires-in-Body
 band_bytes-requires-in-Body c =
-    record { opened = (
+    record {
+      opened = (
         c.requires.opened.0,
         (
           c.requires.opened.1.0,
           body_sized c.args.sheet.now c.args.columns.now c.args.p c.requires.opened.0 c.args.l c.requires.opened.1.1 c.args.c.here c.body_style.result c.requires.opened.1.0 c.body_style.ensures,
         ),
-      ); counted = body-here c.args.sheet.now c.args.columns.now c.args.p c.requires.opened.0 c.args.c c.body_style.result c.in-Body.is c.body_style.ensures c.args.n c.requires.counted }
+      );
+      counted = body-here c.args.sheet.now c.args.columns.now c.args.p c.requires.opened.0 c.args.c c.body_style.result c.in-Body.is c.body_style.ensures c.args.n c.requires.counted;
+    }
 
 pub overflow_mul-result-in-Bottom : goal.overflow_mul-result-in-Bottom
 overflow_mul-result-in-Bottom c = omega (arith, bottom-most c.args.sheet.now c.args.columns.now c.args.p c.requires.opened.0 c.args.c c.args.l c.requires.opened.1.1 c.args.n c.requires.counted c.in-Bottom.is)

@@ -11,21 +11,28 @@ pub overflow_add-l : goal.overflow_add-l
 overflow_add-l c = omega (arith, c.requires.opened.1.1.line_small)
 
 pub band_line-requires : goal.band_line-requires
-band_line-requires c = record { opened = (c.requires.opened.0, (c.requires.opened.0.header_at, header_sized c.args.sheet.now c.args.columns.now c.args.p c.requires.opened.0 c.args.l c.requires.opened.1.1)); n_in_bounds = header_there c.args.sheet.now c.args.columns.now c.args.p c.requires.opened.0 c.args.c c.requires.line_in_bounds c.in-Header.is }
+band_line-requires c =
+    record {
+      opened = (c.requires.opened.0, (c.requires.opened.0.header_at, header_sized c.args.sheet.now c.args.columns.now c.args.p c.requires.opened.0 c.args.l c.requires.opened.1.1));
+      n_in_bounds = header_there c.args.sheet.now c.args.columns.now c.args.p c.requires.opened.0 c.args.c c.requires.line_in_bounds c.in-Header.is;
+    }
 
 pub overflow_add-l-in-Body : goal.overflow_add-l-in-Body
 overflow_add-l-in-Body c = omega (arith, c.requires.opened.1.1.line_small)
 
 pub band_line-requires-in-Body : goal.band_line-requires-in-Body
 band_line-requires-in-Body c =
-    record { opened = (
+    record {
+      opened = (
         c.requires.opened.0,
         (
           c.requires.opened.1.0.rows,
           body_sized c.args.sheet.now c.args.columns.now c.args.p c.requires.opened.0 c.args.l c.requires.opened.1.1 c.args.c.here c.body_style.result c.requires.opened.1.0.rows
               c.body_style.ensures,
         ),
-      ); n_in_bounds = body_there c.args.sheet.now c.args.columns.now c.args.p c.requires.opened.0 c.args.c c.requires.line_in_bounds c.body_style.result c.in-Body.is c.body_style.ensures }
+      );
+      n_in_bounds = body_there c.args.sheet.now c.args.columns.now c.args.p c.requires.opened.0 c.args.c c.requires.line_in_bounds c.body_style.result c.in-Body.is c.body_style.ensures;
+    }
 
 pub overflow_add-result-in-Bottom : goal.overflow_add-result-in-Bottom
 overflow_add-result-in-Bottom c = omega (arith, c.requires.opened.1.1.border_small)

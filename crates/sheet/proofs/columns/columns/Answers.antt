@@ -16,5 +16,8 @@ loop-i-preserved c = items-again _ _ _ _ _ _ c.loop-i-test.true c.loop-i.invaria
 
 pub returns : goal.returns
 returns c =
-    record { next = items_done _ _ _ _ _ c.loop-i-test.false c.loop-i.invariant ∙ counted_whole _ _ _ _ _ _ _ c.byte_between-count.ensures.next
-          c.byte_between-count.ensures.value; value = c.byte_between-count.ensures.value }
+    record {
+      next = items_done _ _ _ _ _ c.loop-i-test.false c.loop-i.invariant ∙ counted_whole _ _ _ _ _ _ _ c.byte_between-count.ensures.next
+          c.byte_between-count.ensures.value;
+      value = c.byte_between-count.ensures.value;
+    }

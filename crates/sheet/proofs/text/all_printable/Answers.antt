@@ -20,15 +20,14 @@ pub loop-i-smaller : goal.loop-i-smaller
 loop-i-smaller c = omega (arith, c.loop-i-test.true)
 
 pub loop-i-preserved : goal.loop-i-preserved
-loop-i-preserved c =
-    (
-      omega (arith, c.loop-i.invariant.0),
-      (
-        omega (arith, c.loop-i-test.true),
-        printables-on c.args.sheet.now c.args.start c.loop-i.i c.loop-i.all _
-            c.loop-i.invariant.0 c.loop-i.invariant.1.1 c.still_printable-all.ensures,
-      ),
-    )
+loop-i-preserved c = (
+  omega (arith, c.loop-i.invariant.0),
+  (
+    omega (arith, c.loop-i-test.true),
+    printables-on c.args.sheet.now c.args.start c.loop-i.i c.loop-i.all _
+        c.loop-i.invariant.0 c.loop-i.invariant.1.1 c.still_printable-all.ensures,
+  ),
+)
 
 pub returns : goal.returns
 returns c =

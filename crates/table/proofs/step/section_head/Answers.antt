@@ -15,8 +15,7 @@ overflow_add-result c =
     omega arith
 
 pub returns : goal.returns
-returns c =
-    (
-      section-headed _ _ _ c.requires.0 _ c.requires.1.0 c.requires.1.1.0 c.requires.1.1.1.0 c.requires.1.1.1.1 c.size-rows.ensures.0,
-      omega arith,
-    )
+returns c = (
+  section-headed _ _ _ c.requires.0 _ c.requires.1.0 c.requires.1.1.0 c.requires.1.1.1.0 c.requires.1.1.1.1 c.size-rows.ensures.0,
+  omega arith,
+)

@@ -26,11 +26,10 @@ line_end-p-requires c =
     omega (arith, c.loop-i.invariant.1)
 
 pub loop-i-preserved : goal.loop-i-preserved
-loop-i-preserved c =
-    (
-      passing-again _ _ _ _ _ _ c.loop-i-test.true c.loop-i.invariant.0 c.line_end-p.ensures,
-      c.loop-i.invariant.1,
-    )
+loop-i-preserved c = (
+  passing-again _ _ _ _ _ _ c.loop-i-test.true c.loop-i.invariant.0 c.line_end-p.ensures,
+  c.loop-i.invariant.1,
+)
 
 pub returns : goal.returns
 returns c = passing_done _ _ _ _ _ c.loop-i-test.false c.loop-i.invariant.0

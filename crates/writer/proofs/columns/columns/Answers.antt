@@ -23,8 +23,11 @@ loop-left-preserved c =
 
 pub returns : goal.returns
 returns c =
-    record { sheet_after = counted-walked column _ [] _ _ _ _ _ _ c.byte_between-count.ensures.sheet_after c.byte_between-count.ensures.value
-          (left_done column _ [] _ _ _ _ _ _ c.loop-left-test.false c.loop-left.invariant refl c.still-left.ensures); value = c.byte_between-count.ensures.value }
+    record {
+      sheet_after = counted-walked column _ [] _ _ _ _ _ _ c.byte_between-count.ensures.sheet_after c.byte_between-count.ensures.value
+          (left_done column _ [] _ _ _ _ _ _ c.loop-left-test.false c.loop-left.invariant refl c.still-left.ensures);
+      value = c.byte_between-count.ensures.value;
+    }
 
 pub shape_of-sheet : goal.shape_of-sheet
 shape_of-sheet c = kept-length (counted 0 most_columns column) _ [] _ _ _ _ (returns c).sheet_after
