@@ -104,7 +104,7 @@ enum {
 enum {
     CAGWONI_LONGEST_SHEET = 32768,
     CAGWONI_MOST_COLUMNS = 12,
-    /* A buffer of this size takes any line, its 0A included: the bound that is proved (`longestLine` in
+    /* A buffer of this size takes any line, its 0A included: the bound that is proved (`longest_line` in
      * crates/rules/specs/Limits.antt, and 1), 950 bytes a column of which up to 100 are the second ones of pairs. */
     CAGWONI_LONGEST_LINE = 11401
 };

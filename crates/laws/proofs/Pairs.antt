@@ -3,7 +3,7 @@ use Prim.Native.Nat.{ℕ, zero, suc, ◌+◌, ◌<◌}
 use mathlib.Core.Path.{◌≡◌, refl}
 use mathlib.Core.Logic.{◌≢◌}
 use mathlib.Core.List.{List, [], ◌∷◌, ◌++◌, map}
-use mathlib.Core.Bool.{Bool, true, false, not, ◌||◌}
+use mathlib.Core.Bool.{Bool, true, false, not}
 use native.Mathlib.Omega.{arith}
 use lib.ListN.{length, replicate}
 use lib.Dec.{eqb}
@@ -13,7 +13,7 @@ use Rattle.rules.specs.Sheet.{Row, Table, no_width, all_rows}
 use Rattle.rules.specs.Field.{got}
 use Rattle.rules.specs.Format.{sheet, written}
 use Rattle.rules.specs.Style.{top_border, header_lines, header_rule, content_lines, row_rule, glyph_at, glyph, is_visible}
-use Rattle.rules.specs.Widths.{visible, first, contents}
+use Rattle.rules.specs.Widths.{visible, contents}
 use Rattle.rules.specs.Page.{height, page}
 use Rattle.rules.specs.Words.{lines_of, characters, letters}
 use Rattle.rules.specs.Demand3.{Comparable, Agree}

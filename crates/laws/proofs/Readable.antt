@@ -13,7 +13,7 @@ use Rattle.rules.specs.Sheet.{Row, Table, no_row, all_rows, column_at, cell_at}
 use Rattle.rules.specs.Limits.{IsText, CellLimits, RowLimits, TableLimits}
 use Rattle.rules.specs.Wrap.{delimiter_of}
 use Rattle.rules.specs.Widths.{visible, contents}
-use Rattle.rules.specs.Page.{areas, visible_width, visible_widths, closed, page_lines, page}
+use Rattle.rules.specs.Page.{visible_width, visible_widths, closed, page_lines, page}
 use Rattle.rules.specs.Words.{Readable, Accepted, wrote, Answered, row_at, column_of, widths_of, lines_of, area_of, is_delimiter, left_out}
 use Rattle.rules.specs.Demand3.{Agree, SameText, Comparable, Demand3}
 use Rattle.laws.proofs.Lists.{all_imp, all_append, all_default, all_right, all_places, get_d_map, map_below}

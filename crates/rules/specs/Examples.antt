@@ -8,8 +8,8 @@ use Rattle.rules.specs.Text.{text_width, flat}
 use Rattle.rules.specs.Field.{Read, got, refused, printable}
 use Rattle.rules.specs.Description.{text, reads}
 use Rattle.rules.specs.Format.{line, sheet, written}
-use Rattle.rules.specs.Wrap.{place, wrap_line, cut_line}
-use Rattle.rules.specs.Widths.{longest, borders, width_of, first, split_at_average, share, contents}
+use Rattle.rules.specs.Wrap.{wrap_line, cut_line}
+use Rattle.rules.specs.Widths.{longest, borders, width_of, split_at_average, share, contents}
 use Rattle.rules.specs.CellLines.{in_column, lines_of_cells, cell_lines, longest_of}
 use Rattle.rules.specs.Style.{row_rule}
 use Rattle.rules.specs.Page.{area, ruled, page}

@@ -1,6 +1,6 @@
 -- `buffer::draw_edge` meets its contract. Assumes nothing.
 use Rattle.std.proofs.Common.{arith}
-use Rattle.buffer.proofs.Laws.{edge-one, edge-put, edge_none, edge_skip}
+use Rattle.buffer.proofs.Laws.{edge-one, edge-put, edge_skip}
 use Rattle.buffer.proofs.draw_edge.Goals as goal
 
 pub returns-then-drawn-clause-dst_after : goal.returns-then-drawn-clause-dst_after

@@ -1,9 +1,8 @@
 use mathlib.Core.Path.{◌≡◌, refl, sym, ap, ◌∙◌}
 use mathlib.Core.List.{List}
-use Prim.Native.Nat.{ℕ, ◌+◌, ◌-◌, ◌≤◌}
+use Prim.Native.Nat.{ℕ, ◌+◌}
 use native.Mathlib.Omega.{arith}
-use lib.ListN.{length, set, length-set, replicate, length-replicate, replicate-append-replicate}
-use borrow.Author.Rules.{rules}
+use lib.ListN.{set, length-set, replicate, length-replicate, replicate-append-replicate}
 use Rattle.buffer.specs.Put.{put_at}
 use Rattle.buffer.proofs.Laws.{put_store, put-nil, put_one}
 use Rattle.buffer.proofs.fill.Goals as goal

@@ -1,5 +1,4 @@
 use Rattle.buffer.proofs.Laws.{lead-some}
-use borrow.Author.Rules.{rules}
 use Rattle.buffer.proofs.joins_before.Goals as goal
 
 pub returns : goal.returns

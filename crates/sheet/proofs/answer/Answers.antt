@@ -1,6 +1,5 @@
 -- `sheet::answer` meets its contract. Assumes nothing.
 use Rattle.sheet.proofs.Cases.{cases}
-use borrow.Author.Rules.{rules}
 use Rattle.sheet.proofs.answer.Goals as goal
 
 pub returns-in-At : goal.returns-in-At

@@ -1,5 +1,4 @@
 -- `sheet::check` meets its contract. Assumes nothing.
-use borrow.Author.Rules.{rules}
 use Rattle.sheet.proofs.Sections.{check-parts}
 use Rattle.sheet.proofs.check.Goals as goal
 

@@ -1,7 +1,6 @@
 -- `sheet::ended` meets its contract. Assumes nothing.
 use Rattle.sheet.proofs.Fields.{read_stopped}
 use Rattle.sheet.proofs.Sections.{ended_more, ended-all}
-use borrow.Author.Rules.{rules}
 use Rattle.sheet.proofs.ended.Goals as goal
 
 pub returns-in_default : goal.returns-in_default

@@ -1,7 +1,6 @@
 -- `sheet::reading` meets its contract. Assumes nothing.
 use mathlib.Core.Path.{sym}
 use native.Mathlib.Omega.{arith}
-use borrow.Author.Rules.{rules}
 use Rattle.sheet.proofs.Sections.{reading_long, reading_short}
 use Rattle.sheet.proofs.reading.Goals as goal
 

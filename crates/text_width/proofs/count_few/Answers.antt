@@ -1,8 +1,4 @@
-use borrow.Author.Rules.{rules}
 use native.Mathlib.Omega.{arith}
-use Prim.Native.Nat.{◌+◌, ◌-◌, ◌≤◌}
-use mathlib.Core.Path.{◌≡◌}
-use Rattle.text_width.specs.Measure.{col}
 use Rattle.text_width.proofs.Measure.{counted-on, counted-all}
 use Rattle.text_width.proofs.count_few.Goals as goal
 

@@ -1,9 +1,6 @@
-use borrow.Author.Rules.{rules}
-use native.Mathlib.Omega.{arith}
 use Prim.Native.Nat.{◌+◌, ◌-◌, ◌≤◌}
 use mathlib.Core.Path.{◌≡◌}
 use Rattle.text_width.specs.Measure.{col}
-use Rattle.text_width.proofs.Measure.{counted-on, counted-all}
 use Rattle.text_width.proofs.count_few.Given as goal
 
 abbrev pub invariant-loop-i : goal.invariant-loop-i

@@ -1,9 +1,5 @@
 use borrow.Author.Rules.{rules}
 use native.Mathlib.Omega.{arith}
-use Prim.Native.Nat.{◌+◌, ◌-◌, ◌≤◌}
-use mathlib.Core.Path.{◌≡◌}
-use lib.ListN.{length}
-use Rattle.text_width.specs.Measure.{col}
 use Rattle.text_width.proofs.Measure.{walked_on, walked_there, walked_out}
 use Rattle.text_width.proofs.walk.Goals as goal
 

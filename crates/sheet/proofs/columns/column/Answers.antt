@@ -1,7 +1,6 @@
 -- `sheet::columns::column` meets its contract. Assumes nothing.
 use mathlib.Core.Path.{sym}
 use Rattle.sheet.proofs.Sections.{column-after}
-use borrow.Author.Rules.{rules}
 use Rattle.sheet.proofs.columns.column.Goals as goal
 
 pub returns : goal.returns

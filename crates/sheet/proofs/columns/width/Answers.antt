@@ -1,7 +1,6 @@
 -- `sheet::columns::width` meets its contract. Assumes nothing.
 use mathlib.Core.Path.{sym}
 use Rattle.sheet.proofs.Sections.{width_used, width_unused}
-use borrow.Author.Rules.{rules}
 use Rattle.sheet.proofs.columns.width.Goals as goal
 
 pub returns-then-used : goal.returns-then-used

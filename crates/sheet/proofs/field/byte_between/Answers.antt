@@ -1,5 +1,4 @@
 -- `sheet::field::byte_between` meets its contract. Assumes nothing.
-use borrow.Author.Rules.{rules}
 use Rattle.sheet.proofs.Fields.{fields}
 use Rattle.sheet.proofs.field.byte_between.Goals as goal
 

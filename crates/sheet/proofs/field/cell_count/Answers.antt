@@ -1,6 +1,5 @@
 -- `sheet::field::cell_count` meets its contract. Assumes nothing.
 use Rattle.sheet.proofs.Fields.{count_few, count_stopped, count-over}
-use borrow.Author.Rules.{rules}
 use Rattle.sheet.proofs.field.cell_count.Goals as goal
 
 pub returns-then-value-columns : goal.returns-then-value-columns

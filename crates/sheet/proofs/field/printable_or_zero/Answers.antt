@@ -1,5 +1,4 @@
 -- `sheet::field::printable_or_zero` meets its contract. Assumes nothing.
-use borrow.Author.Rules.{rules}
 use Rattle.sheet.proofs.Fields.{fields}
 use Rattle.sheet.proofs.field.printable_or_zero.Goals as goal
 

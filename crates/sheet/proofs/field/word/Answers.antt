@@ -1,5 +1,4 @@
 -- `sheet::field::word` meets its contract. Assumes nothing.
-use borrow.Author.Rules.{rules}
 use native.Mathlib.Omega.{arith}
 use Rattle.sheet.proofs.Fields.{fields, word_high, word_good}
 use Rattle.sheet.proofs.field.word.Goals as goal

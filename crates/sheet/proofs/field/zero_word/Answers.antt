@@ -1,5 +1,4 @@
 -- `sheet::field::zero_word` meets its contract. Assumes nothing.
-use borrow.Author.Rules.{rules}
 use Rattle.sheet.proofs.Fields.{fields}
 use Rattle.sheet.proofs.field.zero_word.Goals as goal
 

@@ -1,7 +1,6 @@
 -- `sheet::rows::cell` meets its contract. Assumes nothing.
 use mathlib.Core.Path.{sym}
 use Rattle.sheet.proofs.Sections.{cell-after}
-use borrow.Author.Rules.{rules}
 use Rattle.sheet.proofs.rows.cell.Goals as goal
 
 pub returns : goal.returns

@@ -1,11 +1,8 @@
 -- `sheet::rows::cells` meets its contract. The loop: what is left to read from here comes to what there was to read. Assumes nothing.
-use Prim.Native.Nat.{◌-◌}
 use mathlib.Core.Path.{◌∙◌}
 use borrow.Author.Rules.{rules}
-use Rattle.rules.specs.Format.{cell_by}
-use Rattle.rules.specs.Steps.{after, times}
-use Rattle.sheet.specs.Steps.{line_of, cells_after}
-use Rattle.sheet.proofs.Loops.{Items, items_begin, items-again, items_done}
+use Rattle.sheet.specs.Steps.{cells_after}
+use Rattle.sheet.proofs.Loops.{items_begin, items-again, items_done}
 use Rattle.sheet.proofs.rows.cells.Goals as goal
 
 pub cell_count-count-requires : goal.cell_count-count-requires

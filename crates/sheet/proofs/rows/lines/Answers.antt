@@ -1,10 +1,6 @@
 -- `sheet::rows::lines` meets its contract. The loop: what is left to read from here comes to what there was to read. Assumes nothing.
-use Prim.Native.Nat.{◌-◌}
 use mathlib.Core.Path.{◌∙◌}
-use borrow.Author.Rules.{rules}
-use Rattle.rules.specs.Steps.{after, times}
-use Rattle.sheet.specs.Steps.{line_of}
-use Rattle.sheet.proofs.Loops.{Items, items_begin, items-again, items_done}
+use Rattle.sheet.proofs.Loops.{items_begin, items-again, items_done}
 use Rattle.sheet.proofs.Sections.{counted_whole}
 use Rattle.sheet.proofs.rows.lines.Goals as goal
 

@@ -1,7 +1,6 @@
 -- `sheet::rows::row` meets its contract. Assumes nothing.
 use mathlib.Core.Path.{sym}
 use Rattle.sheet.proofs.Sections.{row-after}
-use borrow.Author.Rules.{rules}
 use Rattle.sheet.proofs.rows.row.Goals as goal
 
 pub returns : goal.returns

@@ -1,7 +1,6 @@
 -- `sheet::text::all_printable` meets its contract. The loop: the bytes before this one are all printable, or not. Assumes nothing.
 use native.Mathlib.Omega.{arith}
-use borrow.Author.Rules.{rules}
-use Prim.Native.Nat.{◌-◌, ◌≤◌}
+use Prim.Native.Nat.{◌-◌}
 use mathlib.Core.Path.{◌≡◌, ap, ◌∙◌}
 use Rattle.sheet.specs.Steps.{printables}
 use Rattle.sheet.proofs.Loops.{printables-none, printables-on}

@@ -1,10 +1,7 @@
 -- `sheet::text::all_printable` meets its contract. The loop: the bytes before this one are all printable, or not. Assumes nothing.
-use native.Mathlib.Omega.{arith}
-use borrow.Author.Rules.{rules}
 use Prim.Native.Nat.{◌-◌, ◌≤◌}
-use mathlib.Core.Path.{◌≡◌, ap, ◌∙◌}
+use mathlib.Core.Path.{◌≡◌}
 use Rattle.sheet.specs.Steps.{printables}
-use Rattle.sheet.proofs.Loops.{printables-none, printables-on}
 use Rattle.sheet.proofs.text.all_printable.Given as goal
 
 abbrev pub invariant-loop-i : goal.invariant-loop-i

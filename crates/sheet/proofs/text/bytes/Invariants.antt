@@ -1,11 +1,9 @@
 -- `sheet::text::bytes` meets its contract. The loop: what is left of the bytes comes to what all of them do. Assumes nothing.
 use Prim.Native.Nat.{◌-◌, min}
 use mathlib.Core.Path.{◌≡◌}
-use native.Mathlib.Omega.{arith}
-use borrow.Author.Rules.{rules}
 use lib.ListN.{length}
 use Rattle.sheet.specs.Steps.{bytes_from}
-use Rattle.sheet.proofs.Pairs.{Left, left_begin, left_bad, left_inside, left_next, left_refused, left_done}
+use Rattle.sheet.proofs.Pairs.{Left}
 use Rattle.sheet.proofs.text.bytes.Given as goal
 
 abbrev pub invariant-loop-i : goal.invariant-loop-i

@@ -1,6 +1,5 @@
 -- `sheet::text::characters` meets its contract. Assumes nothing.
 use native.Mathlib.Omega.{arith}
-use borrow.Author.Rules.{rules}
 use Rattle.sheet.proofs.text.characters.Goals as goal
 
 pub overflow_add-end : goal.overflow_add-end

@@ -1,5 +1,4 @@
 -- `sheet::text::line` meets its contract. Assumes nothing.
-use borrow.Author.Rules.{rules}
 use Rattle.sheet.proofs.Pairs.{line_stopped, line_whole, text-start}
 use Rattle.sheet.proofs.text.line.Goals as goal
 

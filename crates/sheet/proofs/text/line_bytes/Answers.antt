@@ -1,6 +1,5 @@
 -- `sheet::text::line_bytes` meets its contract. Assumes nothing.
 use Rattle.sheet.proofs.Pairs.{past_is, past_whole, past-rest}
-use borrow.Author.Rules.{rules}
 use Rattle.sheet.proofs.text.line_bytes.Goals as goal
 
 pub returns-then-end-i : goal.returns-then-end-i

@@ -1,7 +1,6 @@
 -- `sheet::text::next_bad` meets its contract. The loop: all bytes before this one are printable. Assumes nothing.
-use Prim.Native.Nat.{◌-◌, ◌≤◌}
 use native.Mathlib.Omega.{arith}
-use Rattle.sheet.proofs.Pairs.{Passed, passed_none, passed_on, bad-low, bad_high, bad-none}
+use Rattle.sheet.proofs.Pairs.{passed_none, passed_on, bad-low, bad_high, bad-none}
 use Rattle.sheet.proofs.text.next_bad.Goals as goal
 
 pub loop-i-init : goal.loop-i-init

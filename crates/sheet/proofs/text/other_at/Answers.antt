@@ -1,7 +1,6 @@
 -- `sheet::text::other_at` meets its contract. Assumes nothing.
 use Prim.Native.Nat.{◌+◌}
 use native.Mathlib.Omega.{arith}
-use borrow.Author.Rules.{rules}
 use Rattle.sheet.proofs.Pairs.{one_ended, one_bad, one-first, pair_begins}
 use Rattle.sheet.proofs.text.other_at.Goals as goal
 

@@ -1,6 +1,5 @@
 -- `sheet::text::pair_at` meets its contract. Assumes nothing.
 use native.Mathlib.Omega.{arith}
-use borrow.Author.Rules.{rules}
 use Rattle.sheet.proofs.Pairs.{pair-cut, pair_wrong, pair_good}
 use Rattle.sheet.proofs.text.pair_at.Goals as goal
 

@@ -1,4 +1,3 @@
-use borrow.Author.Rules.{rules}
 use Rattle.sheet.proofs.Loops.{past_all, past-none}
 use Rattle.sheet.proofs.text.past_printable.Goals as goal
 

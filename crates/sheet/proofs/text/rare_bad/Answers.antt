@@ -1,7 +1,6 @@
 -- `sheet::text::rare_bad` meets its contract. Assumes nothing.
 use mathlib.Core.Path.{sym, ◌∙◌}
 use native.Mathlib.Omega.{arith}
-use borrow.Author.Rules.{rules}
 use Rattle.sheet.proofs.Pairs.{bad-none}
 use Rattle.sheet.proofs.text.rare_bad.Goals as goal
 

@@ -1,4 +1,3 @@
-use borrow.Author.Rules.{rules}
 use Rattle.sheet.proofs.Loops.{still_so, no_more}
 use Rattle.sheet.proofs.text.still_printable.Goals as goal
 

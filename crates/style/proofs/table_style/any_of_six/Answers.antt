@@ -1,4 +1,3 @@
-use borrow.Author.Rules.{rules}
 use mathlib.Core.Path.{sym, ◌∙◌}
 use Rattle.style.proofs.Laws.{more_1, more_2, more_3}
 use Rattle.style.proofs.table_style.any_of_six.Goals as goal

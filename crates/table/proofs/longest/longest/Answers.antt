@@ -1,10 +1,7 @@
 -- `table::longest::longest` meets its contract. The loop: the steps so far. Assumes nothing.
-use borrow.Author.Rules.{rules}
 use native.Mathlib.Omega.{arith}
-use Prim.Native.Nat.{◌-◌}
-use lib.ListN.{length}
 use Rattle.table.proofs.Held.{room}
-use Rattle.table.proofs.Passes.{Passing, pass_begins, pass_inside, pass_asks, is-taken, is-ended, pass-column, pass-onward, pass-again, pass_done}
+use Rattle.table.proofs.Passes.{pass_begins, pass_inside, pass_asks, is-taken, is-ended, pass-column, pass-onward, pass-again, pass_done}
 use Rattle.table.proofs.longest.longest.Goals as goal
 
 pub bounds-sheet-header : goal.bounds-sheet-header

@@ -1,6 +1,5 @@
 -- `table::places::columns_place` meets its contract. Assumes nothing.
 use native.Mathlib.Omega.{arith}
-use borrow.Author.Rules.{rules}
 use Rattle.table.proofs.Held.{room}
 use Rattle.table.proofs.places.columns_place.Goals as goal
 

@@ -1,6 +1,5 @@
 -- `table::places::header_place` meets its contract. Assumes nothing.
 use native.Mathlib.Omega.{arith}
-use borrow.Author.Rules.{rules}
 use Rattle.table.proofs.Held.{room, header_at}
 use Rattle.table.proofs.places.header_place.Goals as goal
 

@@ -1,6 +1,5 @@
 -- `table::settings::column_at` meets its contract. Assumes nothing.
 use mathlib.Core.Path.{sym}
-use borrow.Author.Rules.{rules}
 use Rattle.laws.proofs.Stands.{column-here}
 use Rattle.table.proofs.settings.column_at.Goals as goal
 

@@ -1,14 +1,11 @@
 -- `table::settings::columns` meets its contract. The loop: the first i columns are copied, and the next one stands at `at`. Assumes nothing.
 use Prim.Native.Nat.{◌+◌, ◌-◌, ◌*◌, ◌≤◌}
 use mathlib.Core.Path.{◌≡◌}
-use native.Mathlib.Omega.{arith}
 use lib.ListN.{replicate}
-use borrow.Author.Rules.{rules}
 use Rattle.rules.specs.Sheet.{no_column, most_columns}
 use Rattle.rules.specs.Places.{byte_at, columns_place}
 use Rattle.table.specs.Held.{IsAccepted, table_of}
-use Rattle.table.proofs.Held.{room, columns_inside, columns_whole, column_copied}
-use Rattle.table.proofs.Copies.{Copied, copied_begin, copied-again}
+use Rattle.table.proofs.Copies.{Copied}
 use Rattle.table.proofs.settings.columns.Given as goal
 
 abbrev pub invariant-loop-i : goal.invariant-loop-i

@@ -1,14 +1,9 @@
 -- `table::settings::indicator` meets its contract. The loop: the first i characters are copied, and past them stand zeros. Assumes nothing.
 use Rattle.table.proofs.Held.{indicator_whole}
-use Prim.Native.Nat.{◌-◌, ◌≤◌}
-use mathlib.Core.Path.{◌≡◌, sym}
+use mathlib.Core.Path.{sym}
 use native.Mathlib.Omega.{arith}
-use lib.ListN.{replicate}
-use borrow.Author.Rules.{rules}
-use Rattle.rules.specs.Places.{byte_at, text_at}
-use Rattle.table.specs.Held.{IsAccepted}
 use Rattle.table.proofs.Held.{room, text_inside, character-at}
-use Rattle.table.proofs.Copies.{Copied, copied_begin, copied-again}
+use Rattle.table.proofs.Copies.{copied_begin, copied-again}
 use Rattle.table.proofs.settings.indicator.Goals as goal
 
 pub bounds-sheet-5 : goal.bounds-sheet-5

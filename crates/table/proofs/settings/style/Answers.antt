@@ -1,13 +1,7 @@
 -- `table::settings::style` meets its contract. The loop: the first i characters are copied. Assumes nothing.
-use Prim.Native.Nat.{◌+◌, ◌-◌, ◌≤◌}
-use mathlib.Core.Path.{◌≡◌}
 use native.Mathlib.Omega.{arith}
-use lib.ListN.{replicate}
-use borrow.Author.Rules.{rules}
-use Rattle.rules.specs.Places.{text_at, style_place}
-use Rattle.table.specs.Held.{IsAccepted}
 use Rattle.table.proofs.Held.{room, style_inside, style_whole, style_character}
-use Rattle.table.proofs.Copies.{Copied, copied_begin, copied-again}
+use Rattle.table.proofs.Copies.{copied_begin, copied-again}
 use Rattle.table.proofs.settings.style.Goals as goal
 
 pub overflow_add-first : goal.overflow_add-first

@@ -1,6 +1,5 @@
 -- `table::settings::width_at` meets its contract. Assumes nothing.
 use mathlib.Core.Path.{sym}
-use borrow.Author.Rules.{rules}
 use Rattle.laws.proofs.Stands.{width-here}
 use Rattle.table.proofs.settings.width_at.Goals as goal
 

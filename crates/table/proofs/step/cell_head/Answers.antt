@@ -1,5 +1,4 @@
 -- `table::step::cell_head` meets its contract. Assumes nothing.
-use borrow.Author.Rules.{rules}
 use native.Mathlib.Omega.{arith}
 use Rattle.table.proofs.Heads.{cell_room, cell-headed}
 use Rattle.table.proofs.step.cell_head.Goals as goal

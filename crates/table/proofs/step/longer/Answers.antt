@@ -1,5 +1,4 @@
 -- `table::step::longer` meets its contract: a line that can't be longer isn't counted. Assumes nothing.
-use borrow.Author.Rules.{rules}
 use native.Mathlib.Omega.{arith}
 use mathlib.Core.Bool.{false≢true}
 use Rattle.table.proofs.Heads.{line_shorter, line-counted}

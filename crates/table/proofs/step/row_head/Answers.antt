@@ -1,5 +1,4 @@
 -- `table::step::row_head` meets its contract. Assumes nothing.
-use borrow.Author.Rules.{rules}
 use native.Mathlib.Omega.{arith}
 use Rattle.table.proofs.Heads.{row_room, row-headed}
 use Rattle.table.proofs.step.row_head.Goals as goal

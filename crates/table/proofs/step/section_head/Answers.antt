@@ -1,5 +1,4 @@
 -- `table::step::section_head` meets its contract. Assumes nothing.
-use borrow.Author.Rules.{rules}
 use native.Mathlib.Omega.{arith}
 use Rattle.table.proofs.Heads.{section-room, section-headed}
 use Rattle.table.proofs.step.section_head.Goals as goal

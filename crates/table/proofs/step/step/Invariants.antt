@@ -1,11 +1,7 @@
 -- `table::step::step` meets its contract. The loop: the same lines are ahead after each head. Assumes nothing.
-use borrow.Author.Rules.{rules}
-use native.Mathlib.Omega.{arith}
-use Prim.Native.Nat.{◌-◌, ◌<◌}
-use mathlib.Core.Path.{sym, ◌∙◌}
+use Prim.Native.Nat.{◌-◌}
 use lib.ListN.{length}
 use Rattle.table.specs.Step.{ahead, Ready, SameAhead, AllNarrow}
-use Rattle.table.proofs.Heads.{same_begins, same-again, same_ready, same_inside, head-to, head_nothing, first_narrow, step-takes}
 use Rattle.table.proofs.step.step.Given as goal
 
 abbrev pub invariant-loop-p : goal.invariant-loop-p

@@ -1,5 +1,4 @@
 -- `table::step::take_line` meets its contract. Assumes nothing.
-use borrow.Author.Rules.{rules}
 use native.Mathlib.Omega.{arith}
 use Rattle.table.proofs.Heads.{line_bytes, line_taken}
 use Rattle.table.proofs.step.take_line.Goals as goal

@@ -2,7 +2,6 @@
 use Rattle.table.proofs.Walks.{cell_room, cell_is}
 use mathlib.Core.Path.{refl}
 use native.Mathlib.Omega.{arith}
-use borrow.Author.Rules.{rules}
 use Rattle.table.proofs.walk.cell.Goals as goal
 
 pub overflow_add-at : goal.overflow_add-at

@@ -1,11 +1,8 @@
 -- `table::walk::cell_end` meets its contract. The loop: the lines that are left end where the cell does. Assumes nothing.
-use Rattle.table.proofs.Walks.{Passing, cell_begin, passing-again, passing_done, passing_inside}
-use Rattle.laws.proofs.Stands.{cell-onward, lines-onward}
+use Rattle.table.proofs.Walks.{Passing}
 use Rattle.rules.specs.Places.{line_stop, cell_stop}
 use lib.ListN.{length}
 use Prim.Native.Nat.{◌-◌, ◌≤◌}
-use borrow.Author.Rules.{rules}
-use native.Mathlib.Omega.{arith}
 use Rattle.table.proofs.walk.cell_end.Given as goal
 
 abbrev pub invariant-loop-i : goal.invariant-loop-i

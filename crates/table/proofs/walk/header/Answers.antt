@@ -1,6 +1,5 @@
 -- `table::walk::header` meets its contract. Assumes nothing.
 use native.Mathlib.Omega.{arith}
-use borrow.Author.Rules.{rules}
 use Rattle.table.proofs.Held.{room}
 use Rattle.table.proofs.Walks.{header_is}
 use Rattle.table.proofs.walk.header.Goals as goal

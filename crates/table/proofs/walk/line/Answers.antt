@@ -1,7 +1,6 @@
 -- `table::walk::line` meets its contract. Assumes nothing.
 use Rattle.table.proofs.Walks.{line-room, line_is}
 use native.Mathlib.Omega.{arith}
-use borrow.Author.Rules.{rules}
 use Rattle.table.proofs.walk.line.Goals as goal
 
 pub overflow_add-start : goal.overflow_add-start

@@ -1,7 +1,6 @@
 -- `table::walk::next_cell` meets its contract. Assumes nothing.
 use Rattle.table.proofs.Walks.{cell_whole, cells_next}
 use Rattle.table.proofs.Walks.{cells_next}
-use borrow.Author.Rules.{rules}
 use Rattle.table.proofs.walk.next_cell.Goals as goal
 
 pub cell_end-at-requires : goal.cell_end-at-requires

@@ -1,7 +1,6 @@
 -- `table::walk::next_line` meets its contract. Assumes nothing.
 use Rattle.table.proofs.Walks.{line_whole, lines_next}
 use Rattle.table.proofs.Walks.{lines_next}
-use borrow.Author.Rules.{rules}
 use Rattle.table.proofs.walk.next_line.Goals as goal
 
 pub line_end-at-requires : goal.line_end-at-requires

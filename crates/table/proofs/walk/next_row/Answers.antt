@@ -1,6 +1,5 @@
 -- `table::walk::next_row` meets its contract. Assumes nothing.
 use Rattle.table.proofs.Walks.{row_whole, rows_next}
-use borrow.Author.Rules.{rules}
 use Rattle.table.proofs.walk.next_row.Goals as goal
 
 pub row_end-at-requires : goal.row_end-at-requires

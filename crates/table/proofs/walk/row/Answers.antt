@@ -1,7 +1,6 @@
 -- `table::walk::row` meets its contract. Assumes nothing.
 use Rattle.table.proofs.Walks.{row_room, row_is}
 use native.Mathlib.Omega.{arith}
-use borrow.Author.Rules.{rules}
 use Rattle.table.proofs.walk.row.Goals as goal
 
 pub bounds-sheet-at : goal.bounds-sheet-at

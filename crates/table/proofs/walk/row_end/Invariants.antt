@@ -1,11 +1,8 @@
 -- `table::walk::row_end` meets its contract. The loop: the cells that are left end where the row does. Assumes nothing.
-use Rattle.table.proofs.Walks.{Passing, row_begin, passing-again, passing_done, passing_inside}
-use Rattle.laws.proofs.Stands.{row-onward, cells-onward}
+use Rattle.table.proofs.Walks.{Passing}
 use Rattle.rules.specs.Places.{cell_stop, row_stop}
 use lib.ListN.{length}
 use Prim.Native.Nat.{◌-◌, ◌≤◌}
-use borrow.Author.Rules.{rules}
-use native.Mathlib.Omega.{arith}
 use Rattle.table.proofs.walk.row_end.Given as goal
 
 abbrev pub invariant-loop-i : goal.invariant-loop-i

@@ -2,11 +2,7 @@
 use Rattle.table.proofs.Walks.{rows_are, rows_none, rows-room}
 use Rattle.table.proofs.Walks.{rows_are, rows_none}
 use Rattle.table.proofs.Held.{room}
-use Rattle.table.specs.Walk.{rows_end}
-use Rattle.table.specs.Held.{IsAccepted}
-use Rattle.rules.specs.Places.{rows_place}
-use mathlib.Core.Path.{◌≡◌, sym, ◌∙◌}
-use borrow.Author.Rules.{rules}
+use mathlib.Core.Path.{sym, ◌∙◌}
 use native.Mathlib.Omega.{arith}
 use Rattle.table.proofs.walk.rows.Goals as goal
 

@@ -1,13 +1,8 @@
 -- `table::walk::rows` meets its contract. The loop: what is left of the header ends where the rows' count stands. Assumes nothing.
-use Rattle.table.proofs.Walks.{rows_are, rows_none, rows-room}
-use Rattle.table.proofs.Walks.{rows_are, rows_none}
-use Rattle.table.proofs.Held.{room}
 use Rattle.table.specs.Walk.{rows_end}
 use Rattle.table.specs.Held.{IsAccepted}
 use Rattle.rules.specs.Places.{rows_place}
-use mathlib.Core.Path.{◌≡◌, sym, ◌∙◌}
-use borrow.Author.Rules.{rules}
-use native.Mathlib.Omega.{arith}
+use mathlib.Core.Path.{◌≡◌}
 use Rattle.table.proofs.walk.rows.Given as goal
 
 abbrev pub invariant-loop-c : goal.invariant-loop-c

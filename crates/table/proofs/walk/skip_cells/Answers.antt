@@ -1,8 +1,7 @@
 -- `table::walk::skip_cells` meets its contract. Assumes nothing.
 use borrow.Author.Rules.{rules}
-use Prim.Native.Nat.{◌-◌}
 use native.Mathlib.Omega.{arith}
-use Rattle.table.proofs.Walks.{Skipping, skip_begins, skip-again, skip_short, skip_done}
+use Rattle.table.proofs.Walks.{skip_begins, skip-again, skip_short, skip_done}
 use Rattle.table.proofs.walk.skip_cells.Goals as goal
 
 pub loop-i-init : goal.loop-i-init

@@ -1,4 +1,3 @@
-use borrow.Author.Rules.{rules}
 use Rattle.style.proofs.table_style.LineStyle.is_visible.Goals as goal
 
 pub returns : goal.returns

@@ -1,4 +1,3 @@
-use borrow.Author.Rules.{rules}
 use Rattle.style.proofs.table_style.TableStyle.has_left_border.Goals as goal
 
 pub returns : goal.returns
