@@ -195,7 +195,7 @@ class AnotherLibrary(DeskTest):
         for command in ["print", "explain"]:
             done = self.sheets(command, root / "sheets/desk.sheet", root=root)
             self.assertEqual((done.returncode, done.stdout), (3, b""))
-            self.assertIn("no library at target/staticlib/libgateway.a: run `rt staticlib gateway` first", done.said)
+            self.assertIn("no library at target/staticlib/libgateway.a: run `tools/build gateway` first", done.said)
             wrong = self.sheets(command, self.file("colum"), root=root)
             self.assertIn("unknown word colum", wrong.said)
         for command, name in [("make", "desk.txt"), ("text", "desk.sheet")]:

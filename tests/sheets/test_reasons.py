@@ -156,7 +156,7 @@ class AnotherLibrary(DeskTest):
 
     def test_an_archive_from_before_reports(self):
         self.library(OTHER_LIBRARY.replace("CHECKED", "0, 0"))
-        said = "target/staticlib/libgateway.a is from before reports: run `rt staticlib gateway`"
+        said = "target/staticlib/libgateway.a is from before reports: run `tools/build gateway`"
         for words in [["reasons", DESK], ["reports"], ["review"]]:
             self.assertEqual(self.said(*words), (3, [said]))
         self.assertEqual(self.sheets("explain", DESK, root=self.root).returncode, 0)

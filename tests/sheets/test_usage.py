@@ -20,7 +20,7 @@ fetch_packages 2>"$folder/said"
 def scripts():
     """Every program file of the repository."""
     for folder, names, files in os.walk(ROOT):
-        names[:] = [name for name in names if name not in (".git", "target")]
+        names[:] = [name for name in names if name not in (".git", "target", "out")]
         for name in files:
             path = os.path.join(folder, name)
             if os.access(path, os.X_OK):
@@ -29,7 +29,7 @@ def scripts():
 
 class Usage(DeskTest):
     def test_scripts_are_found(self):
-        known = {".ci/run", "bench/run", "tests/c/run", "tests/sheets/run", "tools/differential/run", "tools/sheets"}
+        known = {".ci/run", "bench/run", "tests/c/run", "tests/sheets/run", "tools/build", "tools/differential/run", "tools/must-fail-report", "tools/sheets"}
         self.assertLessEqual(known, set(scripts()))
 
     def test_help(self):
@@ -50,7 +50,8 @@ class Usage(DeskTest):
     def test_more_bad_usage(self):
         for words in [["tools/differential/run", "print", "--by-readin"], ["tools/differential/run", "--rust"],
                       ["tools/differential/run"], ["tools/differential/run", "write", "--most"], ["bench/run", "--rust"], ["bench/run", "a", "b"],
-                      ["tests/c/run", "a", "b"], ["tests/sheets/run", "nothing"], [".ci/run", "fast"]]:
+                      ["tests/c/run", "a", "b"], ["tests/sheets/run", "nothing"], [".ci/run", "fast"], ["tools/build", "rules"],
+                      ["tools/build", "nothing"], ["tools/must-fail-report"], ["tools/must-fail-report", "--check"]]:
             with self.subTest(words=words):
                 done = self.run_in(ROOT, *words)
                 self.assertEqual((done.returncode, done.stdout), (2, b""))

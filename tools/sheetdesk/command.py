@@ -22,7 +22,7 @@ For the stored trial sheets in sheets/:
 
 print, explain and reasons take a sheet or a text form: NAME.txt is a text form, NAME.sheet a sheet, and any other file
 is a text form if its first byte is printable or white space. They, rewrite, reports and review ask the proved library,
-which `rt staticlib gateway` writes, and need gcc to link it. Columns, rows, cells, lines and characters are counted
+which `tools/build gateway` writes, and need gcc to link it. Columns, rows, cells, lines and characters are counted
 from 1; a place in a sheet, as in `refused 5 at 30`, is a byte counted from 0.
 
 A sheet of over 4,096 bytes isn't stored; build and check leave it out. COMMAND reads a sheet on standard input and

@@ -46,7 +46,7 @@ class Printed(ctypes.Structure):
 def link():
     """Links the archive anew if it isn't the one that was linked: a link has its archive's time."""
     if not ARCHIVE.exists():
-        what = f"no library at {ARCHIVE.relative_to(ROOT)}: run `rt staticlib gateway` first, in {ROOT}"
+        what = f"no library at {ARCHIVE.relative_to(ROOT)}: run `tools/build gateway` first, in {ROOT}"
         raise Missing(f"{what}\n(it proves the library and writes it, some minutes the first time)")
     made = ARCHIVE.stat()
     if SHARED.exists() and SHARED.stat().st_mtime_ns == made.st_mtime_ns:
@@ -93,7 +93,7 @@ class Library:
         try:
             call = self.calls.cagwoni_reasons
         except AttributeError:
-            raise Missing(f"{ARCHIVE.relative_to(ROOT)} is from before reports: run `rt staticlib gateway`") from None
+            raise Missing(f"{ARCHIVE.relative_to(ROOT)} is from before reports: run `tools/build gateway`") from None
         call.argtypes, call.restype = [ctypes.c_char_p, ctypes.c_size_t], Reasoned
         return call(sheet, len(sheet))
 
