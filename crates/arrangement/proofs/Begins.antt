@@ -18,7 +18,7 @@ use Rattle.rules.specs.Widths.{lifted, zeros, evaluate, noted, taken}
 use Rattle.laws.proofs.Lists.{get_d_map, get_d-up_from, length-up_from, keep_yes, keep_no}
 use Rattle.constraint.specs.declared.Layout.{Layout}
 use Rattle.constraint.specs.declared.State.{State}
-use Rattle.constraint.specs.Widths.{choose, in_order, column, longest, borders, bit, decided, fixed, taking, step, first, hide, evaluated, visible, set_width}
+use Rattle.constraint.specs.Widths.{choose, in_order, column, longest, borders, bit, decided, fixed, taking, step, first, hide, evaluated, set_width}
 use Rattle.constraint.proofs.Bits.{add-lt, count_add, bit-same, bit-other, zero_bit}
 use Rattle.arrangement.specs.Arrange.{begun, started, charged, remaining, targeted}
 use Rattle.arrangement.specs.Describes.{Describes}

@@ -19,7 +19,7 @@ use Rattle.laws.proofs.Lists.{keep_yes, keep_no}
 use Rattle.laws.proofs.Cases.{one_if-cond}
 use Rattle.constraint.specs.declared.Layout.{Layout}
 use Rattle.constraint.specs.declared.State.{State}
-use Rattle.constraint.specs.Widths.{choose, in_order, column, longest, counting, visible, borders, percent, value, valued, lower, upper, average, Rule}
+use Rattle.constraint.specs.Widths.{choose, in_order, column, counting, visible, borders, percent, value, valued, lower, upper, average, Rule}
 use Rattle.constraint.specs.Widths.{absolute, covered, first}
 use Rattle.arrangement.specs.Arrange.{trimmed, untargeted, lower_rule, capped, fit_rule, split_rule}
 use Rattle.arrangement.specs.Describes.{Describes}

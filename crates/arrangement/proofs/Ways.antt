@@ -15,7 +15,7 @@ use Rattle.style.specs.declared.column.ConstraintWidth.{ConstraintWidth}
 use Rattle.constraint.specs.declared.Bound.{Bound}
 use Rattle.constraint.specs.declared.Bound.TheVariants.{Unset, At}
 use Rattle.constraint.specs.declared.Offer.{Offer}
-use Rattle.constraint.specs.Widths.{column, longest, bound, offered, lower, upper, average, visible, bit, decided, pass}
+use Rattle.constraint.specs.Widths.{column, longest, bound, offered, lower, upper, average, visible, bit, pass}
 use Rattle.constraint.proofs.Cases.{if-true, if-false, if-eq, if_ne}
 use Rattle.arrangement.specs.Arrange.{trimmed, untargeted, charged, remaining, targeted, raised, lower_rule, capped, fit_rule, split_rule, fit_pass}
 use Rattle.arrangement.specs.Arrange.{begun, started, plainly, dynamic, arranged}

@@ -5,7 +5,7 @@ use Rattle.rules.specs.declared.Column.{Column}
 use Rattle.constraint.specs.declared.Layout.{Layout}
 use Rattle.constraint.specs.declared.State.{State}
 use Rattle.arrangement.specs.declared.dynamic.Course.{Course}
-use Rattle.constraint.specs.Widths.{choose, in_order, column, longest, visible, borders, lower, upper, average, set_width, bit, decided, Rule, pass}
+use Rattle.constraint.specs.Widths.{choose, in_order, column, longest, visible, borders, lower, upper, average, set_width, bit, Rule, pass}
 use Rattle.constraint.specs.Widths.{evaluated}
 use Rattle.sharing.specs.Share.{finished}
 use Rattle.rules.specs.Sheet.{most_columns, padding, is_hidden}

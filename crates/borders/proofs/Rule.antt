@@ -9,7 +9,7 @@ use Rattle.rules.specs.Sheet.{Table, column_at}
 use Rattle.rules.specs.Text.{up_from}
 use Rattle.rules.specs.Style.{glyph_at, glyph, any_left, any_right, any_junction}
 use Rattle.rules.specs.Widths.{visible}
-use Rattle.rules.specs.Page.{joined, line_of, ruled, visible_width, visible_widths}
+use Rattle.rules.specs.Page.{line_of, ruled, visible_width, visible_widths}
 use Rattle.buffer.specs.Put.{over, put_at, build, byte_if, lead}
 use Rattle.buffer.proofs.Laws.{put-nil, put_one, over-put-zero, build-room, build_more, two}
 use Rattle.row.specs.View.{View, visible_at, shown_of, number_of, Views}

@@ -1,5 +1,5 @@
 -- From what `split_line` ensures to what its callers say, by cases on its result. Assumes nothing.
-use Prim.Native.Nat.{ℕ, ◌-◌, max}
+use Prim.Native.Nat.{ℕ, max}
 use mathlib.Core.Path.{◌≡◌, subst}
 use mathlib.Core.List.{List, [], map}
 use native.Mathlib.Omega.{arith}

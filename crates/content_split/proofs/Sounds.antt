@@ -1,5 +1,5 @@
 -- Where characters begin: a text is sound with a printable delimiter, and so is what follows a part of it. Assumes nothing.
-use Prim.Native.Nat.{ℕ, ◌-◌}
+use Prim.Native.Nat.{ℕ}
 use mathlib.Core.Path.{◌≡◌}
 use mathlib.Core.List.{List}
 use mathlib.Core.Bool.{false}

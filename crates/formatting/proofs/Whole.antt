@@ -11,7 +11,7 @@ use Rattle.rules.specs.Text.{greatest, up_from, or_else}
 use Rattle.rules.specs.Sheet.{Row, Table, column_at, cell_at, no_cell}
 use Rattle.rules.specs.Style.{glyph_at, any_left, any_right, any_junction}
 use Rattle.rules.specs.Widths.{visible}
-use Rattle.rules.specs.Page.{area_at, cell_lines, wrapped, height, joined, line_of, text_line}
+use Rattle.rules.specs.Page.{area_at, cell_lines, wrapped, height, line_of, text_line}
 use Rattle.laws.proofs.Lists.{up_from-last}
 use Rattle.buffer.specs.Put.{build, byte_if, lead}
 use Rattle.row.specs.View.{View, visible_at, shown_of, number_of, Views}

@@ -6,11 +6,12 @@
 mod refusal;
 
 ghost use Rattle.std.specs.Prelude.{◌≡◌, ◌+◌, ◌≤◌, length};
-ghost use Rattle.io.specs.Counts.{IsPrefixLen};
+ghost use Rattle.stream.specs.Counts.{IsPrefixLen};
 ghost use Rattle.rules.specs.Limits.{longest_line};
 
 use parts::cursor;
 use rules::MOST_COLUMNS;
+use std::time::Clock;
 use stream::Progress;
 
 // Room for a sheet that is one byte too long, which is enough to refuse any longer one.
@@ -27,23 +28,28 @@ fn page_space() -> [u8; 65536]
     [0; 65536]
 }
 
-fn read_sheet(space: &mut [u8]) -> Progress
+fn read_sheet<R: Input + Clock, E: Print>(rt: &R, errors: &E, space: &mut [u8]) -> Progress
     ensures { IsPrefixLen result.done space.new }
 {
-    stream::read_all(space, b"print: the sheet can't be read")
+    stream::read_all(rt, errors, space, b"print: the sheet can't be read")
 }
 
-fn write_part(part: &[u8]) -> bool {
-    stream::write_text(part, b"print: the page is cut, its rest can't be written")
+fn write_part<R: Print + Clock, E: Print>(rt: &R, errors: &E, part: &[u8]) -> bool {
+    stream::write_text(
+        rt,
+        errors,
+        part,
+        b"print: the page is cut, its rest can't be written",
+    )
 }
 
 // Part after part, each from the line after the last one; ends where no more can be written.
-fn print(sheet: &[u8], space: &mut [u8])
+fn print<R: Print + Clock, E: Print>(rt: &R, errors: &E, sheet: &[u8], space: &mut [u8])
     requires { longest_line + 1 ≤ length space.old }
 {
     let examined = sheet::examine(sheet);
     if examined.number != 0 {
-        refusal::write_refusal(examined.number, examined.place);
+        refusal::write_refusal(rt, errors, examined.number, examined.place);
         return;
     }
     let mut columns = [[0usize; 6]; MOST_COLUMNS];
@@ -52,20 +58,21 @@ fn print(sheet: &[u8], space: &mut [u8])
     while !cursor::is_end(c) {
         let part = lines::write(space, sheet, &columns, p, c);
         let n = part.bytes;
-        if !write_part(&space[..n]) {
+        if !write_part(rt, errors, &space[..n]) {
             return;
         }
         c = part.next;
     }
 }
 
-fn main() {
+fn main(rt: HostRuntime) {
+    let errors = rt.stderr();
     let mut sheet = sheet_space();
-    let got = read_sheet(&mut sheet);
+    let got = read_sheet(&rt, &errors, &mut sheet);
     if !got.well {
         return;
     }
     let n = got.done;
     let mut space = page_space();
-    print(&sheet[..n], &mut space);
+    print(&rt, &errors, &sheet[..n], &mut space);
 }

@@ -1,12 +1,24 @@
 // A refusal, as the print program says it.
 ghost use Rattle.std.specs.Prelude.{◌+◌, ◌≤◌, length};
-ghost use Rattle.io.specs.Counts.{IsPrefixLen};
+ghost use Rattle.stream.specs.Counts.{IsPrefixLen};
+
+use std::time::Clock;
 
 // Writes `refused N at P` and 0A by one call: a number that is cut would be another number.
-pub fn write_refusal(number: u64, place: u64) -> bool {
+pub fn write_refusal<R: Print + Clock, E: Print>(
+    rt: &R,
+    errors: &E,
+    number: u64,
+    place: u64,
+) -> bool {
     let mut line = [0u8; 64];
     let n = put_refusal(&mut line, number, place);
-    stream::write_text(&line[..n], b"print: the refusal can't be written")
+    stream::write_text(
+        rt,
+        errors,
+        &line[..n],
+        b"print: the refusal can't be written",
+    )
 }
 
 fn put_refusal(line: &mut [u8], number: u64, place: u64) -> usize
@@ -25,16 +37,15 @@ fn put_decimal(line: &mut [u8], at: usize, n: u64) -> usize
     requires { at + 20 ≤ length line.old }
     ensures { result ≤ at + 20 }
 {
-    let mut digits = [0u8; 20];
-    let k = io::decimal(n, &mut digits);
-    put_digits(line, at, digits, k)
+    let mut digits = itoa::Buffer::new();
+    put_digits(line, at, digits.format(n).as_bytes())
 }
 
-// The first k of the digits. An array by value has its length, which a lent one has no longer.
-fn put_digits(line: &mut [u8], at: usize, digits: [u8; 20], k: usize) -> usize
+// No number has more than 20 digits.
+fn put_digits(line: &mut [u8], at: usize, digits: &[u8]) -> usize
     requires at_in_bounds { at + 20 ≤ length line.old }
-    requires prefix_len { IsPrefixLen k digits }
+    requires few { length digits.now ≤ 20 }
     ensures { result ≤ at + 20 }
 {
-    buffer::copy(line, at, &digits[..k])
+    buffer::copy(line, at, digits)
 }

@@ -3,7 +3,6 @@
 
 ghost use Rattle.std.specs.Prelude.{◌≤◌, ◌<◌, length};
 
-use libc::STDOUT_FILENO;
 use page::PrintedLines;
 use stored::answers::{differs, sum};
 
@@ -63,7 +62,7 @@ fn holds(buffer: &[u8], wanted: &[u8]) -> bool {
     if buffer.len() < size {
         return false;
     }
-    if !check::same(&buffer[..size], wanted) {
+    if buffer[..size] != *wanted {
         return false;
     }
     untouched(buffer, size)
@@ -85,20 +84,12 @@ fn print(call: Call, sheet: &[u8], buffer: &mut [u8]) -> PrintedLines {
 }
 
 // The call, by its name and its line.
-fn say(call: Call) {
-    match call {
-        Call::Page => {
-            io::write_all(STDOUT_FILENO, b"page");
-        }
-        Call::Line(k) => {
-            io::write_all(STDOUT_FILENO, b"line ");
-            io::print_decimal(STDOUT_FILENO, k as u64);
-        }
-        Call::From(k) => {
-            io::write_all(STDOUT_FILENO, b"lines from ");
-            io::print_decimal(STDOUT_FILENO, k as u64);
-        }
-    }
+fn say<R: Print>(rt: &R, call: Call) {
+    let _ = match call {
+        Call::Page => print!(rt; "page"),
+        Call::Line(k) => print!(rt; "line {k}"),
+        Call::From(k) => print!(rt; "lines from {k}"),
+    };
 }
 
 fn same_answer(a: PrintedLines, b: PrintedLines) -> bool {
@@ -123,7 +114,8 @@ fn leaves(
 }
 
 // A call that prints all of `wanted` into `room` bytes.
-fn prints(
+fn prints<R: Print>(
+    rt: &R,
     call: Call,
     sheet: &[u8],
     buffer: &mut [u8],
@@ -139,13 +131,14 @@ fn prints(
     };
     let same = leaves(call, sheet, buffer, room, answer, wanted);
     if !same {
-        say(call);
+        say(rt, call);
     }
-    differs(b" printed", same)
+    differs(rt, b" printed", same)
 }
 
 // A call that is refused and leaves all of the buffer as it was.
-fn refuses(
+fn refuses<R: Print>(
+    rt: &R,
     call: Call,
     sheet: &[u8],
     buffer: &mut [u8],
@@ -161,46 +154,61 @@ fn refuses(
     };
     let same = leaves(call, sheet, buffer, room, answer, b"");
     if !same {
-        say(call);
+        say(rt, call);
     }
-    differs(b" refused", same)
+    differs(rt, b" refused", same)
 }
 
 // A call into a buffer that `wanted` fills, and into one that is a byte short: 20, and the bytes needed.
-fn tight(call: Call, sheet: &[u8], buffer: &mut [u8], wanted: &[u8], next: u64) -> u64 {
+fn tight<R: Print>(
+    rt: &R,
+    call: Call,
+    sheet: &[u8],
+    buffer: &mut [u8],
+    wanted: &[u8],
+    next: u64,
+) -> u64 {
     let size = wanted.len();
-    let full = prints(call, sheet, buffer, size, wanted, next);
+    let full = prints(rt, call, sheet, buffer, size, wanted, next);
     if size == 0 {
         return full;
     }
     sum(
         full,
-        refuses(call, sheet, buffer, size - 1, 20, size as u64),
+        refuses(rt, call, sheet, buffer, size - 1, 20, size as u64),
     )
 }
 
 // The page into a full buffer, a short one, and one with room over.
-pub fn pages(sheet: &[u8], wanted: &[u8], buffer: &mut [u8]) -> u64 {
+pub fn pages<R: Print>(rt: &R, sheet: &[u8], wanted: &[u8], buffer: &mut [u8]) -> u64 {
     let room = buffer.len();
-    let over = prints(Call::Page, sheet, buffer, room, wanted, 0);
-    sum(over, tight(Call::Page, sheet, buffer, wanted, 0))
+    let over = prints(rt, Call::Page, sheet, buffer, room, wanted, 0);
+    sum(over, tight(rt, Call::Page, sheet, buffer, wanted, 0))
 }
 
 // Line k alone, and as the first of several: of those a buffer that it fills holds no second.
-fn line(sheet: &[u8], k: usize, wanted: &[u8], buffer: &mut [u8]) -> u64 {
+fn line<R: Print>(rt: &R, sheet: &[u8], k: usize, wanted: &[u8], buffer: &mut [u8]) -> u64 {
     let room = buffer.len();
     let next = sum(k as u64, 1);
-    let over = prints(Call::Line(k), sheet, buffer, room, wanted, 0);
-    let alone = tight(Call::Line(k), sheet, buffer, wanted, 0);
-    let first = tight(Call::From(k), sheet, buffer, wanted, next);
+    let over = prints(rt, Call::Line(k), sheet, buffer, room, wanted, 0);
+    let alone = tight(rt, Call::Line(k), sheet, buffer, wanted, 0);
+    let first = tight(rt, Call::From(k), sheet, buffer, wanted, next);
     sum(over, sum(alone, first))
 }
 
 // The lines from line k to the end, into a buffer that they fill and into one with room over.
-fn rest(sheet: &[u8], k: usize, wanted: &[u8], count: usize, buffer: &mut [u8]) -> u64 {
+fn rest<R: Print>(
+    rt: &R,
+    sheet: &[u8],
+    k: usize,
+    wanted: &[u8],
+    count: usize,
+    buffer: &mut [u8],
+) -> u64 {
     let room = buffer.len();
-    let over = prints(Call::From(k), sheet, buffer, room, wanted, count as u64);
+    let over = prints(rt, Call::From(k), sheet, buffer, room, wanted, count as u64);
     let full = prints(
+        rt,
         Call::From(k),
         sheet,
         buffer,
@@ -227,14 +235,20 @@ fn line_end(page: &[u8], at: usize) -> usize
 }
 
 // Every line of the stored page, of which `count` lines are stored.
-pub fn each_line(sheet: &[u8], page: &[u8], count: usize, buffer: &mut [u8]) -> Lines {
+pub fn each_line<R: Print>(
+    rt: &R,
+    sheet: &[u8],
+    page: &[u8],
+    count: usize,
+    buffer: &mut [u8],
+) -> Lines {
     let mut k: usize = 0;
     let mut at: usize = 0;
     let mut differences: u64 = 0;
     while at < page.len() {
         let end = line_end(page, at);
-        let one = line(sheet, k, &page[at..end], buffer);
-        let more = rest(sheet, k, &page[at..], count, buffer);
+        let one = line(rt, sheet, k, &page[at..end], buffer);
+        let more = rest(rt, sheet, k, &page[at..], count, buffer);
         differences = sum(differences, sum(one, more));
         k += 1;
         at = end;
@@ -246,23 +260,29 @@ pub fn each_line(sheet: &[u8], page: &[u8], count: usize, buffer: &mut [u8]) -> 
 }
 
 // Positions at and past the line count: 21, and that count, with room over and with none.
-pub fn past_the_end(sheet: &[u8], count: usize, buffer: &mut [u8]) -> u64 {
+pub fn past_the_end<R: Print>(rt: &R, sheet: &[u8], count: usize, buffer: &mut [u8]) -> u64 {
     let room = buffer.len();
     let place = count as u64;
-    let at = refuses(Call::Line(count), sheet, buffer, room, 21, place);
-    let none = refuses(Call::Line(count), sheet, buffer, 0, 21, place);
-    let far = refuses(Call::Line(LAST), sheet, buffer, room, 21, place);
-    let from = refuses(Call::From(count), sheet, buffer, room, 21, place);
+    let at = refuses(rt, Call::Line(count), sheet, buffer, room, 21, place);
+    let none = refuses(rt, Call::Line(count), sheet, buffer, 0, 21, place);
+    let far = refuses(rt, Call::Line(LAST), sheet, buffer, room, 21, place);
+    let from = refuses(rt, Call::From(count), sheet, buffer, room, 21, place);
     sum(sum(at, none), sum(far, from))
 }
 
 // A refused sheet: its number comes before 20 and 21.
-pub fn turned_down(sheet: &[u8], number: u64, place: u64, buffer: &mut [u8]) -> u64 {
+pub fn turned_down<R: Print>(
+    rt: &R,
+    sheet: &[u8],
+    number: u64,
+    place: u64,
+    buffer: &mut [u8],
+) -> u64 {
     let room = buffer.len();
-    let page = refuses(Call::Page, sheet, buffer, room, number, place);
-    let none = refuses(Call::Page, sheet, buffer, 0, number, place);
-    let line = refuses(Call::Line(0), sheet, buffer, room, number, place);
-    let far = refuses(Call::Line(LAST), sheet, buffer, 0, number, place);
-    let from = refuses(Call::From(0), sheet, buffer, room, number, place);
+    let page = refuses(rt, Call::Page, sheet, buffer, room, number, place);
+    let none = refuses(rt, Call::Page, sheet, buffer, 0, number, place);
+    let line = refuses(rt, Call::Line(0), sheet, buffer, room, number, place);
+    let far = refuses(rt, Call::Line(LAST), sheet, buffer, 0, number, place);
+    let from = refuses(rt, Call::From(0), sheet, buffer, room, number, place);
     sum(sum(page, none), sum(line, sum(far, from)))
 }

@@ -4,7 +4,6 @@
 
 ghost use Rattle.std.specs.Prelude.{◌≡◌, length};
 
-use libc::{STDIN_FILENO, STDOUT_FILENO};
 use rules::Printed;
 use style::table_style::TableStyle;
 
@@ -20,6 +19,13 @@ fn sheet_space() -> [u8; 32769]
     ensures { 32769 ≡ length result }
 {
     [0; 32769]
+}
+
+// Room for many lines of a page: the longest has 11,401 bytes.
+fn page_space() -> [u8; 65536]
+    ensures { 65536 ≡ length result }
+{
+    [0; 65536]
 }
 
 // The characters of a style in the order of the sheet.
@@ -57,29 +63,29 @@ fn is_style(s: TableStyle, bytes: &[u8]) -> bool {
 }
 
 // The constants by their names, against the sheet's style and against a style that sets nothing.
-fn try_styles(sheet: &[u8]) {
+fn try_styles<R: Print>(rt: &R, sheet: &[u8]) {
     if sheet.len() < STYLE_END {
         return;
     }
     if !is_style(TableStyle::HOUSE_GRID, &sheet[STYLE..STYLE_END]) {
-        io::write_all(STDOUT_FILENO, b"not the house grid\n");
+        let _ = println!(rt; "not the house grid");
     }
     let nothing = [0u8; 22];
     if !is_style(TableStyle::BARE, &nothing) {
-        io::write_all(STDOUT_FILENO, b"not bare\n");
+        let _ = println!(rt; "not bare");
     }
 }
 
 // A line's bytes, at the buffer's start.
-fn put(buffer: &[u8], written: u64) {
+fn put<R: Print>(rt: &R, buffer: &[u8], written: u64) {
     let n = written as usize;
     if n <= buffer.len() {
-        io::write_all(STDOUT_FILENO, &buffer[..n]);
+        let _ = rt.write_all(&buffer[..n]);
     }
 }
 
 // Line after line, each where the reader stands after the one before; gives the answer that ends the page, 21 and its line count.
-fn read_page(sheet: &[u8], buffer: &mut [u8]) -> Printed {
+fn read_page<R: Print>(rt: &R, sheet: &[u8], buffer: &mut [u8]) -> Printed {
     let mut line: usize = 0;
     let mut turns: usize = 0;
     while turns <= MOST_LINES {
@@ -88,7 +94,7 @@ fn read_page(sheet: &[u8], buffer: &mut [u8]) -> Printed {
         if answer.number != 0 {
             return answer;
         }
-        put(buffer, answer.written);
+        put(rt, buffer, answer.written);
         line = l.line;
         turns += 1;
     }
@@ -100,22 +106,19 @@ fn read_page(sheet: &[u8], buffer: &mut [u8]) -> Printed {
 }
 
 // A refusal as the print program says it; 21 is the page's end.
-fn report(last: Printed) {
-    if last.number == 21 {
+fn report<R: Print>(rt: &R, last: Printed) {
+    let Printed { number, place, .. } = last;
+    if number == 21 {
         return;
     }
-    io::write_all(STDOUT_FILENO, b"refused ");
-    io::print_decimal(STDOUT_FILENO, last.number);
-    io::write_all(STDOUT_FILENO, b" at ");
-    io::print_decimal(STDOUT_FILENO, last.place);
-    io::write_all(STDOUT_FILENO, b"\n");
+    let _ = println!(rt; "refused {number} at {place}");
 }
 
-fn main() {
+fn main(rt: HostRuntime) {
     let mut space = sheet_space();
-    let n = io::read_full(STDIN_FILENO, &mut space);
-    let mut buffer = io::large_buffer();
-    let last = read_page(&space[..n], &mut buffer);
-    report(last);
-    try_styles(&space[..n]);
+    let n = stream::read_full(&rt, &mut space);
+    let mut buffer = page_space();
+    let last = read_page(&rt, &space[..n], &mut buffer);
+    report(&rt, last);
+    try_styles(&rt, &space[..n]);
 }

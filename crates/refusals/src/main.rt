@@ -4,7 +4,6 @@
 
 ghost use Rattle.std.specs.Prelude.{◌≡◌, ◌≤◌, ◌<◌, length};
 
-use libc::{STDIN_FILENO, STDOUT_FILENO};
 use rules::Checked;
 
 // A count in a line, and where the line goes on.
@@ -12,6 +11,13 @@ use rules::Checked;
 struct Repeat {
     count: usize,
     next: usize,
+}
+
+// Standard input takes 26,388 bytes.
+fn text_space() -> [u8; 65536]
+    ensures { 65536 ≡ length result }
+{
+    [0; 65536]
 }
 
 // Room for a sheet that is one byte too long.
@@ -119,16 +125,13 @@ fn decode(line: &[u8], sheet: &mut [u8]) -> usize
     size
 }
 
-fn report(answer: Checked) {
-    if answer.number == 0 {
-        io::write_all(STDOUT_FILENO, b": accepted\n");
+fn report<R: Print>(rt: &R, answer: Checked) {
+    let Checked { number, place } = answer;
+    if number == 0 {
+        let _ = println!(rt; ": accepted");
         return;
     }
-    io::write_all(STDOUT_FILENO, b": refused ");
-    io::print_decimal(STDOUT_FILENO, answer.number);
-    io::write_all(STDOUT_FILENO, b" at ");
-    io::print_decimal(STDOUT_FILENO, answer.place);
-    io::write_all(STDOUT_FILENO, b"\n");
+    let _ = println!(rt; ": refused {number} at {place}");
 }
 
 // The place after a colon that stands before `end`.
@@ -143,30 +146,30 @@ fn behind(colon: usize, end: usize) -> usize
 }
 
 // One line, from its name on; answers where the next one begins.
-fn replay(text: &[u8], from: usize, sheet: &mut [u8]) -> usize
+fn replay<R: Print>(rt: &R, text: &[u8], from: usize, sheet: &mut [u8]) -> usize
     requires { from < length text.now }
     ensures { (from < result) × (length sheet.new ≡ length sheet.old) }
 {
     let colon = find(text, from, b':');
     let end = find(text, colon, b'\n');
-    io::write_all(STDOUT_FILENO, &text[from..colon]);
+    let _ = rt.write_all(&text[from..colon]);
     let start = behind(colon, end);
     let size = decode(&text[start..end], sheet);
-    report(sheet::check(&sheet[..size]));
+    report(rt, sheet::check(&sheet[..size]));
     end + 1
 }
 
 // Line after line.
-fn replay_all(text: &[u8], sheet: &mut [u8]) {
+fn replay_all<R: Print>(rt: &R, text: &[u8], sheet: &mut [u8]) {
     let mut at: usize = 0;
     while at < text.len() {
-        at = replay(text, at, sheet);
+        at = replay(rt, text, at, sheet);
     }
 }
 
-fn main() {
-    let mut text = io::large_buffer();
-    let n = io::read_full(STDIN_FILENO, &mut text);
+fn main(rt: HostRuntime) {
+    let mut text = text_space();
+    let n = stream::read_full(&rt, &mut text);
     let mut sheet = sheet_space();
-    replay_all(&text[..n], &mut sheet);
+    replay_all(&rt, &text[..n], &mut sheet);
 }

@@ -4,7 +4,6 @@
 
 ghost use Rattle.std.specs.Prelude.{◌≡◌, ◌<◌, length};
 
-use libc::{STDIN_FILENO, STDOUT_FILENO};
 use print_calls::Lines;
 use stored::answers::{differs, sum};
 use stored::{Accepted, answers};
@@ -40,22 +39,36 @@ fn page_space() -> [u8; 6000]
 }
 
 // The calls that write nothing, on an accepted sheet, whose stored place is 0.
-fn asked(text: &[u8], sheet: &[u8], place: u64, a: Accepted, bytes: usize) -> u64 {
+fn asked<R: Print>(
+    rt: &R,
+    text: &[u8],
+    sheet: &[u8],
+    place: u64,
+    a: Accepted,
+    bytes: usize,
+) -> u64 {
     let lines = a.lines as u64;
-    let checked = answers::checked(page::check(sheet), 0, place);
-    let counted = answers::counted(page::count(sheet), 0, place, lines, bytes as u64);
-    let measured = answers::measured(page::widths(sheet), 0, place, text, a.widths, a.columns);
+    let checked = answers::checked(rt, page::check(sheet), 0, place);
+    let counted = answers::counted(rt, page::count(sheet), 0, place, lines, bytes as u64);
+    let measured = answers::measured(rt, page::widths(sheet), 0, place, text, a.widths, a.columns);
     sum(checked, sum(counted, measured))
 }
 
 // Every call on an accepted sheet.
-fn accepted(text: &[u8], sheet: &[u8], place: u64, a: Accepted, buffer: &mut [u8]) -> Lines {
+fn accepted<R: Print>(
+    rt: &R,
+    text: &[u8],
+    sheet: &[u8],
+    place: u64,
+    a: Accepted,
+    buffer: &mut [u8],
+) -> Lines {
     let wanted = stored::part(text, a.page, a.next);
-    let quiet = asked(text, sheet, place, a, wanted.len());
-    let whole = print_calls::pages(sheet, wanted, buffer);
-    let each = print_calls::each_line(sheet, wanted, a.lines, buffer);
-    let count = differs(b"count of stored lines", each.count == a.lines);
-    let past = print_calls::past_the_end(sheet, a.lines, buffer);
+    let quiet = asked(rt, text, sheet, place, a, wanted.len());
+    let whole = print_calls::pages(rt, sheet, wanted, buffer);
+    let each = print_calls::each_line(rt, sheet, wanted, a.lines, buffer);
+    let count = differs(rt, b"count of stored lines", each.count == a.lines);
+    let past = print_calls::past_the_end(rt, sheet, a.lines, buffer);
     let loud = sum(sum(whole, each.differences), sum(count, past));
     Lines {
         count: each.count,
@@ -64,16 +77,16 @@ fn accepted(text: &[u8], sheet: &[u8], place: u64, a: Accepted, buffer: &mut [u8
 }
 
 // Every call on a refused sheet: the same number and place, and nothing is written.
-fn refused(sheet: &[u8], number: u64, place: u64, buffer: &mut [u8]) -> u64 {
-    let checked = answers::checked(page::check(sheet), number, place);
-    let counted = answers::counted(page::count(sheet), number, place, 0, 0);
-    let measured = answers::measured(page::widths(sheet), number, place, sheet, 0, 0);
-    let printed = print_calls::turned_down(sheet, number, place, buffer);
+fn refused<R: Print>(rt: &R, sheet: &[u8], number: u64, place: u64, buffer: &mut [u8]) -> u64 {
+    let checked = answers::checked(rt, page::check(sheet), number, place);
+    let counted = answers::counted(rt, page::count(sheet), number, place, 0, 0);
+    let measured = answers::measured(rt, page::widths(sheet), number, place, sheet, 0, 0);
+    let printed = print_calls::turned_down(rt, sheet, number, place, buffer);
     sum(sum(checked, counted), sum(measured, printed))
 }
 
 // The record at `at`: the sheet's length, the sheet, number and place; what follows for an accepted one.
-fn replay(text: &[u8], at: usize, buffer: &mut [u8]) -> Replayed
+fn replay<R: Print>(rt: &R, text: &[u8], at: usize, buffer: &mut [u8]) -> Replayed
     requires { at < length text.now }
     ensures { at < result.next }
 {
@@ -85,7 +98,7 @@ fn replay(text: &[u8], at: usize, buffer: &mut [u8]) -> Replayed
     let place = stored::word(text, place_at) as u64;
     let next = stored::after(text, place_at, 2);
     if number != 0 {
-        let differences = refused(sheet, number as u64, place, buffer);
+        let differences = refused(rt, sheet, number as u64, place, buffer);
         return Replayed {
             lines: 0,
             differences,
@@ -93,7 +106,7 @@ fn replay(text: &[u8], at: usize, buffer: &mut [u8]) -> Replayed
         };
     }
     let a = stored::rest_of(text, next);
-    let found = accepted(text, sheet, place, a, buffer);
+    let found = accepted(rt, text, sheet, place, a, buffer);
     Replayed {
         lines: found.count as u64,
         differences: found.differences,
@@ -102,24 +115,22 @@ fn replay(text: &[u8], at: usize, buffer: &mut [u8]) -> Replayed
 }
 
 // Says which sheet the differences above belong to.
-fn named(sheet: u64, differences: u64) {
+fn named<R: Print>(rt: &R, sheet: u64, differences: u64) {
     if differences == 0 {
         return;
     }
-    io::write_all(STDOUT_FILENO, b"in sheet ");
-    io::print_decimal(STDOUT_FILENO, sheet);
-    io::write_all(STDOUT_FILENO, b"\n");
+    let _ = println!(rt; "in sheet {sheet}");
 }
 
 // Record after record.
-fn replay_all(text: &[u8], buffer: &mut [u8]) -> Tally {
+fn replay_all<R: Print>(rt: &R, text: &[u8], buffer: &mut [u8]) -> Tally {
     let mut sheets: u64 = 0;
     let mut lines: u64 = 0;
     let mut differences: u64 = 0;
     let mut at: usize = 0;
     while at < text.len() {
-        let r = replay(text, at, buffer);
-        named(sheets, r.differences);
+        let r = replay(rt, text, at, buffer);
+        named(rt, sheets, r.differences);
         sheets = sum(sheets, 1);
         lines = sum(lines, r.lines);
         differences = sum(differences, r.differences);
@@ -132,18 +143,15 @@ fn replay_all(text: &[u8], buffer: &mut [u8]) -> Tally {
     }
 }
 
-fn main() {
+fn main(rt: HostRuntime) {
     let mut text = text_space();
-    let n = io::read_full(STDIN_FILENO, &mut text);
+    let n = stream::read_full(&rt, &mut text);
     let mut buffer = page_space();
-    let t = replay_all(&text[..n], &mut buffer);
+    let Tally {
+        sheets,
+        lines,
+        differences,
+    } = replay_all(&rt, &text[..n], &mut buffer);
     // a byte past the end reads as 0, so that an end cut off shows here alone
-    io::print_decimal(STDOUT_FILENO, n as u64);
-    io::write_all(STDOUT_FILENO, b" bytes, ");
-    io::print_decimal(STDOUT_FILENO, t.sheets);
-    io::write_all(STDOUT_FILENO, b" sheets, ");
-    io::print_decimal(STDOUT_FILENO, t.lines);
-    io::write_all(STDOUT_FILENO, b" lines, ");
-    io::print_decimal(STDOUT_FILENO, t.differences);
-    io::write_all(STDOUT_FILENO, b" differences\n");
+    let _ = println!(rt; "{n} bytes, {sheets} sheets, {lines} lines, {differences} differences");
 }

@@ -1,5 +1,5 @@
 -- What the call answers, by the ways out of the code. Assumes nothing.
-use Prim.Native.Nat.{ℕ, ◌+◌, ◌≤◌, ◌<◌}
+use Prim.Native.Nat.{ℕ, ◌≤◌, ◌<◌}
 use mathlib.Core.Path.{◌≡◌, ap, ◌∙◌}
 use mathlib.Core.Logic.{◌⊎◌, inl, inr}
 use mathlib.Core.List.{List, [], ◌++◌, map}
@@ -8,7 +8,7 @@ use lib.ListN.{length, get_or}
 use borrow.Author.Tests.{lt-ltb, le-ltb, le-leb, lt-leb}
 use Rattle.rules.specs.Text.{flat}
 use Rattle.rules.specs.Format.{written}
-use Rattle.rules.specs.Calls.{put_or, put, over, not_printed}
+use Rattle.rules.specs.Calls.{put_or, put, not_printed}
 use Rattle.buffer.specs.Put as buffer
 use Rattle.small.specs.Listing.{sheets, write_sheet}
 use Rattle.small_sheets.specs.Parts.{cell_bytes, head_bytes, columns_bytes}

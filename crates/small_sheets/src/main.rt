@@ -7,6 +7,8 @@ ghost use Rattle.std.specs.Prelude.{◌≡◌, [], ◌≤◌, ◌<◌, length, g
 ghost use Rattle.buffer.specs.Put.{over};
 ghost use Rattle.small.specs.Listing.{sheets};
 
+use std::time::Clock;
+
 // Room for the longest sheet.
 fn sheet_space() -> [u8; 72]
     ensures { 72 ≡ length result }
@@ -25,28 +27,30 @@ fn next_sheet(n: usize, space: &mut [u8]) -> usize
     answer.written as usize
 }
 
-fn write_part(part: &[u8]) -> bool {
+fn write_part<R: Print + Clock, E: Print>(rt: &R, errors: &E, part: &[u8]) -> bool {
     stream::write_text(
+        rt,
+        errors,
         part,
         b"small_sheets: the sheets are cut, their rest can't be written",
     )
 }
 
 // Sheet after sheet; ends where no more can be written.
-fn write_sheets(space: &mut [u8])
+fn write_sheets<R: Print + Clock, E: Print>(rt: &R, errors: &E, space: &mut [u8])
     requires { 72 ≤ length space.old }
 {
     let mut n: usize = 0;
     while n < family::SHEETS {
         let size = next_sheet(n, space);
-        if !write_part(&space[..size]) {
+        if !write_part(rt, errors, &space[..size]) {
             return;
         }
         n += 1;
     }
 }
 
-fn main() {
+fn main(rt: HostRuntime) {
     let mut space = sheet_space();
-    write_sheets(&mut space);
+    write_sheets(&rt, &rt.stderr(), &mut space);
 }

@@ -1,5 +1,4 @@
 // Answers beside the stored ones. Each function says what differs, and counts it.
-use libc::STDOUT_FILENO;
 use rules::{Checked, Counted, MOST_COLUMNS, Measured};
 
 // Far more than there are answers: from there on a count stands still, so that no sum wraps around to 0.
@@ -17,26 +16,34 @@ pub fn sum(a: u64, b: u64) -> u64 {
 }
 
 // 0 where an answer is as stored; else it is named, and 1.
-pub fn differs(answer: &[u8], same: bool) -> u64 {
+pub fn differs<R: Print>(rt: &R, answer: &[u8], same: bool) -> u64 {
     if same {
         return 0;
     }
-    io::write_all(STDOUT_FILENO, answer);
-    io::write_all(STDOUT_FILENO, b" differs, ");
+    let _ = rt.write_all(answer);
+    let _ = rt.print(" differs, ");
     1
 }
 
-pub fn checked(c: Checked, number: u64, place: u64) -> u64 {
-    differs(b"check", c.number == number && c.place == place)
+pub fn checked<R: Print>(rt: &R, c: Checked, number: u64, place: u64) -> u64 {
+    differs(rt, b"check", c.number == number && c.place == place)
 }
 
-pub fn counted(c: Counted, number: u64, place: u64, lines: u64, bytes: u64) -> u64 {
+pub fn counted<R: Print>(
+    rt: &R,
+    c: Counted,
+    number: u64,
+    place: u64,
+    lines: u64,
+    bytes: u64,
+) -> u64 {
     let refusal = differs(
+        rt,
         b"refusal by the counts",
         c.number == number && c.place == place,
     );
-    let line_count = differs(b"line count", c.lines == lines);
-    let byte_count = differs(b"byte count", c.bytes == bytes);
+    let line_count = differs(rt, b"line count", c.lines == lines);
+    let byte_count = differs(rt, b"byte count", c.bytes == bytes);
     sum(refusal, sum(line_count, byte_count))
 }
 
@@ -72,7 +79,8 @@ fn same_hidden(hidden: [bool; MOST_COLUMNS], text: &[u8], widths: usize, columns
 }
 
 // The widths, which stand at `widths` in the text.
-pub fn measured(
+pub fn measured<R: Print>(
+    rt: &R,
     m: Measured,
     number: u64,
     place: u64,
@@ -81,16 +89,22 @@ pub fn measured(
     columns: usize,
 ) -> u64 {
     let refusal = differs(
+        rt,
         b"refusal by the widths",
         m.number == number && m.place == place,
     );
-    let count = differs(b"column count", m.columns == columns as u64);
+    let count = differs(rt, b"column count", m.columns == columns as u64);
     let content = m.content;
     let contents = differs(
+        rt,
         b"content width",
         same_contents(content, text, widths, columns),
     );
     let hidden = m.hidden;
-    let hides = differs(b"hidden column", same_hidden(hidden, text, widths, columns));
+    let hides = differs(
+        rt,
+        b"hidden column",
+        same_hidden(hidden, text, widths, columns),
+    );
     sum(sum(refusal, count), sum(contents, hides))
 }

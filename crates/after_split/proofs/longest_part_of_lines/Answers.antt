@@ -1,7 +1,6 @@
-use borrow.Author.Rules.{rules}
 use native.Mathlib.Omega.{arith}
 use Rattle.after_split.proofs.Knowns.{line_sound}
-use Rattle.after_split.proofs.Tries.{LinesSoFar, saves-some, lines_begin, lines_enough, lines-again, lines_done}
+use Rattle.after_split.proofs.Tries.{saves-some, lines_begin, lines_enough, lines-again, lines_done}
 use Rattle.after_split.proofs.longest_part_of_lines.Goals as goal
 
 pub loop-c-init : goal.loop-c-init

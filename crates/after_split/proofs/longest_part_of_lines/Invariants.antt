@@ -1,7 +1,4 @@
-use borrow.Author.Rules.{rules}
-use native.Mathlib.Omega.{arith}
-use Rattle.after_split.proofs.Knowns.{line_sound}
-use Rattle.after_split.proofs.Tries.{LinesSoFar, saves-some, lines_begin, lines_enough, lines-again, lines_done}
+use Rattle.after_split.proofs.Tries.{LinesSoFar}
 use Rattle.after_split.proofs.longest_part_of_lines.Given as goal
 
 abbrev pub invariant-loop-c : goal.invariant-loop-c

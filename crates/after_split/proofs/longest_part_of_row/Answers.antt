@@ -1,4 +1,3 @@
-use borrow.Author.Rules.{rules}
 use native.Mathlib.Omega.{arith}
 use Rattle.after_split.proofs.Knowns.{cell_known}
 use Rattle.after_split.proofs.Tries.{row_short, row_enough, row_there}

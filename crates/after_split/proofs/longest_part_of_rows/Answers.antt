@@ -1,6 +1,5 @@
-use borrow.Author.Rules.{rules}
 use Rattle.after_split.proofs.Knowns.{row_known}
-use Rattle.after_split.proofs.Tries.{RowsSoFar, rows_begin, rows_enough, rows-again, rows_done}
+use Rattle.after_split.proofs.Tries.{rows_begin, rows_enough, rows-again, rows_done}
 use Rattle.after_split.proofs.longest_part_of_rows.Goals as goal
 
 pub loop-c-init : goal.loop-c-init

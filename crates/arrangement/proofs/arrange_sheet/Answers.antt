@@ -1,4 +1,3 @@
-use borrow.Author.Rules.{rules}
 use Rattle.arrangement.proofs.arrange_sheet.Goals as goal
 
 pub returns : goal.returns

@@ -1,8 +1,5 @@
 use borrow.Author.Rules.{rules}
-use Prim.Native.Nat.{◌-◌}
-use native.Mathlib.Omega.{arith}
-use Rattle.constraint.proofs.Laws.{Walk, walk_begin, walk-again, walk_done}
-use Rattle.arrangement.specs.Widths.{marking}
+use Rattle.constraint.proofs.Laws.{walk_begin, walk-again, walk_done}
 use Rattle.arrangement.proofs.Layouts.{marking-at}
 use Rattle.arrangement.proofs.hidden_columns.Goals as goal
 

@@ -1,9 +1,6 @@
-use borrow.Author.Rules.{rules}
 use Prim.Native.Nat.{◌-◌}
-use native.Mathlib.Omega.{arith}
-use Rattle.constraint.proofs.Laws.{Walk, walk_begin, walk-again, walk_done}
+use Rattle.constraint.proofs.Laws.{Walk}
 use Rattle.arrangement.specs.Widths.{marking}
-use Rattle.arrangement.proofs.Layouts.{marking-at}
 use Rattle.arrangement.proofs.hidden_columns.Given as goal
 
 abbrev pub invariant-loop-i : goal.invariant-loop-i

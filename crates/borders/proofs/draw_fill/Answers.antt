@@ -3,7 +3,6 @@ use mathlib.Core.Path.{sym}
 use Rattle.buffer.specs.Put.{byte_if}
 use Rattle.borders.specs.Rule.{rule_area}
 use Rattle.buffer.proofs.Laws.{two}
-use borrow.Author.Rules.{rules}
 use Rattle.borders.proofs.draw_fill.Goals as goal
 
 pub returns : goal.returns

@@ -1,10 +1,8 @@
-use borrow.Author.Rules.{rules}
 use native.Mathlib.Omega.{arith}
-use Prim.Native.Nat.{◌-◌}
 use mathlib.Core.Path.{sym}
 use lib.ListN.{length-set}
 use Rattle.row.specs.Packed.{view_of}
-use Rattle.borders.proofs.Rule.{rule-length, rule_whole, Ruling, ruling_begins, ruling_done, fill_narrow, fill-room, fill_on}
+use Rattle.borders.proofs.Rule.{rule-length, rule_whole, ruling_begins, ruling_done, fill_narrow, fill-room, fill_on}
 use Rattle.borders.proofs.draw_line.Goals as goal
 
 pub draw_edge-at-requires : goal.draw_edge-at-requires

@@ -1,10 +1,6 @@
-use borrow.Author.Rules.{rules}
-use native.Mathlib.Omega.{arith}
 use Prim.Native.Nat.{◌-◌}
-use mathlib.Core.Path.{sym}
-use lib.ListN.{length-set}
 use Rattle.row.specs.Packed.{view_of}
-use Rattle.borders.proofs.Rule.{rule-length, rule_whole, Ruling, ruling_begins, ruling_done, fill_narrow, fill-room, fill_on}
+use Rattle.borders.proofs.Rule.{Ruling}
 use Rattle.borders.proofs.draw_line.Given as goal
 
 abbrev pub invariant-loop-i : goal.invariant-loop-i

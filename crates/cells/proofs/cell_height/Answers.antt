@@ -1,6 +1,6 @@
 use native.Mathlib.Omega.{arith}
 use mathlib.Core.Path.{refl}
-use Rattle.cells.proofs.Counts.{Counting, counting_begins, counting-room, counting-on, counting_done}
+use Rattle.cells.proofs.Counts.{counting_begins, counting-room, counting-on, counting_done}
 use Rattle.cells.proofs.Laws.{first_known}
 use Rattle.cells.proofs.cell_height.Goals as goal
 

@@ -1,7 +1,4 @@
-use native.Mathlib.Omega.{arith}
-use mathlib.Core.Path.{refl}
-use Rattle.cells.proofs.Counts.{Counting, counting_begins, counting-room, counting-on, counting_done}
-use Rattle.cells.proofs.Laws.{first_known}
+use Rattle.cells.proofs.Counts.{Counting}
 use Rattle.cells.proofs.cell_height.Given as goal
 
 abbrev pub invariant-loop-c : goal.invariant-loop-c

@@ -1,6 +1,6 @@
 use native.Mathlib.Omega.{arith}
 use mathlib.Core.Bool.{false≢true}
-use Rattle.cells.proofs.Counts.{Pairing, pairing_begins, pairing_less, pairing-room, pairing-on, pairing_done}
+use Rattle.cells.proofs.Counts.{pairing_begins, pairing_less, pairing-room, pairing-on, pairing_done}
 use Rattle.cells.proofs.cell_pairs.Goals as goal
 
 pub loop-c-init : goal.loop-c-init

@@ -1,6 +1,4 @@
-use native.Mathlib.Omega.{arith}
-use mathlib.Core.Bool.{false≢true}
-use Rattle.cells.proofs.Counts.{Pairing, pairing_begins, pairing_less, pairing-room, pairing-on, pairing_done}
+use Rattle.cells.proofs.Counts.{Pairing}
 use Rattle.cells.proofs.cell_pairs.Given as goal
 
 abbrev pub invariant-loop-c : goal.invariant-loop-c

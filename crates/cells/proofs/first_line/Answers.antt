@@ -1,6 +1,5 @@
-use borrow.Author.Rules.{rules}
 use native.Mathlib.Omega.{arith}
-use Rattle.cells.proofs.Laws.{first_known, head_in, Seeking, seeking_begins, seeking_found, seeking-on, seeking_done}
+use Rattle.cells.proofs.Laws.{first_known, head_in, seeking_begins, seeking_found, seeking-on, seeking_done}
 use Rattle.cells.proofs.first_line.Goals as goal
 
 pub loop-c-init : goal.loop-c-init

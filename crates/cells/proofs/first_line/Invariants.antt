@@ -1,6 +1,4 @@
-use borrow.Author.Rules.{rules}
-use native.Mathlib.Omega.{arith}
-use Rattle.cells.proofs.Laws.{first_known, head_in, Seeking, seeking_begins, seeking_found, seeking-on, seeking_done}
+use Rattle.cells.proofs.Laws.{Seeking}
 use Rattle.cells.proofs.first_line.Given as goal
 
 abbrev pub invariant-loop-c : goal.invariant-loop-c

@@ -1,7 +1,6 @@
 use native.Mathlib.Omega.{arith}
-use Prim.Native.Nat.{◌-◌}
 use borrow.Author.Tests.{not-true}
-use Rattle.cells.proofs.Laws.{Moving, moving_begins, moving-on, moving-ended, moving_done}
+use Rattle.cells.proofs.Laws.{moving_begins, moving-on, moving-ended, moving_done}
 use Rattle.cells.proofs.further.Goals as goal
 
 pub loop-j-init : goal.loop-j-init

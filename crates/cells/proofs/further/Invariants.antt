@@ -1,7 +1,5 @@
-use native.Mathlib.Omega.{arith}
 use Prim.Native.Nat.{◌-◌}
-use borrow.Author.Tests.{not-true}
-use Rattle.cells.proofs.Laws.{Moving, moving_begins, moving-on, moving-ended, moving_done}
+use Rattle.cells.proofs.Laws.{Moving}
 use Rattle.cells.proofs.further.Given as goal
 
 abbrev pub invariant-loop-j : goal.invariant-loop-j

@@ -1,4 +1,3 @@
-use borrow.Author.Rules.{rules}
 use Rattle.cells.proofs.Laws.{fits_short, fits-counted}
 use Rattle.cells.proofs.line_fits.Goals as goal
 

@@ -1,4 +1,3 @@
-use borrow.Author.Rules.{rules}
 use Rattle.cells.proofs.part_from.Goals as goal
 
 pub split_plain-requires : goal.split_plain-requires

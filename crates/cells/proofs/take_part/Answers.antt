@@ -1,4 +1,3 @@
-use borrow.Author.Rules.{rules}
 use mathlib.Core.Path.{sym, ap, subst, ◌∙◌}
 use Rattle.cells.specs.Cell.{PartIn, taken}
 use Rattle.cells.proofs.Laws.{taken-line}

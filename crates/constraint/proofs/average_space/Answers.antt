@@ -3,7 +3,7 @@ use lib.Count.{ones, ones-le}
 use mathlib.Core.Path.{◌≡◌, sym, ap, ◌∙◌}
 use Prim.Native.Nat.{ℕ, ◌-◌, ◌/◌}
 use native.Mathlib.Omega.{arith}
-use Rattle.constraint.specs.Widths.{visible, decided, set_width}
+use Rattle.constraint.specs.Widths.{set_width}
 use borrow.Author.Rules.{rules}
 use Rattle.constraint.proofs.average_space.Goals as goal
 

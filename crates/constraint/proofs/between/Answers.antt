@@ -1,6 +1,5 @@
 use Rattle.constraint.proofs.Exits.{between-set}
 use native.Mathlib.Omega.{arith}
-use borrow.Author.Rules.{rules}
 use Rattle.constraint.proofs.between.Goals as goal
 
 pub returns-then-b : goal.returns-then-b

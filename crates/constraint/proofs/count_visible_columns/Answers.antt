@@ -1,10 +1,9 @@
 use Rattle.constraint.proofs.Exits.{counted-le}
 use borrow.Author.Rules.{rules}
-use Prim.Native.Nat.{◌-◌, ◌≤◌}
 use native.Mathlib.Omega.{arith}
-use Rattle.constraint.specs.Widths.{column, counting, visible}
-use Rattle.constraint.proofs.Laws.{Walk, walk_begin, walk-again, walk_done}
-use Rattle.rules.specs.Sheet.{is_hidden, most_columns}
+use Rattle.constraint.specs.Widths.{column, visible}
+use Rattle.constraint.proofs.Laws.{walk_begin, walk-again, walk_done}
+use Rattle.rules.specs.Sheet.{is_hidden}
 use Rattle.constraint.proofs.count_visible_columns.Goals as goal
 
 pub overflow_cast-n : goal.overflow_cast-n

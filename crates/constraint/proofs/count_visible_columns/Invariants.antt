@@ -1,10 +1,7 @@
-use Rattle.constraint.proofs.Exits.{counted-le}
-use borrow.Author.Rules.{rules}
 use Prim.Native.Nat.{◌-◌, ◌≤◌}
-use native.Mathlib.Omega.{arith}
-use Rattle.constraint.specs.Widths.{column, counting, visible}
-use Rattle.constraint.proofs.Laws.{Walk, walk_begin, walk-again, walk_done}
-use Rattle.rules.specs.Sheet.{is_hidden, most_columns}
+use Rattle.constraint.specs.Widths.{counting}
+use Rattle.constraint.proofs.Laws.{Walk}
+use Rattle.rules.specs.Sheet.{most_columns}
 use Rattle.constraint.proofs.count_visible_columns.Given as goal
 
 abbrev pub invariant-loop-i : goal.invariant-loop-i

@@ -2,7 +2,7 @@ use Rattle.constraint.proofs.Exits.{fixed-at}
 use mathlib.Core.Path.{ap}
 use Prim.Native.Nat.{ℕ, ◌+◌, ◌*◌, ◌%◌, ◌^◌}
 use native.Mathlib.Omega.{arith}
-use Rattle.constraint.specs.Widths.{decided, set_width}
+use Rattle.constraint.specs.Widths.{set_width}
 use Rattle.constraint.proofs.Bits.{add-lt, shift}
 use borrow.Author.Rules.{rules}
 use Rattle.constraint.proofs.fix_column.Goals as goal

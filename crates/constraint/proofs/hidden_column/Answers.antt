@@ -1,5 +1,4 @@
 use Rattle.constraint.proofs.Exits.{hide-at}
-use borrow.Author.Rules.{rules}
 use Rattle.constraint.proofs.hidden_column.Goals as goal
 
 pub returns : goal.returns

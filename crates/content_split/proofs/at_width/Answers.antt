@@ -1,4 +1,3 @@
-use borrow.Author.Rules.{rules}
 use native.Mathlib.Omega.{arith}
 use Rattle.content_split.proofs.Back.{after-start, ends-before, ends_exact, ends_at, straddles}
 use Rattle.content_split.proofs.at_width.Goals as goal

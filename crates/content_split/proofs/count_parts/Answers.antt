@@ -1,13 +1,8 @@
-use borrow.Author.Rules.{rules}
 use native.Mathlib.Omega.{arith}
-use Prim.Native.Nat.{◌≤◌, ◌-◌, ◌+◌}
-use mathlib.Core.Path.{◌≡◌, ap}
+use mathlib.Core.Path.{ap}
 use Rattle.content_split.proofs.Found.{is-line, is_none, line_sound}
 use Rattle.content_split.proofs.Steps.{none-at_end}
-use lib.ListN.{length, drop}
-use Rattle.content_split.specs.Cut.{Sound}
-use Rattle.text_width.specs.Measure.{IsPlain}
-use Rattle.rules.specs.Wrap.{split}
+use lib.ListN.{length}
 use Rattle.content_split.proofs.count_parts.Goals as goal
 
 pub loop-at-smaller : goal.loop-at-smaller

@@ -1,9 +1,5 @@
-use borrow.Author.Rules.{rules}
-use native.Mathlib.Omega.{arith}
 use Prim.Native.Nat.{◌≤◌, ◌-◌, ◌+◌}
-use mathlib.Core.Path.{◌≡◌, ap}
-use Rattle.content_split.proofs.Found.{is-line, is_none, line_sound}
-use Rattle.content_split.proofs.Steps.{none-at_end}
+use mathlib.Core.Path.{◌≡◌}
 use lib.ListN.{length, drop}
 use Rattle.content_split.specs.Cut.{Sound}
 use Rattle.text_width.specs.Measure.{IsPlain}

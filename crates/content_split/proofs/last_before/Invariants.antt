@@ -1,9 +1,6 @@
-use borrow.Author.Rules.{rules}
-use native.Mathlib.Omega.{arith}
 use Prim.Native.Nat.{ℕ, ◌≤◌, ◌<◌}
 use mathlib.Core.Path.{◌≡◌}
 use lib.ListN.{get_or}
-use Rattle.content_split.proofs.Steps.{one_down}
 use Rattle.content_split.proofs.last_before.Given as goal
 
 abbrev pub invariant-loop-e : goal.invariant-loop-e

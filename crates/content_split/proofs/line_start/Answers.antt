@@ -1,9 +1,6 @@
 use borrow.Author.Rules.{rules}
 use borrow.Author.Count.{below_more}
 use native.Mathlib.Omega.{arith}
-use Prim.Native.Nat.{ℕ, ◌≤◌, ◌<◌, ◌-◌}
-use mathlib.Core.Path.{◌≡◌}
-use lib.ListN.{length, get_or}
 use Rattle.content_split.proofs.line_start.Goals as goal
 
 pub returns-then-text-s : goal.returns-then-text-s

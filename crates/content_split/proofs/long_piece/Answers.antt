@@ -1,4 +1,3 @@
-use borrow.Author.Rules.{rules}
 use native.Mathlib.Omega.{arith}
 use Rattle.text_width.proofs.Measure.{reached-all}
 use Rattle.content_split.proofs.Back.{few_bytes, few_columns, past-width, within-width}

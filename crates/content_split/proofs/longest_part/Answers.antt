@@ -1,13 +1,4 @@
-use borrow.Author.Rules.{rules}
 use native.Mathlib.Omega.{arith}
-use Prim.Native.Nat.{◌≤◌, ◌-◌, max}
-use mathlib.Core.Path.{◌≡◌}
-use lib.ListN.{length, drop}
-use Rattle.rules.specs.Wrap.{split}
-use mathlib.Core.List.{map}
-use Rattle.rules.specs.Text.{text_width, greatest}
-use Rattle.content_split.specs.Cut.{Sound}
-use Rattle.text_width.specs.Measure.{IsPlain}
 use Rattle.content_split.proofs.Found.{is-line, is_none, longest-on, longest-none, line_sound}
 use Rattle.content_split.proofs.Steps.{none-at_end}
 use Rattle.content_split.proofs.longest_part.Goals as goal

@@ -1,5 +1,3 @@
-use borrow.Author.Rules.{rules}
-use native.Mathlib.Omega.{arith}
 use Prim.Native.Nat.{◌≤◌, ◌-◌, max}
 use mathlib.Core.Path.{◌≡◌}
 use lib.ListN.{length, drop}
@@ -8,8 +6,6 @@ use mathlib.Core.List.{map}
 use Rattle.rules.specs.Text.{text_width, greatest}
 use Rattle.content_split.specs.Cut.{Sound}
 use Rattle.text_width.specs.Measure.{IsPlain}
-use Rattle.content_split.proofs.Found.{is-line, is_none, longest-on, longest-none, line_sound}
-use Rattle.content_split.proofs.Steps.{none-at_end}
 use Rattle.content_split.proofs.longest_part.Given as goal
 
 abbrev pub invariant-loop-at : goal.invariant-loop-at

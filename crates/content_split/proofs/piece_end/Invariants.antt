@@ -1,9 +1,5 @@
-use borrow.Author.Rules.{rules}
-use borrow.Author.Count.{below_more}
-use native.Mathlib.Omega.{arith}
 use Prim.Native.Nat.{ℕ, ◌≤◌, ◌<◌, ◌-◌}
 use mathlib.Core.Path.{◌≡◌}
-use mathlib.Core.Logic.{inl, inr}
 use lib.ListN.{length, get_or}
 use Rattle.content_split.proofs.piece_end.Given as goal
 

@@ -1,4 +1,3 @@
-use borrow.Author.Rules.{rules}
 use Rattle.content_split.proofs.split_line.Goals as goal
 
 pub split_plain-requires : goal.split_plain-requires

@@ -1,4 +1,3 @@
-use borrow.Author.Rules.{rules}
 use Rattle.content_split.proofs.split_plain.Goals as goal
 
 pub split_from-requires : goal.split_from-requires

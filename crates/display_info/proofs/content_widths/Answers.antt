@@ -1,4 +1,3 @@
-use borrow.Author.Rules.{rules}
 use Rattle.arrangement.proofs.Layouts.{widths-at}
 use Rattle.display_info.proofs.content_widths.Goals as goal
 

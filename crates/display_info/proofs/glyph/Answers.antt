@@ -1,6 +1,5 @@
 -- `lines::open::glyph` meets its contract. Assumes nothing.
 use Rattle.display_info.proofs.Opening.{glyph_is}
-use borrow.Author.Rules.{rules}
 use Rattle.display_info.proofs.glyph.Goals as goal
 
 pub returns : goal.returns

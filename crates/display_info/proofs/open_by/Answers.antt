@@ -1,4 +1,3 @@
-use borrow.Author.Rules.{rules}
 use mathlib.Core.Path.{ap, ◌∙◌}
 use Rattle.display_info.specs.Opened.{styles_of}
 use Rattle.display_info.proofs.Opening.{marks_of, header_at, header_one, rows_at, rows_few}

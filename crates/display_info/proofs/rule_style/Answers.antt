@@ -1,6 +1,5 @@
 -- `lines::open::rule_style` meets its contract. Assumes nothing.
 use Rattle.display_info.proofs.Opening.{rule_style_is}
-use borrow.Author.Rules.{rules}
 use Rattle.display_info.proofs.rule_style.Goals as goal
 
 pub returns : goal.returns

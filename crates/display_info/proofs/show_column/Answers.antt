@@ -1,4 +1,3 @@
-use borrow.Author.Rules.{rules}
 use native.Mathlib.Omega.{arith}
 use Rattle.display_info.proofs.Opening.{show_hidden, show-visible}
 use Rattle.display_info.proofs.show_column.Goals as goal

@@ -1,11 +1,7 @@
-use borrow.Author.Rules.{rules}
 use native.Mathlib.Omega.{arith}
-use Prim.Native.Nat.{◌-◌, ◌≤◌}
-use Rattle.rules.specs.Sheet.{most_columns}
 use Rattle.table.specs.Held.{table_of}
 use Rattle.arrangement.proofs.Layouts.{count_fits, column-at}
-use Rattle.row.specs.Packed.{view_of}
-use Rattle.display_info.proofs.Opening.{limits_of, Showing, showing_begin, showing-on, showing_done, columns-count, width_is, delimiter_is}
+use Rattle.display_info.proofs.Opening.{limits_of, showing_begin, showing-on, showing_done, columns-count, width_is, delimiter_is}
 use Rattle.display_info.proofs.Opening.{view_rising, view_usable, view_narrow}
 use Rattle.display_info.proofs.show_columns.Goals as goal
 

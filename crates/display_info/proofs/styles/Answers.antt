@@ -1,6 +1,5 @@
 -- `lines::open::styles` meets its contract. Assumes nothing.
 use Rattle.display_info.proofs.Opening.{edges_are}
-use borrow.Author.Rules.{rules}
 use Rattle.display_info.proofs.styles.Goals as goal
 
 pub styles_by-requires : goal.styles_by-requires

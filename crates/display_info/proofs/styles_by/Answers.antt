@@ -1,6 +1,5 @@
 -- `lines::open::styles_by` meets its contract. Assumes nothing.
 use Rattle.display_info.proofs.Opening.{styles_are}
-use borrow.Author.Rules.{rules}
 use Rattle.display_info.proofs.styles_by.Goals as goal
 
 pub returns : goal.returns

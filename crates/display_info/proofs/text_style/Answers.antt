@@ -1,6 +1,5 @@
 -- `lines::open::text_style` meets its contract. Assumes nothing.
 use Rattle.display_info.proofs.Opening.{text_style_is}
-use borrow.Author.Rules.{rules}
 use Rattle.display_info.proofs.text_style.Goals as goal
 
 pub returns : goal.returns

@@ -1,11 +1,7 @@
-use borrow.Author.Rules.{rules}
-use native.Mathlib.Omega.{arith}
 use Prim.Native.Nat.{◌-◌}
-use mathlib.Core.Path.{◌∙◌}
 use Rattle.table.specs.Walk.{cells_in}
 use Rattle.row.specs.Packed.{view_of, pendings_of}
-use Rattle.row.proofs.Open.{Opening, opening_begins, opening_done}
-use Rattle.row.proofs.Lent.{pendings-length, cell-wide, known-here, open_order, open-on}
+use Rattle.row.proofs.Open.{Opening}
 use Rattle.row.proofs.format_row.Given as goal
 
 abbrev pub invariant-loop-i : goal.invariant-loop-i

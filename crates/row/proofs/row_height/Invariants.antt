@@ -1,10 +1,7 @@
-use borrow.Author.Rules.{rules}
-use native.Mathlib.Omega.{arith}
 use Prim.Native.Nat.{◌-◌}
 use Rattle.table.specs.Walk.{cells_in}
 use Rattle.row.specs.Packed.{view_of}
-use Rattle.row.proofs.Heights.{Measuring, measuring_begins, measuring_done}
-use Rattle.row.proofs.Lent.{cell-wide, known-here, tall-order, tall-on}
+use Rattle.row.proofs.Heights.{Measuring}
 use Rattle.row.proofs.row_height.Given as goal
 
 abbrev pub invariant-loop-i : goal.invariant-loop-i

@@ -1,11 +1,8 @@
-use borrow.Author.Rules.{rules}
-use native.Mathlib.Omega.{arith}
 use Prim.Native.Nat.{◌-◌}
 use Rattle.table.specs.Walk.{cells_in}
 use Rattle.row.specs.Height.{pairs_held}
 use Rattle.row.specs.Packed.{view_of}
-use Rattle.row.proofs.Heights.{Adding, adding_begins, adding_done}
-use Rattle.row.proofs.Lent.{add-order, add-on}
+use Rattle.row.proofs.Heights.{Adding}
 use Rattle.row.proofs.row_pairs.Given as goal
 
 abbrev pub invariant-loop-i : goal.invariant-loop-i

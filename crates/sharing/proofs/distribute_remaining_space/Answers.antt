@@ -1,7 +1,5 @@
-use Prim.Native.Nat.{◌-◌, ◌≤◌}
 use native.Mathlib.Omega.{arith}
-use Rattle.constraint.proofs.Laws.{Walk, walk_begin, walk-again, walk_done}
-use Rattle.sharing.specs.Share.{sharing}
+use Rattle.constraint.proofs.Laws.{walk_begin, walk-again, walk_done}
 use Rattle.sharing.proofs.Shares.{sharing_given, distributed-at}
 use borrow.Author.Rules.{rules}
 use Rattle.sharing.proofs.distribute_remaining_space.Goals as goal

@@ -1,9 +1,6 @@
 use Prim.Native.Nat.{◌-◌, ◌≤◌}
-use native.Mathlib.Omega.{arith}
-use Rattle.constraint.proofs.Laws.{Walk, walk_begin, walk-again, walk_done}
+use Rattle.constraint.proofs.Laws.{Walk}
 use Rattle.sharing.specs.Share.{sharing}
-use Rattle.sharing.proofs.Shares.{sharing_given, distributed-at}
-use borrow.Author.Rules.{rules}
 use Rattle.sharing.proofs.distribute_remaining_space.Given as goal
 
 abbrev pub invariant-loop-i : goal.invariant-loop-i

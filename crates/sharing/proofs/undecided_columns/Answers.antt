@@ -1,6 +1,6 @@
 use lib.Count.{ones-le}
 use native.Mathlib.Omega.{arith}
-use Rattle.constraint.specs.Widths.{decided, set_width}
+use Rattle.constraint.specs.Widths.{set_width}
 use borrow.Author.Rules.{rules}
 use Rattle.sharing.proofs.undecided_columns.Goals as goal
 

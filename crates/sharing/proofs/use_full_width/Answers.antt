@@ -1,8 +1,6 @@
-use Prim.Native.Nat.{◌-◌, ◌≤◌}
 use native.Mathlib.Omega.{arith}
-use Rattle.constraint.proofs.Laws.{Walk, walk_begin, walk-again, walk_done}
-use Rattle.sharing.specs.Share.{widening}
-use Rattle.sharing.proofs.Shares.{widening_given, Ahead, widening-ahead, filled_none, filled-some}
+use Rattle.constraint.proofs.Laws.{walk_begin, walk-again, walk_done}
+use Rattle.sharing.proofs.Shares.{widening_given, widening-ahead, filled_none, filled-some}
 use borrow.Author.Rules.{rules}
 use Rattle.sharing.proofs.use_full_width.Goals as goal
 

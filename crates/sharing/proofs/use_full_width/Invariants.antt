@@ -1,9 +1,7 @@
 use Prim.Native.Nat.{◌-◌, ◌≤◌}
-use native.Mathlib.Omega.{arith}
-use Rattle.constraint.proofs.Laws.{Walk, walk_begin, walk-again, walk_done}
+use Rattle.constraint.proofs.Laws.{Walk}
 use Rattle.sharing.specs.Share.{widening}
-use Rattle.sharing.proofs.Shares.{widening_given, Ahead, widening-ahead, filled_none, filled-some}
-use borrow.Author.Rules.{rules}
+use Rattle.sharing.proofs.Shares.{Ahead}
 use Rattle.sharing.proofs.use_full_width.Given as goal
 
 abbrev pub invariant-loop-i : goal.invariant-loop-i

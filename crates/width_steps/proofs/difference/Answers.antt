@@ -1,5 +1,4 @@
 use Rattle.width_steps.proofs.Signed.{difference_fits, difference_is}
-use borrow.Author.Rules.{rules}
 use native.Mathlib.Omega.{arith}
 use Rattle.width_steps.proofs.difference.Goals as goal
 

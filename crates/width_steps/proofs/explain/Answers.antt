@@ -1,4 +1,3 @@
-use borrow.Author.Rules.{rules}
 use Rattle.width_steps.proofs.Named.{report-at}
 use Rattle.width_steps.proofs.explain.Goals as goal
 

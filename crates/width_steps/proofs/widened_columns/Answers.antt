@@ -1,7 +1,4 @@
-use Prim.Native.Nat.{◌-◌}
-use native.Mathlib.Omega.{arith}
-use Rattle.constraint.proofs.Laws.{Walk, walk_begin, walk-again, walk_done}
-use Rattle.width_steps.specs.Steps.{widening}
+use Rattle.constraint.proofs.Laws.{walk_begin, walk-again, walk_done}
 use Rattle.width_steps.proofs.Ways.{widening-at}
 use borrow.Author.Rules.{rules}
 use Rattle.width_steps.proofs.widened_columns.Goals as goal

@@ -1,9 +1,6 @@
 use Prim.Native.Nat.{◌-◌}
-use native.Mathlib.Omega.{arith}
-use Rattle.constraint.proofs.Laws.{Walk, walk_begin, walk-again, walk_done}
+use Rattle.constraint.proofs.Laws.{Walk}
 use Rattle.width_steps.specs.Steps.{widening}
-use Rattle.width_steps.proofs.Ways.{widening-at}
-use borrow.Author.Rules.{rules}
 use Rattle.width_steps.proofs.widened_columns.Given as goal
 
 abbrev pub invariant-loop-i : goal.invariant-loop-i

@@ -1,9 +1,5 @@
 use borrow.Author.Rules.{rules}
-use Prim.Native.Nat.{◌-◌}
-use native.Mathlib.Omega.{arith}
-use Rattle.constraint.specs.Widths.{step}
-use Rattle.constraint.proofs.Laws.{Walk, walk_begin, walk-again, walk_done}
-use Rattle.arrangement.specs.Arrange.{untargeted}
+use Rattle.constraint.proofs.Laws.{walk_begin, walk-again, walk_done}
 use Rattle.arrangement.proofs.disabled.arrange.Goals as goal
 
 pub loop-i-init : goal.loop-i-init

@@ -1,9 +1,7 @@
 use Prim.Native.Nat.{◌+◌}
-use native.Mathlib.Omega.{arith}
 use Rattle.constraint.specs.Widths.{pass}
 use Rattle.arrangement.specs.Arrange.{repeated, lower_rule}
-use Rattle.arrangement.proofs.Rounds.{pass_grew, left, Going, weight, round_begin, round_done, round-again, round_less}
-use borrow.Author.Rules.{rules}
+use Rattle.arrangement.proofs.Rounds.{left, Going, weight}
 use Rattle.arrangement.proofs.dynamic.enforce_lower_boundary_constraints.Given as goal
 
 abbrev pub invariant-loop-try_again : goal.invariant-loop-try_again

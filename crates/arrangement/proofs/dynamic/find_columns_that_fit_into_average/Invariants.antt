@@ -1,8 +1,6 @@
-use borrow.Author.Rules.{rules}
 use Prim.Native.Nat.{◌+◌}
-use native.Mathlib.Omega.{arith}
 use Rattle.arrangement.specs.Arrange.{fit_pass, repeated}
-use Rattle.arrangement.proofs.Rounds.{fit_grew, left, Going, weight, round_begin, round_done, round-again, round_less}
+use Rattle.arrangement.proofs.Rounds.{left, Going, weight}
 use Rattle.arrangement.proofs.dynamic.find_columns_that_fit_into_average.Given as goal
 
 abbrev pub invariant-loop-found_smaller : goal.invariant-loop-found_smaller

@@ -1,11 +1,9 @@
 use borrow.Author.Rules.{rules}
-use Prim.Native.Nat.{◌-◌}
 use native.Mathlib.Omega.{arith}
-use mathlib.Core.Path.{◌≡◌, refl, ap, ◌∙◌}
+use mathlib.Core.Path.{refl, ap, ◌∙◌}
 use Rattle.constraint.specs.declared.State.{State}
-use Rattle.constraint.specs.Widths.{step, average}
-use Rattle.constraint.proofs.Laws.{Walk, walk_begin, walk-again, walk_done}
-use Rattle.arrangement.specs.Arrange.{fit_rule}
+use Rattle.constraint.specs.Widths.{average}
+use Rattle.constraint.proofs.Laws.{walk_begin, walk-again, walk_done}
 use Rattle.arrangement.proofs.dynamic.fit_pass.Goals as goal
 
 pub loop-i-init : goal.loop-i-init

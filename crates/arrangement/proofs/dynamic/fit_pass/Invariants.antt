@@ -1,10 +1,7 @@
-use borrow.Author.Rules.{rules}
 use Prim.Native.Nat.{◌-◌}
-use native.Mathlib.Omega.{arith}
-use mathlib.Core.Path.{◌≡◌, refl, ap, ◌∙◌}
-use Rattle.constraint.specs.declared.State.{State}
-use Rattle.constraint.specs.Widths.{step, average}
-use Rattle.constraint.proofs.Laws.{Walk, walk_begin, walk-again, walk_done}
+use mathlib.Core.Path.{◌≡◌}
+use Rattle.constraint.specs.Widths.{step}
+use Rattle.constraint.proofs.Laws.{Walk}
 use Rattle.arrangement.specs.Arrange.{fit_rule}
 use Rattle.arrangement.proofs.dynamic.fit_pass.Given as goal
 

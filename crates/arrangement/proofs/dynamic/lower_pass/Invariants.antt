@@ -1,8 +1,6 @@
-use borrow.Author.Rules.{rules}
 use Prim.Native.Nat.{◌-◌}
-use native.Mathlib.Omega.{arith}
 use Rattle.constraint.specs.Widths.{step}
-use Rattle.constraint.proofs.Laws.{Walk, walk_begin, walk-again, walk_done}
+use Rattle.constraint.proofs.Laws.{Walk}
 use Rattle.arrangement.specs.Arrange.{lower_rule}
 use Rattle.arrangement.proofs.dynamic.lower_pass.Given as goal
 

@@ -1,10 +1,9 @@
 use Rattle.rules.specs.Widths.{longest_part}
 use Rattle.table.specs.Held.{table_of}
-use borrow.Author.Rules.{rules}
 use Prim.Native.Nat.{◌+◌}
 use Rattle.constraint.specs.Widths.{pass}
 use Rattle.arrangement.specs.Arrange.{split_rule, repeated}
-use Rattle.arrangement.proofs.Rounds.{pass_grew, left, Going, weight, round_begin, round_done, round-again, round_less}
+use Rattle.arrangement.proofs.Rounds.{left, Going, weight}
 use Rattle.arrangement.proofs.dynamic.optimize_space_after_split.Given as goal
 
 abbrev pub invariant-loop-found_smaller : goal.invariant-loop-found_smaller

@@ -1,8 +1,7 @@
 use mathlib.Core.Path.{ap, ◌∙◌}
-use Prim.Native.Nat.{◌-◌}
 use native.Mathlib.Omega.{arith}
 use Rattle.constraint.specs.Widths.{in_order}
-use Rattle.constraint.proofs.Laws.{Walk, walk_begin, walk-again, walk_done}
+use Rattle.constraint.proofs.Laws.{walk_begin, walk-again, walk_done}
 use Rattle.arrangement.specs.Arrange.{charged}
 use borrow.Author.Rules.{rules}
 use Rattle.arrangement.proofs.dynamic.remaining_width.Goals as goal

@@ -1,10 +1,6 @@
-use mathlib.Core.Path.{ap, ◌∙◌}
 use Prim.Native.Nat.{◌-◌}
-use native.Mathlib.Omega.{arith}
-use Rattle.constraint.specs.Widths.{in_order}
-use Rattle.constraint.proofs.Laws.{Walk, walk_begin, walk-again, walk_done}
+use Rattle.constraint.proofs.Laws.{Walk}
 use Rattle.arrangement.specs.Arrange.{charged}
-use borrow.Author.Rules.{rules}
 use Rattle.arrangement.proofs.dynamic.remaining_width.Given as goal
 
 abbrev pub invariant-loop-i : goal.invariant-loop-i

@@ -1,11 +1,6 @@
-use Rattle.rules.specs.Widths.{longest_part}
-use Rattle.table.specs.Held.{table_of}
 use borrow.Author.Rules.{rules}
-use Prim.Native.Nat.{◌-◌}
 use native.Mathlib.Omega.{arith}
-use Rattle.constraint.specs.Widths.{step}
-use Rattle.constraint.proofs.Laws.{Walk, walk_begin, walk-again, walk_done}
-use Rattle.arrangement.specs.Arrange.{split_rule}
+use Rattle.constraint.proofs.Laws.{walk_begin, walk-again, walk_done}
 use Rattle.arrangement.proofs.dynamic.split_pass.Goals as goal
 
 pub loop-i-init : goal.loop-i-init

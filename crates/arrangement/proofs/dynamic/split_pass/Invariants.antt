@@ -1,10 +1,8 @@
 use Rattle.rules.specs.Widths.{longest_part}
 use Rattle.table.specs.Held.{table_of}
-use borrow.Author.Rules.{rules}
 use Prim.Native.Nat.{◌-◌}
-use native.Mathlib.Omega.{arith}
 use Rattle.constraint.specs.Widths.{step}
-use Rattle.constraint.proofs.Laws.{Walk, walk_begin, walk-again, walk_done}
+use Rattle.constraint.proofs.Laws.{Walk}
 use Rattle.arrangement.specs.Arrange.{split_rule}
 use Rattle.arrangement.proofs.dynamic.split_pass.Given as goal
 

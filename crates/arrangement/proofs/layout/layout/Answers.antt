@@ -1,4 +1,3 @@
-use borrow.Author.Rules.{rules}
 use native.Mathlib.Omega.{arith}
 use Rattle.laws.proofs.Accepted.{accepted_limits}
 use Rattle.table.proofs.Held.{held}

@@ -1,4 +1,3 @@
-use borrow.Author.Rules.{rules}
 use Rattle.arrangement.proofs.Layouts.{style_at}
 use Rattle.arrangement.proofs.layout.style_from.Goals as goal
 

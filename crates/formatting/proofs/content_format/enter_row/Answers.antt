@@ -1,4 +1,3 @@
-use borrow.Author.Rules.{rules}
 use Rattle.table.specs.Walk.{first_row}
 use Rattle.table.proofs.Walks.{cells_inside}
 use Rattle.row.specs.Packed.{view_of, pendings_of}

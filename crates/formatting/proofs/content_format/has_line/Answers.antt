@@ -1,5 +1,4 @@
 use Rattle.formatting.proofs.Stand.{past_limit, below_limit}
-use borrow.Author.Rules.{rules}
 use Rattle.formatting.proofs.content_format.has_line.Goals as goal
 
 pub returns-then-limit-line : goal.returns-then-limit-line

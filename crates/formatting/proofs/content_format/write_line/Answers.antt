@@ -1,10 +1,8 @@
-use borrow.Author.Rules.{rules}
 use native.Mathlib.Omega.{arith}
-use Prim.Native.Nat.{◌-◌}
 use mathlib.Core.Path.{sym}
 use lib.ListN.{take, length-set}
 use Rattle.row.specs.Packed.{view_of, pendings_of}
-use Rattle.formatting.proofs.Line.{line-length, line_whole, Drawing, drawing_begins, drawing_done, passing_done}
+use Rattle.formatting.proofs.Line.{line-length, line_whole, drawing_begins, drawing_done, passing_done}
 use Rattle.formatting.proofs.Lent.{same-cell, column_fits, column-room, column-drawn}
 use Rattle.formatting.proofs.content_format.write_line.Goals as goal
 

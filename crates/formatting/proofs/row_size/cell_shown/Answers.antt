@@ -1,13 +1,7 @@
-use borrow.Author.Rules.{rules}
-use borrow.Author.Tests.{not-true, not-false}
 use native.Mathlib.Omega.{arith}
-use Prim.Native.Nat.{ℕ, ◌-◌}
-use mathlib.Core.List.{List}
 use mathlib.Core.Path.{sym, ap, ◌∙◌}
 use mathlib.Core.Bool.{◌&&◌}
-use lib.ListN.{take}
-use Rattle.row.specs.Pending.{Stands}
-use Rattle.formatting.proofs.Shown.{Showing, showing_begins, showing_ends, showing-on, showing_done}
+use Rattle.formatting.proofs.Shown.{showing_begins, showing_ends, showing-on, showing_done}
 use Rattle.formatting.proofs.row_size.cell_shown.Goals as goal
 
 -- the cell isn't seen by the loop, so what it needs is said of any lines that it may be opened at

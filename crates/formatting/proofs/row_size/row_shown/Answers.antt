@@ -1,14 +1,9 @@
-use borrow.Author.Rules.{rules}
 use native.Mathlib.Omega.{arith}
-use Prim.Native.Nat.{◌+◌, ◌-◌, ◌*◌}
-use lib.ListN.{take}
-use Rattle.rules.specs.Limits.{most_lines}
 use Rattle.table.specs.Walk.{cells_in}
 use Rattle.table.proofs.Walks.{cells_inside}
 use Rattle.row.specs.Packed.{view_of}
-use Rattle.row.proofs.Heights.{Adding, adding_begins, adding_done}
+use Rattle.row.proofs.Heights.{adding_begins, adding_done}
 use Rattle.row.proofs.Lent.{cell-wide, known-here, add-order, add-on}
-use Rattle.formatting.specs.Shown.{pairs_shown}
 use Rattle.formatting.proofs.row_size.row_shown.Goals as goal
 
 pub row-r-requires : goal.row-r-requires

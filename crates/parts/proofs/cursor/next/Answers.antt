@@ -1,4 +1,3 @@
-use borrow.Author.Rules.{rules}
 use Rattle.parts.proofs.Parts.{next_top, next_header, next-body, next_bottom, next_end}
 use Rattle.parts.proofs.cursor.next.Goals as goal
 

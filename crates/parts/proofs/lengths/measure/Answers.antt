@@ -1,4 +1,3 @@
-use borrow.Author.Rules.{rules}
 use native.Mathlib.Omega.{arith}
 use Rattle.parts.proofs.Measures.{lengths_are}
 use Rattle.parts.proofs.lengths.measure.Goals as goal

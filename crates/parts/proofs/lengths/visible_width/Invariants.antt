@@ -1,10 +1,7 @@
-use native.Mathlib.Omega.{arith}
 use Prim.Native.Nat.{◌*◌, ◌-◌, ◌≤◌}
 use mathlib.Core.Path.{◌≡◌}
-use borrow.Author.Rules.{rules}
 use Rattle.row.specs.Packed.{view_of}
 use Rattle.parts.specs.Lengths.{width_up_to}
-use Rattle.parts.proofs.Measures.{width-none, width-on, width_done, column_narrow}
 use Rattle.parts.proofs.lengths.visible_width.Given as goal
 
 abbrev pub invariant-loop-i : goal.invariant-loop-i

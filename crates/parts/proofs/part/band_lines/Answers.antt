@@ -1,4 +1,3 @@
-use borrow.Author.Rules.{rules}
 use native.Mathlib.Omega.{arith}
 use Rattle.parts.proofs.Parts.{row-height_few, drawable}
 use Rattle.parts.proofs.Bands.{band-none, band-some}

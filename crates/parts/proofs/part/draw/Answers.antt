@@ -1,4 +1,3 @@
-use borrow.Author.Rules.{rules}
 use native.Mathlib.Omega.{arith}
 use Rattle.parts.proofs.Parts.{top_sized, header_sized, body_sized, bottom_sized}
 use Rattle.parts.proofs.Bands.{draw_top, draw_header, draw-body, draw_bottom, draw_end, header-within, body-within}

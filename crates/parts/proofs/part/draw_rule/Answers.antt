@@ -1,4 +1,3 @@
-use borrow.Author.Rules.{rules}
 use Rattle.row.specs.Packed.{view_of}
 use Rattle.parts.proofs.Bands.{rule-none, rule-full, rule-one, rule-room}
 use Rattle.std.proofs.lemmas.Bool.{not_from_false, not_from_true}

@@ -1,4 +1,3 @@
-use borrow.Author.Rules.{rules}
 use Rattle.parts.proofs.Parts.{top_count, header-count, body-count, bottom-count, end-count}
 use mathlib.Core.Path.{refl}
 use Rattle.parts.proofs.part.lines.Goals as goal

@@ -1,4 +1,3 @@
-use borrow.Author.Rules.{rules}
 use Rattle.table.proofs.Walks.{cells_inside}
 use Rattle.parts.proofs.Bands.{row-lines_are}
 use Rattle.parts.proofs.part.row_lines.Goals as goal

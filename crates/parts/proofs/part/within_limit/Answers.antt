@@ -1,4 +1,3 @@
-use borrow.Author.Rules.{rules}
 use mathlib.Core.Path.{◌∙◌}
 use Rattle.parts.proofs.Bands.{limited-none, limited-some}
 use Rattle.parts.proofs.part.within_limit.Goals as goal

@@ -1,4 +1,3 @@
-use borrow.Author.Rules.{rules}
 use native.Mathlib.Omega.{arith}
 use Rattle.parts.proofs.Parts.{header_sized, body_sized}
 use Rattle.parts.proofs.Bands.{top-most, bottom-most, top_bytes, header-here, header_bytes, body-here, body_bytes, bottom_bytes, end_bytes}

@@ -1,4 +1,3 @@
-use borrow.Author.Rules.{rules}
 use native.Mathlib.Omega.{arith}
 use Rattle.parts.proofs.Parts.{header_sized, body_sized}
 use Rattle.parts.proofs.Bands.{top-line, header_there, header-line, body_there, body-line, bottom-line, end_line}

@@ -1,4 +1,3 @@
-use borrow.Author.Rules.{rules}
 use Rattle.row.proofs.Lent.{column_is}
 use Rattle.row.proofs.packed.column_from.Goals as goal
 

@@ -1,4 +1,3 @@
-use borrow.Author.Rules.{rules}
 use Rattle.row.proofs.Lent.{column_packed}
 use Rattle.row.proofs.packed.pack_column.Goals as goal
 

@@ -1,4 +1,3 @@
-use borrow.Author.Rules.{rules}
 use Rattle.row.proofs.Lent.{pending_packed}
 use Rattle.row.proofs.packed.pack_pending.Goals as goal
 

@@ -1,4 +1,3 @@
-use borrow.Author.Rules.{rules}
 use mathlib.Core.Path.{refl}
 use Rattle.row.proofs.Lent.{pending_is}
 use Rattle.row.proofs.packed.pending_from.Goals as goal

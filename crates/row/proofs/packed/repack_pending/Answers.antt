@@ -1,4 +1,3 @@
-use borrow.Author.Rules.{rules}
 use Rattle.row.proofs.Lent.{pending_repacked}
 use Rattle.row.proofs.packed.repack_pending.Goals as goal
 

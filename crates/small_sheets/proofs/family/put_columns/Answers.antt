@@ -1,0 +1,16 @@
+use native.Mathlib.Omega.{arith}
+use Rattle.small_sheets.proofs.Puts.{columns-put}
+use Rattle.small_sheets.proofs.Bytes.{columns-length}
+use Rattle.small_sheets.proofs.family.put_columns.Goals as goal
+
+pub fill-q-requires : goal.fill-q-requires
+fill-q-requires c = omega (arith, c.requires.columns_in_bounds, columns-length c.args.columns, c.copy-p.ensures.value, c.copy-p.auto.dst)
+
+pub copy-requires : goal.copy-requires
+copy-requires c = omega (arith, c.requires.columns_in_bounds, columns-length c.args.columns, c.copy-p.ensures.value, c.copy-p.auto.dst, c.fill-q.ensures.value, c.fill-q.auto.dst)
+
+pub returns : goal.returns
+returns c =
+    let r = columns-put c.args.sheet.now c.args.at c.args.columns c.copy-p.new.dst c.fill-q.new.dst c.copy.new.dst c.copy-p.result c.fill-q.result
+    c.copy.result c.requires.columns_in_bounds
+    c.copy-p.ensures.value c.copy-p.ensures.dst_after c.fill-q.ensures.value c.fill-q.ensures.dst_after c.copy.ensures.value c.copy.ensures.dst_after in record { value = r.0; sheet_after = r.1 }
