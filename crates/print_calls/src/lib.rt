@@ -62,7 +62,7 @@ fn holds(buffer: &[u8], wanted: &[u8]) -> bool {
     if buffer.len() < size {
         return false;
     }
-    if buffer[..size] != *wanted {
+    if &buffer[..size] != wanted {
         return false;
     }
     untouched(buffer, size)
