@@ -1,4 +1,3 @@
-use borrow.Author.Rules.{rules}
 use mathlib.Core.Path.{sym, ◌∙◌}
 use Rattle.lines.proofs.Walks.{found-past, found_short, found_there}
 use Rattle.lines.proofs.find.Goals as goal

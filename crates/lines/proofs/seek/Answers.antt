@@ -1,10 +1,7 @@
-use borrow.Author.Rules.{rules}
-use borrow.Author.Tests.{not-true, not-false}
 use native.Mathlib.Omega.{arith}
 use mathlib.Core.Path.{sym, ◌∙◌}
-use Rattle.parts.specs.Ahead.{steps_of}
 use Rattle.parts.proofs.Bands.{lines_few}
-use Rattle.lines.proofs.Walks.{Reaching, reaching_begins, reaching_found, reaching-on, reaching_ends}
+use Rattle.lines.proofs.Walks.{reaching_begins, reaching_found, reaching-on, reaching_ends}
 use Rattle.lines.proofs.seek.Goals as goal
 
 pub loop-p-init : goal.loop-p-init

@@ -1,4 +1,3 @@
-use borrow.Author.Rules.{rules}
 use mathlib.Core.Path.{refl}
 use Rattle.table.proofs.Held.{is_accepted}
 use Rattle.page.proofs.Answers.{examined, examined-plain, count_refused, count-all, count_accepted}

@@ -1,5 +1,4 @@
 -- `writer::body` meets its contract. Assumes nothing.
-use borrow.Author.Rules.{rules}
 use Rattle.writer.proofs.Walks.{body-walked}
 use Rattle.writer.proofs.body.Goals as goal
 

@@ -1,6 +1,5 @@
 -- `writer::decide` meets its contract. Assumes nothing.
 use mathlib.Core.Path.{◌∙◌}
-use borrow.Author.Rules.{rules}
 use Rattle.writer.proofs.Answers.{decided-missing, decided-over, decided_long, decided_fit}
 use Rattle.writer.proofs.decide.Goals as goal
 

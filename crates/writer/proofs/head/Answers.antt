@@ -1,5 +1,4 @@
 -- `writer::head` meets its contract. Assumes nothing.
-use borrow.Author.Rules.{rules}
 use Rattle.writer.proofs.Walks.{head-walked, head-length}
 use Rattle.writer.proofs.head.Goals as goal
 

@@ -1,6 +1,5 @@
 -- `writer::judge` meets its contract. Assumes nothing.
 use mathlib.Core.Path.{ap}
-use borrow.Author.Rules.{rules}
 use Rattle.editor.specs.Walk.{State}
 use Rattle.writer.proofs.judge.Goals as goal
 

@@ -1,5 +1,4 @@
 -- `writer::table` meets its contract. Assumes nothing.
-use borrow.Author.Rules.{rules}
 use Rattle.writer.proofs.Walks.{table-walked}
 use Rattle.writer.proofs.table.Goals as goal
 

@@ -1,5 +1,4 @@
 -- `writer::write_sheet` meets its contract. Assumes nothing.
-use borrow.Author.Rules.{rules}
 use Rattle.writer.proofs.Answers.{call_refused, call-saved}
 use Rattle.writer.proofs.write_sheet.Goals as goal
 

@@ -1,5 +1,4 @@
 -- `editor::field::byte_between` meets its contract. Assumes nothing.
-use borrow.Author.Rules.{rules}
 use Rattle.editor.proofs.Fields.{byte-entered}
 use Rattle.editor.proofs.field.byte_between.Goals as goal
 

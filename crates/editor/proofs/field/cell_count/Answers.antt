@@ -1,7 +1,6 @@
 -- `editor::field::cell_count` meets its contract. Assumes nothing.
 use mathlib.Core.Path.{ap, ◌∙◌}
 use mathlib.Core.Bool.{◌&&◌}
-use borrow.Author.Rules.{rules}
 use Rattle.editor.proofs.Fields.{count-entered}
 use Rattle.editor.proofs.field.cell_count.Goals as goal
 

@@ -1,5 +1,4 @@
 -- `editor::field::printable_or_zero` meets its contract. Assumes nothing.
-use borrow.Author.Rules.{rules}
 use Rattle.editor.proofs.Fields.{zero-passes, others-printable}
 use Rattle.editor.proofs.field.printable_or_zero.Goals as goal
 

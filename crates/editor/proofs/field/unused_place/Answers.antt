@@ -1,5 +1,4 @@
 -- `editor::field::unused_place` meets its contract. Assumes nothing.
-use borrow.Author.Rules.{rules}
 use Rattle.editor.proofs.Fields.{unused_next, unused-first}
 use Rattle.editor.proofs.field.unused_place.Goals as goal
 

@@ -1,6 +1,5 @@
 -- `editor::text::bytes` meets its contract. Assumes nothing.
 use mathlib.Core.Path.{refl}
-use borrow.Author.Rules.{rules}
 use Rattle.editor.proofs.Taking.{bytes-missing, bytes_past, bytes_short, bytes_there}
 use Rattle.editor.proofs.text.bytes.Goals as goal
 

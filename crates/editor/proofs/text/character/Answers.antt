@@ -1,5 +1,4 @@
 -- `editor::text::character` meets its contract. Assumes nothing.
-use borrow.Author.Rules.{rules}
 use Rattle.editor.proofs.Texts.{character-plain, character-other, character-last, character_half, character_pair}
 use Rattle.editor.proofs.text.character.Goals as goal
 

@@ -1,8 +1,5 @@
 -- `editor::text::characters` meets its contract. Assumes nothing.
-use Prim.Native.Nat.{◌-◌}
-use lib.ListN.{length}
-use borrow.Author.Rules.{rules}
-use Rattle.editor.proofs.Texts.{Passed, passed_begin, passed-again, passed_bad, passed-all}
+use Rattle.editor.proofs.Texts.{passed_begin, passed-again, passed_bad, passed-all}
 use Rattle.std.proofs.lemmas.Bool.{not_from_false, not_from_true}
 use Rattle.editor.proofs.text.characters.Goals as goal
 

@@ -1,5 +1,4 @@
 -- `editor::text::characters_of` meets its contract. Assumes nothing.
-use borrow.Author.Rules.{rules}
 use Rattle.editor.proofs.Texts.{of_indicator, of_style, of-line}
 use Rattle.editor.proofs.text.characters_of.Goals as goal
 

@@ -1,5 +1,4 @@
 -- `editor::text::enter` meets its contract. Assumes nothing.
-use borrow.Author.Rules.{rules}
 use Rattle.editor.proofs.Texts.{text-advanced}
 use Rattle.editor.proofs.Entering.{missing-entered, there-entered}
 use Rattle.editor.proofs.text.enter.Goals as goal

@@ -1,5 +1,4 @@
 -- `editor::text::judge` meets its contract. Assumes nothing.
-use borrow.Author.Rules.{rules}
 use Rattle.editor.proofs.Texts.{short-noted, long-noted, fine-noted, bad-noted}
 use Rattle.editor.proofs.text.judge.Goals as goal
 

@@ -1,9 +1,6 @@
 -- `editor::text::pairs` meets its contract. The loop: what is left to judge comes to what there was. Assumes nothing.
-use Prim.Native.Nat.{◌-◌}
-use lib.ListN.{length}
 use native.Mathlib.Omega.{arith}
-use borrow.Author.Rules.{rules}
-use Rattle.editor.proofs.Texts.{Judged, judged_begin, judged-again, judged-onward, judged_bad, judged-all}
+use Rattle.editor.proofs.Texts.{judged_begin, judged-again, judged-onward, judged_bad, judged-all}
 use Rattle.editor.proofs.text.pairs.Goals as goal
 
 pub loop-i-init : goal.loop-i-init

@@ -1,6 +1,5 @@
 -- `editor::text::put` meets its contract. Assumes nothing.
 use native.Mathlib.Omega.{arith}
-use borrow.Author.Rules.{rules}
 use Rattle.editor.proofs.Texts.{text_short, text-room, text-length, text-put}
 use Rattle.editor.proofs.Entering.{stamped-past}
 use Rattle.editor.proofs.text.put.Goals as goal

@@ -1,5 +1,4 @@
 -- `editor::text::text` meets its contract. Assumes nothing.
-use borrow.Author.Rules.{rules}
 use Rattle.editor.proofs.Texts.{text_missing, text_there, taken-order, taken_inside, taken-part}
 use Rattle.editor.proofs.text.text.Goals as goal
 

@@ -1,6 +1,5 @@
 -- `editor::walk::enter_byte` meets its contract. Assumes nothing.
 use mathlib.Core.Path.{ap, ◌∙◌}
-use borrow.Author.Rules.{rules}
 use Rattle.editor.specs.Walk.{advanced}
 use Rattle.editor.proofs.Entering.{missing-entered, there-entered}
 use Rattle.editor.proofs.walk.enter_byte.Goals as goal

@@ -1,6 +1,5 @@
 -- `editor::walk::further` meets its contract. Assumes nothing.
 use native.Mathlib.Omega.{arith}
-use borrow.Author.Rules.{rules}
 use Rattle.editor.proofs.Entering.{cap-over, cap_under}
 use Rattle.editor.proofs.walk.further.Goals as goal
 

@@ -1,5 +1,4 @@
 -- `editor::walk::note` meets its contract. Assumes nothing.
-use borrow.Author.Rules.{rules}
 use Rattle.editor.proofs.Entering.{noted_good, noted_kept, noted_bad}
 use Rattle.editor.proofs.walk.note.Goals as goal
 

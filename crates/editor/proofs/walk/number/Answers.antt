@@ -1,6 +1,5 @@
 -- `editor::walk::number` meets its contract. Assumes nothing.
 use mathlib.Core.Path.{refl}
-use borrow.Author.Rules.{rules}
 use Rattle.editor.proofs.Taking.{number_missing, number_past, number_there}
 use Rattle.editor.proofs.walk.number.Goals as goal
 

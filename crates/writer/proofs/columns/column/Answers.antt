@@ -1,5 +1,4 @@
 -- `writer::columns::column` meets its contract. Assumes nothing.
-use borrow.Author.Rules.{rules}
 use mathlib.Core.List.{[]}
 use Rattle.rules.specs.Format.{column}
 use Rattle.writer.proofs.Walks.{column-walked, kept-length}

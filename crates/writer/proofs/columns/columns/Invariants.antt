@@ -1,12 +1,8 @@
 -- `writer::columns::columns` meets its contract. The loop: what is left to walk from here comes to what there was to walk. Assumes nothing.
-use mathlib.Core.Path.{refl}
 use mathlib.Core.List.{[]}
-use borrow.Author.Rules.{rules}
-use Rattle.rules.specs.Sheet.{most_columns}
-use Rattle.rules.specs.Description.{counted}
 use Rattle.rules.specs.Format.{column}
 use Rattle.editor.specs.Walk.{state, again, walked}
-use Rattle.writer.proofs.Walks.{Left, left_begin, left-again, left_done, still_less, counted-walked, kept-length}
+use Rattle.writer.proofs.Walks.{Left}
 use Rattle.writer.proofs.columns.columns.Given as goal
 
 abbrev pub invariant-loop-left : goal.invariant-loop-left

@@ -1,5 +1,4 @@
 -- `writer::columns::constraint` meets its contract. Assumes nothing.
-use borrow.Author.Rules.{rules}
 use Rattle.writer.proofs.Walks.{constraint-walked}
 use Rattle.writer.proofs.columns.constraint.Goals as goal
 

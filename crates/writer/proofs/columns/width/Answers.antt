@@ -1,5 +1,4 @@
 -- `writer::columns::width` meets its contract. Assumes nothing.
-use borrow.Author.Rules.{rules}
 use Rattle.writer.proofs.Walks.{width_used, width_unused}
 use Rattle.writer.proofs.columns.width.Goals as goal
 

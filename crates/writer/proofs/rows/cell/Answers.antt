@@ -1,5 +1,4 @@
 -- `writer::rows::cell` meets its contract. Assumes nothing.
-use borrow.Author.Rules.{rules}
 use Rattle.writer.proofs.Walks.{cell-walked}
 use Rattle.writer.proofs.rows.cell.Goals as goal
 

@@ -1,10 +1,8 @@
 -- `writer::rows::cells` meets its contract. The loop: what is left to walk from here comes to what there was to walk. Assumes nothing.
 use mathlib.Core.Path.{refl}
-use borrow.Author.Rules.{rules}
 use Rattle.rules.specs.Description.{listed}
 use Rattle.rules.specs.Format.{cell_count, cell}
-use Rattle.editor.specs.Walk.{state, again, walked}
-use Rattle.writer.proofs.Walks.{Left, left_begin, left-again, left_done, still_less, cells-walked, kept-length}
+use Rattle.writer.proofs.Walks.{left_begin, left-again, left_done, still_less, cells-walked, kept-length}
 use Rattle.writer.proofs.rows.cells.Goals as goal
 
 pub loop-left-init : goal.loop-left-init

@@ -1,10 +1,7 @@
 -- `writer::rows::lines` meets its contract. The loop: what is left to walk from here comes to what there was to walk. Assumes nothing.
-use mathlib.Core.Path.{refl}
-use borrow.Author.Rules.{rules}
-use Rattle.rules.specs.Description.{counted}
 use Rattle.rules.specs.Format.{line}
 use Rattle.editor.specs.Walk.{state, again, walked}
-use Rattle.writer.proofs.Walks.{Left, left_begin, left-again, left_done, still_less, counted-walked, kept-length}
+use Rattle.writer.proofs.Walks.{Left}
 use Rattle.writer.proofs.rows.lines.Given as goal
 
 abbrev pub invariant-loop-left : goal.invariant-loop-left

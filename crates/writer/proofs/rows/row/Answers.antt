@@ -1,5 +1,4 @@
 -- `writer::rows::row` meets its contract. Assumes nothing.
-use borrow.Author.Rules.{rules}
 use Rattle.writer.proofs.Walks.{row_walked}
 use Rattle.writer.proofs.rows.row.Goals as goal
 
