@@ -3,54 +3,53 @@
 // between them.
 #![tactic(auto)]
 
-mod refusal;
-
-ghost use Rattle.std.specs.Prelude.{◌≡◌, ◌+◌, ◌≤◌, length};
-ghost use Rattle.io.specs.Counts.{IsPrefixLen};
+ghost use Rattle.std.specs.Prelude.{◌+◌, ◌≤◌, length};
 ghost use Rattle.rules.specs.Limits.{longest_line};
 
 use parts::cursor;
 use rules::MOST_COLUMNS;
+use std::fmt;
+use std::io::Cursor;
+use std::io::prelude::*;
 use std::time::Clock;
-use stream::Progress;
+use stream::Failure;
 
-// Room for a sheet that is one byte too long, which is enough to refuse any longer one.
-fn sheet_space() -> [u8; 32769]
-    ensures { 32769 ≡ length result }
-{
-    [0; 32769]
+// What couldn't be done.
+#[derive(Drop)]
+enum Error {
+    Unread(Failure),
+    Cut(Failure),
+    Untold(Failure),
 }
 
-// Room for many lines of a page: the longest has 11,401 bytes.
-fn page_space() -> [u8; 65536]
-    ensures { 65536 ≡ length result }
-{
-    [0; 65536]
+impl fmt::Display for Error {
+    fn fmt<W: fmt::Write>(&self, f: &mut fmt::Formatter<W>) -> fmt::Result {
+        match self {
+            Error::Unread(failure) => write!(f, "the sheet can't be read: {failure}"),
+            Error::Cut(failure) => {
+                write!(f, "the page is cut, its rest can't be written: {failure}")
+            }
+            Error::Untold(failure) => write!(f, "the refusal can't be written: {failure}"),
+        }
+    }
 }
 
-fn read_sheet<R: Input + Clock, E: Print>(rt: &R, errors: &E, space: &mut [u8]) -> Progress
-    ensures { IsPrefixLen result.done space.new }
-{
-    stream::read_all(rt, errors, space, b"print: the sheet can't be read")
-}
-
-fn write_part<R: Print + Clock, E: Print>(rt: &R, errors: &E, part: &[u8]) -> bool {
-    stream::write_text(
-        rt,
-        errors,
-        part,
-        b"print: the page is cut, its rest can't be written",
-    )
+// Writes `refused N at P` and 0A by one call: a number that is cut would be another number.
+fn write_refusal<R: Print + Clock>(rt: &R, number: u64, place: u64) -> Result<(), Failure> {
+    let mut line = Cursor::new([0u8; 64]);
+    let _ = writeln!(line, "refused {number} at {place}");
+    let n = line.position() as usize;
+    let line = line.into_inner();
+    stream::write_all(rt, &line[..n.min(line.len())])
 }
 
 // Part after part, each from the line after the last one; ends where no more can be written.
-fn print<R: Print + Clock, E: Print>(rt: &R, errors: &E, sheet: &[u8], space: &mut [u8])
+fn print<R: Print + Clock>(rt: &R, sheet: &[u8], space: &mut [u8]) -> Result<(), Error>
     requires { longest_line + 1 ≤ length space.old }
 {
     let examined = sheet::examine(sheet);
     if examined.number != 0 {
-        refusal::write_refusal(rt, errors, examined.number, examined.place);
-        return;
+        return write_refusal(rt, examined.number, examined.place).map_err(Error::Untold);
     }
     let mut columns = [[0usize; 6]; MOST_COLUMNS];
     let p = display_info::open(sheet, examined.plain, &mut columns);
@@ -58,21 +57,22 @@ fn print<R: Print + Clock, E: Print>(rt: &R, errors: &E, sheet: &[u8], space: &m
     while !cursor::is_end(c) {
         let part = lines::write(space, sheet, &columns, p, c);
         let n = part.bytes;
-        if !write_part(rt, errors, &space[..n]) {
-            return;
-        }
+        stream::write_all(rt, &space[..n]).map_err(Error::Cut)?;
         c = part.next;
     }
+    Ok(())
+}
+
+// Room for a sheet that is one byte too long, which is enough to refuse any longer one, and for many lines of a page: the longest has 11,401 bytes.
+fn run<R: Input + Print + Clock>(rt: &R) -> Result<(), Error> {
+    let mut sheet = [0u8; 32769];
+    let n = stream::read_all(rt, &mut sheet).map_err(Error::Unread)?;
+    let mut space = [0u8; 65536];
+    print(rt, &sheet[..n], &mut space)
 }
 
 fn main(rt: HostRuntime) {
-    let errors = rt.stderr();
-    let mut sheet = sheet_space();
-    let got = read_sheet(&rt, &errors, &mut sheet);
-    if !got.well {
-        return;
+    if let Err(error) = run(&rt) {
+        let _ = println!(rt.stderr(); "print: {error}");
     }
-    let n = got.done;
-    let mut space = page_space();
-    print(&rt, &errors, &sheet[..n], &mut space);
 }

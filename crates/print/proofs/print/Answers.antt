@@ -20,16 +20,16 @@ write-part-requires g c =
     let i = c.loop-columns.invariant.0 in
     (O, (i.at, standing_few _ _ _ O _ i))
 
-pub slice_bounds-write_part-end : goal.slice_bounds-write_part-end
-slice_bounds-write_part-end g c =
+pub slice_bounds-write_all-end : goal.slice_bounds-write_all-end
+slice_bounds-write_all-end g c =
     omega (
       arith,
       round_bytes _ _ _ c.open-p.ensures.0 _ c.loop-columns.invariant.0 _ _ _ c.write-part.ensures,
       c.write-part.auto.page,
     )
 
-pub slice_bounds-write_part-end-in-loop-columns : goal.slice_bounds-write_part-end-in-loop-columns
-slice_bounds-write_part-end-in-loop-columns g c =
+pub slice_bounds-write_all-end-in-loop-columns : goal.slice_bounds-write_all-end-in-loop-columns
+slice_bounds-write_all-end-in-loop-columns g c =
     sym (length-take-le _ _ (omega (
       arith,
       round_bytes _ _ _ c.open-p.ensures.0 _ c.loop-columns.invariant.0 _ _ _ c.write-part.ensures,
