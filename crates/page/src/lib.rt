@@ -186,7 +186,7 @@ pub fn print_line(sheet: &[u8], line: usize, page: &mut [u8]) -> Printed
 
 // What the call for several lines answers: beside the bytes written, the number of the line after them.
 #[repr(C)]
-#[derive(Clone, Copy)]
+#[derive(Clone, Copy, PartialEq, Eq)]
 pub struct PrintedLines {
     pub number: u64,
     pub place: u64,

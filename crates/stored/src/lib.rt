@@ -1,128 +1,150 @@
-// The stored answers: numbers, low byte first, and parts of the text. Past the end every byte reads as 0.
+// The stored answers, record after record: numbers have their low byte first. Past the end every byte reads as 0.
 #![tactic(auto)]
 
-pub mod answers;
+pub mod report;
 
-ghost use Rattle.std.specs.Prelude.{◌≤◌, ◌<◌, length};
-ghost use Rattle.rules.specs.Sheet.{most_columns};
+ghost use Rattle.std.specs.Prelude.{◌≡◌, ◌-◌, ◌≤◌, length, min};
+ghost use Rattle.std.specs.Iterator.{at_most};
 
-// What a record holds beyond number and place: where its widths and its page stand, and its counts.
+use rules::{Checked, Counted, MOST_COLUMNS, Measured};
+
+// What is still to be read.
 #[derive(Clone, Copy)]
-pub struct Accepted {
-    pub columns: usize,
-    pub widths: usize,
-    pub lines: usize,
-    pub page: usize,
-    pub next: usize,
+pub struct Stored<'a> {
+    pub rest: &'a [u8],
 }
 
-fn wide(b: u8) -> usize
-    ensures { result < 256 }
-{
-    b as usize
+// What is stored of a sheet: the answers of the calls that write nothing, and its page, which is empty where the sheet is refused.
+#[derive(Clone, Copy)]
+pub struct Record<'a> {
+    pub sheet: &'a [u8],
+    pub checked: Checked,
+    pub counted: Counted,
+    pub measured: Measured,
+    pub page: &'a [u8],
 }
 
-// The place `size` bytes on, or the text's end.
-pub fn after(text: &[u8], at: usize, size: usize) -> usize
-    requires { at ≤ length text.now }
-    ensures { (at ≤ result) × (result ≤ length text.now) }
-{
-    if text.len() - at < size {
-        return text.len();
+impl<'a> Stored<'a> {
+    // The next bytes, or as many as are left.
+    fn take(&mut self, size: usize) -> &'a [u8]
+        ensures part { length result.now ≡ min size (length self.old.rest.now) }
+        ensures rest { length self.new.rest.now ≡ length self.old.rest.now - size }
+    {
+        let (part, rest) = self.rest.split_at(size.min(self.rest.len()));
+        self.rest = rest;
+        part
     }
-    at + size
-}
 
-// The place past a number of two bytes. It is never `at` itself, so that the walk over the records ends.
-pub fn past_word(text: &[u8], at: usize) -> usize
-    requires { at < length text.now }
-    ensures { (at < result) × (result ≤ length text.now) }
-{
-    if text.len() - at < 2 {
-        return text.len();
+    fn bytes<const N: usize>(&mut self) -> [u8; N]
+        ensures { length self.new.rest.now ≡ length self.old.rest.now - N }
+    {
+        let part = self.take(N);
+        let mut bytes = [0; N];
+        bytes[..part.len()].copy_from_slice(part);
+        bytes
     }
-    at + 2
-}
 
-pub fn byte(text: &[u8], at: usize) -> usize
-    ensures { result < 256 }
-{
-    if text.len() <= at {
-        return 0;
+    fn byte(&mut self) -> u8
+        ensures { length self.new.rest.now ≡ length self.old.rest.now - 1 }
+    {
+        let [byte] = self.bytes::<1>();
+        byte
     }
-    wide(text[at])
-}
 
-pub fn word(text: &[u8], at: usize) -> usize
-    requires { at ≤ length text.now }
-    ensures { result < 65536 }
-{
-    let high = after(text, at, 1);
-    byte(text, at) + 256 * byte(text, high)
-}
-
-fn long(text: &[u8], at: usize) -> usize
-    requires { at ≤ length text.now }
-{
-    let high = after(text, at, 2);
-    word(text, at) + 65536 * word(text, high)
-}
-
-// The part from `from` to `end`; nothing where the text has no such part.
-pub fn part(text: &[u8], from: usize, end: usize) -> &[u8] {
-    if text.len() < end {
-        return &text[..0];
+    fn word(&mut self) -> u16
+        ensures { length self.new.rest.now ≡ length self.old.rest.now - 2 }
+    {
+        u16::from_le_bytes(self.bytes())
     }
-    if end < from {
-        return &text[..0];
-    }
-    &text[from..end]
-}
 
-// What follows the number and the place of an accepted sheet.
-pub fn rest_of(text: &[u8], at: usize) -> Accepted
-    requires { at ≤ length text.now }
-    ensures { at ≤ result.next }
-{
-    let columns = byte(text, at);
-    let widths = after(text, at, 1);
-    let lines = after(text, widths, 3 * columns);
-    let size = after(text, lines, 4);
-    let page = after(text, size, 4);
-    let next = after(text, page, long(text, size));
-    Accepted {
-        columns,
-        widths,
-        lines: long(text, lines),
-        page,
-        next,
+    fn long(&mut self) -> u32
+        ensures { length self.new.rest.now ≡ length self.old.rest.now - 4 }
+    {
+        u32::from_le_bytes(self.bytes())
+    }
+
+    // The content width of each column and whether it is hidden, three bytes a column.
+    fn measured(&mut self, place: u64) -> Measured
+        ensures { length self.new.rest.now ≤ length self.old.rest.now }
+    {
+        let columns = self.byte();
+        let mut content = [0; MOST_COLUMNS];
+        let mut hidden = [false; MOST_COLUMNS];
+        let widths = self.take(3 * usize::from(columns));
+        for ((width, flag), stored) in content
+            .iter_mut()
+            .zip(&mut hidden)
+            .zip(widths.chunks_exact(3))
+        {
+            *width = u16::from_le_bytes([stored[0], stored[1]]);
+            *flag = stored[2] == 1;
+        }
+        Measured {
+            number: 0,
+            place,
+            columns: u64::from(columns),
+            content,
+            hidden,
+        }
     }
 }
 
-// Where a column's width stands. The text's end, where every byte reads as 0, stands for a column that isn't stored.
-fn width_at(text: &[u8], widths: usize, columns: usize, column: usize) -> usize
-    requires { column < most_columns }
-    ensures { result ≤ length text.now }
-{
-    if text.len() < widths {
-        return text.len();
+impl<'a> Iterator for Stored<'a> {
+    type Item = Record<'a>;
+
+    ghost remaining = { λ s. at_most (length s.rest.now) };
+
+    // The sheet's length, the sheet, number and place; for an accepted one what the calls answer, and the page.
+    fn next(&mut self) -> Option<Record<'a>> {
+        if self.rest.is_empty() {
+            return None;
+        }
+        let size = self.word();
+        let sheet = self.take(usize::from(size));
+        let number = u64::from(self.byte());
+        let place = u64::from(self.word());
+        if number != 0 {
+            return Some(Record::refused(sheet, number, place));
+        }
+        let measured = self.measured(place);
+        let lines = u64::from(self.long());
+        let bytes = self.long();
+        let page = self.take(bytes as usize);
+        Some(Record {
+            sheet,
+            checked: Checked { number, place },
+            counted: Counted {
+                number,
+                place,
+                lines,
+                bytes: page.len() as u64,
+            },
+            measured,
+            page,
+        })
     }
-    if columns <= column {
-        return text.len();
-    }
-    after(text, widths, 3 * column)
 }
 
-pub fn content(text: &[u8], widths: usize, columns: usize, column: usize) -> usize
-    requires { column < most_columns }
-{
-    word(text, width_at(text, widths, columns, column))
-}
-
-// 1 where the column is hidden.
-pub fn hidden(text: &[u8], widths: usize, columns: usize, column: usize) -> usize
-    requires { column < most_columns }
-{
-    let at = width_at(text, widths, columns, column);
-    byte(text, after(text, at, 2))
+impl<'a> Record<'a> {
+    // Every call answers number and place, and nothing else.
+    fn refused(sheet: &'a [u8], number: u64, place: u64) -> Record<'a> {
+        Record {
+            sheet,
+            checked: Checked { number, place },
+            counted: Counted {
+                number,
+                place,
+                lines: 0,
+                bytes: 0,
+            },
+            measured: Measured {
+                number,
+                place,
+                columns: 0,
+                content: [0; MOST_COLUMNS],
+                hidden: [false; MOST_COLUMNS],
+            },
+            page: b"",
+        }
+    }
 }
