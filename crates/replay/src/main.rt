@@ -25,7 +25,7 @@ impl Tally {
             .counted(page::count(record.sheet), record.counted);
         trial
             .report
-            .measured(page::widths(record.sheet), record.measured);
+            .measured(page::widths(record.sheet), record.checked, record.widths);
         let lines = print_all(&mut trial, record);
         let found = trial.report.differences;
         if found != 0 {

@@ -6,12 +6,20 @@ pub mod report;
 ghost use Rattle.std.specs.Prelude.{◌≡◌, ◌-◌, ◌≤◌, length, min};
 ghost use Rattle.std.specs.Iterator.{at_most};
 
-use rules::{Checked, Counted, MOST_COLUMNS, Measured};
+use rules::{Checked, Counted, MOST_COLUMNS};
 
 // What is still to be read.
 #[derive(Clone, Copy)]
 pub struct Stored<'a> {
     pub rest: &'a [u8],
+}
+
+// The columns' content widths, and 1 for each that is hidden; 0 past the columns.
+#[derive(Clone, Copy)]
+pub struct Widths {
+    pub columns: u64,
+    pub content: [u16; MOST_COLUMNS],
+    pub hidden: [u8; MOST_COLUMNS],
 }
 
 // What is stored of a sheet: the answers of the calls that write nothing, and its page, which is empty where the sheet is refused.
@@ -20,7 +28,7 @@ pub struct Record<'a> {
     pub sheet: &'a [u8],
     pub checked: Checked,
     pub counted: Counted,
-    pub measured: Measured,
+    pub widths: Widths,
     pub page: &'a [u8],
 }
 
@@ -63,25 +71,21 @@ impl<'a> Stored<'a> {
         u32::from_le_bytes(self.bytes())
     }
 
-    // The content width of each column and whether it is hidden, three bytes a column.
-    fn measured(&mut self, place: u64) -> Measured
+    // Three bytes a column: its content width, and 1 where it is hidden.
+    fn widths(&mut self) -> Widths
         ensures { length self.new.rest.now ≤ length self.old.rest.now }
     {
         let columns = self.byte();
+        let mut each = Stored {
+            rest: self.take(3 * usize::from(columns)),
+        };
         let mut content = [0; MOST_COLUMNS];
-        let mut hidden = [false; MOST_COLUMNS];
-        let widths = self.take(3 * usize::from(columns));
-        for ((width, flag), stored) in content
-            .iter_mut()
-            .zip(&mut hidden)
-            .zip(widths.chunks_exact(3))
-        {
-            *width = u16::from_le_bytes([stored[0], stored[1]]);
-            *flag = stored[2] == 1;
+        let mut hidden = [0; MOST_COLUMNS];
+        for (width, flag) in content.iter_mut().zip(&mut hidden) {
+            *width = each.word();
+            *flag = each.byte();
         }
-        Measured {
-            number: 0,
-            place,
+        Widths {
             columns: u64::from(columns),
             content,
             hidden,
@@ -106,7 +110,7 @@ impl<'a> Iterator for Stored<'a> {
         if number != 0 {
             return Some(Record::refused(sheet, number, place));
         }
-        let measured = self.measured(place);
+        let widths = self.widths();
         let lines = u64::from(self.long());
         let bytes = self.long();
         let page = self.take(bytes as usize);
@@ -119,7 +123,7 @@ impl<'a> Iterator for Stored<'a> {
                 lines,
                 bytes: page.len() as u64,
             },
-            measured,
+            widths,
             page,
         })
     }
@@ -137,12 +141,10 @@ impl<'a> Record<'a> {
                 lines: 0,
                 bytes: 0,
             },
-            measured: Measured {
-                number,
-                place,
+            widths: Widths {
                 columns: 0,
                 content: [0; MOST_COLUMNS],
-                hidden: [false; MOST_COLUMNS],
+                hidden: [0; MOST_COLUMNS],
             },
             page: b"",
         }

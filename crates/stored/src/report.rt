@@ -1,4 +1,5 @@
 // Answers beside the stored ones: what differs is said, and counted.
+use crate::Widths;
 use rules::{Checked, Counted, Measured};
 use std::fmt;
 
@@ -32,11 +33,14 @@ impl<'a, R: Print> Report<'a, R> {
         self.compare("byte count", answer.bytes == stored.bytes);
     }
 
-    pub fn measured(&mut self, answer: Measured, stored: Measured) {
+    pub fn measured(&mut self, answer: Measured, stored: Checked, widths: Widths) {
         let refusal = (answer.number, answer.place) == (stored.number, stored.place);
         self.compare("refusal by the widths", refusal);
-        self.compare("column count", answer.columns == stored.columns);
-        self.compare("content width", answer.content == stored.content);
-        self.compare("hidden column", answer.hidden == stored.hidden);
+        self.compare("column count", answer.columns == widths.columns);
+        self.compare("content width", answer.content == widths.content);
+        self.compare(
+            "hidden column",
+            answer.hidden.map(u8::from) == widths.hidden,
+        );
     }
 }
