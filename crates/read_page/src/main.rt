@@ -2,34 +2,31 @@
 // house grid is named, and so is a bare style that sets anything, so that only the page comes out where both are as they should be.
 #![tactic(auto)]
 
-ghost use Rattle.std.specs.Prelude.{◌≡◌, length};
-
-use rules::Printed;
+use reader::PageReader;
+use rules::{Printed, STYLE_CHARACTERS};
 use style::table_style::TableStyle;
 
-// Where a sheet without an indicator has its 22 style characters, and where these end.
+// Where a sheet without an indicator has its style's characters.
 const STYLE: usize = 7;
-
-const STYLE_END: usize = 29;
 
 // The most lines of a page.
 const MOST_LINES: usize = 1000000;
 
-fn sheet_space() -> [u8; 32769]
-    ensures { 32769 ≡ length result }
-{
-    [0; 32769]
-}
-
-// Room for many lines of a page: the longest has 11,401 bytes.
-fn page_space() -> [u8; 65536]
-    ensures { 65536 ≡ length result }
-{
-    [0; 65536]
+// The constants by their names, against the sheet's style and against a style that sets nothing.
+fn try_styles<R: Print>(rt: &R, sheet: &[u8]) {
+    let Some(style) = sheet.get(STYLE..STYLE + STYLE_CHARACTERS) else {
+        return;
+    };
+    if characters(TableStyle::HOUSE_GRID).as_slice() != style {
+        let _ = println!(rt; "not the house grid");
+    }
+    if characters(TableStyle::BARE) != [0; STYLE_CHARACTERS] {
+        let _ = println!(rt; "not bare");
+    }
 }
 
 // The characters of a style in the order of the sheet.
-fn characters(s: TableStyle) -> [u8; 22] {
+fn characters(s: TableStyle) -> [u8; STYLE_CHARACTERS] {
     let a = s.top_border;
     let b = s.header_lines;
     let c = s.header_separator;
@@ -43,81 +40,34 @@ fn characters(s: TableStyle) -> [u8; 22] {
     ]
 }
 
-fn same(a: &[u8], b: &[u8]) -> bool {
-    if a.len() != b.len() {
-        return false;
-    }
-    let mut i: usize = 0;
-    while i < a.len() {
-        if a[i] != b[i] {
-            return false;
-        }
-        i += 1;
-    }
-    true
-}
-
-fn is_style(s: TableStyle, bytes: &[u8]) -> bool {
-    let found = characters(s);
-    same(&found, bytes)
-}
-
-// The constants by their names, against the sheet's style and against a style that sets nothing.
-fn try_styles<R: Print>(rt: &R, sheet: &[u8]) {
-    if sheet.len() < STYLE_END {
-        return;
-    }
-    if !is_style(TableStyle::HOUSE_GRID, &sheet[STYLE..STYLE_END]) {
-        let _ = println!(rt; "not the house grid");
-    }
-    let nothing = [0u8; 22];
-    if !is_style(TableStyle::BARE, &nothing) {
-        let _ = println!(rt; "not bare");
-    }
-}
-
-// A line's bytes, at the buffer's start.
-fn put<R: Print>(rt: &R, buffer: &[u8], written: u64) {
-    let n = written as usize;
-    if n <= buffer.len() {
-        let _ = rt.write_all(&buffer[..n]);
-    }
-}
-
-// Line after line, each where the reader stands after the one before; gives the answer that ends the page, 21 and its line count.
+// Line after line; gives the answer that ends the page, 21 and its line count.
 fn read_page<R: Print>(rt: &R, sheet: &[u8], buffer: &mut [u8]) -> Printed {
-    let mut line: usize = 0;
-    let mut turns: usize = 0;
-    while turns <= MOST_LINES {
-        let l = reader::read_line(sheet, line, buffer);
-        let answer = l.answer;
+    let mut reader = PageReader::new(sheet);
+    let mut answer = reader.next(buffer);
+    for _ in 0..MOST_LINES {
         if answer.number != 0 {
-            return answer;
+            break;
         }
-        put(rt, buffer, answer.written);
-        line = l.line;
-        turns += 1;
+        let line = buffer.get(..answer.written as usize).unwrap_or(b"");
+        let _ = rt.write_all(line);
+        answer = reader.next(buffer);
     }
-    Printed {
-        number: 0,
-        place: 0,
-        written: 0,
-    }
+    answer
 }
 
 // A refusal as the print program says it; 21 is the page's end.
 fn report<R: Print>(rt: &R, last: Printed) {
     let Printed { number, place, .. } = last;
-    if number == 21 {
-        return;
+    if number != 21 {
+        let _ = println!(rt; "refused {number} at {place}");
     }
-    let _ = println!(rt; "refused {number} at {place}");
 }
 
+// Room for a sheet that is one byte too long, and for many lines of a page: the longest has 11,401 bytes.
 fn main(rt: HostRuntime) {
-    let mut space = sheet_space();
+    let mut space = [0u8; 32769];
     let n = stream::read_full(&rt, &mut space);
-    let mut buffer = page_space();
+    let mut buffer = [0u8; 65536];
     let last = read_page(&rt, &space[..n], &mut buffer);
     report(&rt, last);
     try_styles(&rt, &space[..n]);

@@ -1,11 +1,11 @@
--- The line to come after a line that was asked for. Assumes nothing.
-use Prim.Native.Nat.{ℕ, ◌+◌, ◌<◌}
+-- A line that was printed is one of few. Assumes nothing.
+use Prim.Native.Nat.{ℕ, ◌<◌}
 use mathlib.Core.Path.{◌≡◌, refl}
 use mathlib.Core.List.{List}
 use mathlib.Core.Bool.{Bool, true, false}
 use native.Mathlib.Omega.{arith}
 use lib.Dec.{ltb}
-use borrow.Author.Tests.{ltb-true, eq-eqb, ne_eqb}
+use borrow.Author.Tests.{ltb-true}
 use Rattle.rules.specs.Sheet.{Table}
 use Rattle.rules.specs.Field.{Read, got, refused}
 use Rattle.rules.specs.Format.{sheet}
@@ -14,7 +14,6 @@ use Rattle.rules.specs.Page.{line_at, line_count}
 use Rattle.rules.specs.Calls.{Written, put, not_printed, print_line, print_line_of}
 use Rattle.laws.proofs.Accepted.{refused_number, accepted_limits}
 use Rattle.laws.proofs.Counts.{line-count-bound}
-use Rattle.reader.specs.Read.{line_after}
 
 -- a printed line is one of the page's, which are few
 pub printed_few : (s : List ℕ) (k : ℕ) (b : List ℕ) → (print_line s k b).answer.number ≡ 0 → k < most_lines
@@ -29,9 +28,3 @@ printed_few s k b e = go (sheet s) refl e
         within true h l = omega (arith, ltb-true k (line_count t) h, line-count-bound t (accepted_limits s t p i))
         within false h l = absurd (omega (arith, l))
     go (refused n p) i j = let h = refused_number s n p i in absurd (omega arith)
-
-pub after_printed : (k n : ℕ) → n ≡ 0 → k + 1 ≡ line_after k n
-after_printed k n e = rw (eq-eqb n 0 e, line_after)
-
-pub after_refused : (k n : ℕ) → (n ≡ 0 → ⊥) → k ≡ line_after k n
-after_refused k n h = rw (ne_eqb n 0 h, line_after)
