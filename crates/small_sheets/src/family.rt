@@ -3,9 +3,10 @@ ghost use Rattle.std.specs.Prelude.{◌≡◌, ◌+◌, ◌*◌, ◌^◌, ◌≤
 ghost use Rattle.buffer.specs.Put.{over, put_at};
 ghost use Rattle.small.specs.Listing.{choices, letters, texts, write_sheet};
 ghost use Rattle.small_sheets.specs.Parts.{cell_bytes, head_bytes, columns_bytes};
+ghost use Rattle.rules.specs.Refusals.{printed_of};
 ghost use Rattle.small_sheets.specs.Chosen.{text_is, IsSmall, IsTextAt, IsPlace, ChoiceAt, InRange, IsChoice, cells_is, sheet_is};
 
-use rules::{Printed, STYLE_CHARACTERS};
+use rules::{Reason, Refusal, STYLE_CHARACTERS};
 
 // How many sheets there are, and how many of them have one column.
 pub const SHEETS: usize = 32736;
@@ -52,33 +53,27 @@ fn text_at(k: usize) -> Text
     requires { k < 31 }
     ensures { IsTextAt k result }
 {
-    if k < 1 {
-        return Text {
+    match k {
+        0 => Text {
             length: 0,
             number: k,
-        };
-    }
-    if k < 3 {
-        return Text {
+        },
+        1..=2 => Text {
             length: 1,
             number: k - 1,
-        };
-    }
-    if k < 7 {
-        return Text {
+        },
+        3..=6 => Text {
             length: 2,
             number: k - 3,
-        };
-    }
-    if k < 15 {
-        return Text {
+        },
+        7..=14 => Text {
             length: 3,
             number: k - 7,
-        };
-    }
-    Text {
-        length: 4,
-        number: k - 15,
+        },
+        _ => Text {
+            length: 4,
+            number: k - 15,
+        },
     }
 }
 
@@ -165,11 +160,9 @@ fn put_text(sheet: &mut [u8], at: usize, t: Text) -> usize
     ensures value { result ≡ at + length (text_is t) }
     ensures sheet_after { sheet.new ≡ put_at sheet.old at (text_is t) }
 {
-    let mut left = t.length;
     let mut number = t.number;
     let mut place = at;
-    while 0 < left {
-        left -= 1;
+    for left in (0..t.length).rev() {
         let half = texts_of(left);
         sheet[place] = letter(number / half);
         number = number % half;
@@ -255,34 +248,26 @@ fn put_sheet(sheet: &mut [u8], c: Choice)
     put_cells(sheet, q, c);
 }
 
-fn refused(number: u64, place: usize) -> Printed
-    ensures { result ≡ record { number = number; place = place; written = 0 } }
-{
-    Printed {
-        number: number,
-        place: place as u64,
-        written: 0,
-    }
-}
-
-// Sheet n over a buffer's beginning, all of it or nothing. 21: there is no such sheet (place: how many there are); 20: a shorter buffer (place: the
-// bytes needed).
-pub fn write_sheet(n: usize, sheet: &mut [u8]) -> Printed
-    ensures value { result ≡ (write_sheet n sheet.old).answer }
+// Sheet n over a buffer's beginning, all of it or nothing; gives its length. No such sheet: place how many there are; a shorter buffer: place the
+// bytes needed.
+pub fn write_sheet(n: usize, sheet: &mut [u8]) -> Result<usize, Refusal>
+    ensures value { printed_of result ≡ (write_sheet n sheet.old).answer }
     ensures sheet_after { sheet.new ≡ (write_sheet n sheet.old).buffer }
 {
     if SHEETS <= n {
-        return refused(21, SHEETS);
+        return Err(Refusal {
+            reason: Reason::NoSuchLine,
+            place: SHEETS,
+        });
     }
     let c = choose(n);
     let needed = size(c);
     if sheet.len() < needed {
-        return refused(20, needed);
+        return Err(Refusal {
+            reason: Reason::PageOverBuffer,
+            place: needed,
+        });
     }
     put_sheet(sheet, c);
-    Printed {
-        number: 0,
-        place: 0,
-        written: needed as u64,
-    }
+    Ok(needed)
 }

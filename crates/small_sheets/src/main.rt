@@ -8,13 +8,7 @@ ghost use Rattle.buffer.specs.Put.{over};
 ghost use Rattle.small.specs.Listing.{sheets};
 
 use std::time::Clock;
-
-// Room for the longest sheet.
-fn sheet_space() -> [u8; 72]
-    ensures { 72 ≡ length result }
-{
-    [0; 72]
-}
+use stream::Failure;
 
 // Sheet n at the space's beginning; gives its length. There is such a sheet and room for it, so it isn't refused.
 fn next_sheet(n: usize, space: &mut [u8]) -> usize
@@ -23,34 +17,23 @@ fn next_sheet(n: usize, space: &mut [u8]) -> usize
     ensures value { (result ≡ length (get_or sheets n [])) × (result ≤ 72) }
     ensures space_after { space.new ≡ over (get_or sheets n []) space.old }
 {
-    let answer = family::write_sheet(n, space);
-    answer.written as usize
+    family::write_sheet(n, space).unwrap()
 }
 
-fn write_part<R: Print + Clock, E: Print>(rt: &R, errors: &E, part: &[u8]) -> bool {
-    stream::write_text(
-        rt,
-        errors,
-        part,
-        b"small_sheets: the sheets are cut, their rest can't be written",
-    )
-}
-
-// Sheet after sheet; ends where no more can be written.
-fn write_sheets<R: Print + Clock, E: Print>(rt: &R, errors: &E, space: &mut [u8])
-    requires { 72 ≤ length space.old }
-{
-    let mut n: usize = 0;
-    while n < family::SHEETS {
-        let size = next_sheet(n, space);
-        if !write_part(rt, errors, &space[..size]) {
-            return;
-        }
-        n += 1;
+// Sheet after sheet, each in room for the longest; ends where no more can be written.
+fn write_sheets<R: Print + Clock>(rt: &R) -> Result<(), Failure> {
+    let mut space = [0u8; 72];
+    for n in 0..family::SHEETS {
+        let size = next_sheet(n, &mut space);
+        stream::write_all(rt, &space[..size])?;
     }
+    Ok(())
 }
 
 fn main(rt: HostRuntime) {
-    let mut space = sheet_space();
-    write_sheets(&rt, &rt.stderr(), &mut space);
+    if let Err(failure) = write_sheets(&rt) {
+        let _ = println!(rt.stderr();
+            "small_sheets: the sheets are cut, their rest can't be written: {failure}"
+        );
+    }
 }
