@@ -1,12 +1,10 @@
 -- What the call answers, by the ways out of the code. Assumes nothing.
 use Prim.Native.Nat.{ℕ, ◌≤◌, ◌<◌}
 use mathlib.Core.Path.{◌≡◌, ap, ◌∙◌}
-use mathlib.Core.Logic.{◌⊎◌, inl, inr}
-use mathlib.Core.List.{List, [], ◌++◌, map}
+use mathlib.Core.List.{List, []}
 use native.Mathlib.Omega.{arith}
 use lib.ListN.{length, get_or}
 use borrow.Author.Tests.{lt-ltb, le-ltb, le-leb, lt-leb}
-use Rattle.rules.specs.Text.{flat}
 use Rattle.rules.specs.Format.{written}
 use Rattle.std.specs.Prelude.{Result, Ok, Err}
 use Rattle.rules.specs.declared.Printed.{Printed}
@@ -18,27 +16,15 @@ use Rattle.rules.specs.Refusals.{number_of, printed_of}
 use Rattle.rules.specs.Calls.{put_or, put, not_printed}
 use Rattle.buffer.specs.Put as buffer
 use Rattle.small.specs.Listing.{sheets, write_sheet}
-use Rattle.small_sheets.specs.Parts.{cell_bytes, head_bytes, columns_bytes}
-use Rattle.small_sheets.specs.Chosen.{Choice, texts_is, InRange, IsChoice, cells_is, sheet_is}
+use Rattle.small_sheets.specs.Chosen.{Choice, texts_is, IsChoice, cells_is, sheet_is}
 use Rattle.small_sheets.proofs.Bytes.{sheet_bytes}
 use Rattle.small_sheets.proofs.Promised.{sheets-count, sheet_of, table_good}
-
--- a text for each column
-texts_number : (c : Choice) → InRange c → length (texts_is c) ≡ c.columns
-unfolding texts_is
-texts_number c h = go h.columns
-  where
-    go : (c.columns ≡ 1) ⊎ (c.columns ≡ 2) → length (texts_is c) ≡ c.columns
-    go (inl e) = rw e
-    go (inr e) = rw e
 
 -- sheet n, by what it chooses
 sheet_is_lem : (n : ℕ) (c : Choice) → n < 32736 → IsChoice n c → get_or sheets n [] ≡ sheet_is c
 unfolding cells_is sheet_is
 sheet_is_lem n c l h =
-    let low = h.range.target in
-    sheet_of n l ∙ (ap written h.table ∙ (sheet_bytes c.arrangement c.target (texts_is c) (omega (arith, low))
-    ∙ ap (λ k. head_bytes c.arrangement c.target ++ (columns_bytes k ++ flat (map cell_bytes (texts_is c)))) (texts_number c h.range)))
+    sheet_of n l ∙ (ap written h ∙ sheet_bytes c.arrangement c.target (texts_is c) (omega (arith, c.targeted)))
 
 -- a number that no sheet has
 pub no-sheet : (n : ℕ) (b : List ℕ) → 32736 ≤ n → write_sheet n b ≡ not_printed 21 32736 b

@@ -1,16 +1,16 @@
 -- What the numbers of texts, tables and sheets choose. Assumes nothing.
 use Prim.Native.Nat.{ℕ, zero, suc, ◌+◌, ◌*◌, ◌-◌, ◌/◌, ◌%◌, ◌^◌, ◌≤◌, ◌<◌}
-use mathlib.Core.Path.{◌≡◌, refl, ap, sym, subst, ◌∙◌}
-use mathlib.Core.Logic.{◌⊎◌, inl, inr}
+use mathlib.Core.Path.{◌≡◌, refl, ap, sym, ◌∙◌}
 use mathlib.Core.List.{List, [], ◌∷◌, ◌++◌}
 use native.Mathlib.Nat.{pow-suc, one-le-pow, div-one, mod-one, div-lt_iff_lt-mul, mod-lt}
 use native.Mathlib.Omega.{arith}
 use lib.ListN.{length, get_or, get_or-append}
 use lib.Seq.{get_or-append-add}
+use Rattle.std.specs.Prelude.{Some, None}
 use Rattle.rules.specs.Text.{up_from, flat}
 use Rattle.laws.proofs.Lists.{get_d_map, get_d-up_from}
 use Rattle.small.specs.Listing.{each, choices, letters, texts, table_of, tables_with, no_table}
-use Rattle.small_sheets.specs.Chosen.{Text, Place, Choice, text_is, IsSmall, IsTextAt, texts_is, IsPlace, ChoiceAt, InRange, IsChoice}
+use Rattle.small_sheets.specs.Chosen.{Text, Place, Choice, text_is, IsTextAt, texts_is, IsPlace, ChoiceAt, IsChoice}
 use Rattle.small_sheets.proofs.Choices.{each_at, choices-at, length-choices}
 use Rattle.small_sheets.proofs.Tables.{of_target, of_arrangement, target-count, arrangement-count, texts-count, one-row-count}
 use Rattle.small_sheets.proofs.Promised.{one-column-count, tables_are}
@@ -49,42 +49,38 @@ unfolding each up_from flat
 further k i m j h e = e ∙ later_list (choices letters i) (longer (suc i) m) (2 ^ i) j [] (letters-count i) h
 
 -- one of length i
-found : (k i m j n : ℕ) → i ≤ 4 → j < 2 ^ i → j ≡ n → Found k i (suc m) j → IsTextAt k (record { length = i; number = n })
+found : (k i m j : ℕ) (t : Text) → j < 2 ^ i → t.length ≡ i → t.number ≡ j → Found k i (suc m) j → IsTextAt k t
 unfolding text_is each up_from flat
-found k i m j n short h z e =
-    let count = letters-count i in
-    subst (λ v. IsTextAt k (record { length = i; number = v })) z (record {
-      is = sym (e ∙ first_list (choices letters i) (longer (suc i) m) (2 ^ i) j [] count h);
-      small = record { short = short; there = rw count h };
-    })
+found k i m j t h e f g =
+    rw (e, f) (sym (g ∙ first_list (choices letters i) (longer (suc i) m) (2 ^ i) j [] (letters-count i) h))
 
-module _ (k : ℕ) where
-  pub text_0 : k < 1 → IsTextAt k (record { length = 0; number = k })
-  text_0 h = found k 0 4 k k (omega arith) h refl (begin k)
+module _ (k : ℕ) (t : Text) where
+  pub text_0 : t.length ≡ 0 → t.number ≡ k → k < 1 → IsTextAt k t
+  text_0 e f h = found k 0 4 k t h e f (begin k)
 
   from_1 : 1 ≤ k → Found k 1 4 (k - 1)
   from_1 h = further k 0 4 k h (begin k)
 
-  pub text_1 : 1 ≤ k → k < 3 → IsTextAt k (record { length = 1; number = k - 1 })
-  text_1 h l = found k 1 3 (k - 1) (k - 1) (omega arith) (omega arith) refl (from_1 h)
+  pub text_1 : t.length ≡ 1 → t.number ≡ k - 1 → 1 ≤ k → k < 3 → IsTextAt k t
+  text_1 e f h l = found k 1 3 (k - 1) t (omega arith) e f (from_1 h)
 
   from_2 : 3 ≤ k → Found k 2 3 (k - 1 - 2)
   from_2 h = further k 1 3 (k - 1) (omega arith) (from_1 (omega arith))
 
-  pub text_2 : 3 ≤ k → k < 7 → IsTextAt k (record { length = 2; number = k - 3 })
-  text_2 h l = found k 2 2 (k - 1 - 2) (k - 3) (omega arith) (omega arith) (omega arith) (from_2 h)
+  pub text_2 : t.length ≡ 2 → t.number ≡ k - 3 → 3 ≤ k → k < 7 → IsTextAt k t
+  text_2 e f h l = found k 2 2 (k - 1 - 2) t (omega arith) e (omega (arith, f)) (from_2 h)
 
   from_3 : 7 ≤ k → Found k 3 2 (k - 1 - 2 - 4)
   from_3 h = further k 2 2 (k - 1 - 2) (omega arith) (from_2 (omega arith))
 
-  pub text_3 : 7 ≤ k → k < 15 → IsTextAt k (record { length = 3; number = k - 7 })
-  text_3 h l = found k 3 1 (k - 1 - 2 - 4) (k - 7) (omega arith) (omega arith) (omega arith) (from_3 h)
+  pub text_3 : t.length ≡ 3 → t.number ≡ k - 7 → 7 ≤ k → k < 15 → IsTextAt k t
+  text_3 e f h l = found k 3 1 (k - 1 - 2 - 4) t (omega arith) e (omega (arith, f)) (from_3 h)
 
   from_4 : 15 ≤ k → Found k 4 1 (k - 1 - 2 - 4 - 8)
   from_4 h = further k 3 1 (k - 1 - 2 - 4) (omega arith) (from_3 (omega arith))
 
-  pub text_4 : 15 ≤ k → k < 31 → IsTextAt k (record { length = 4; number = k - 15 })
-  text_4 h l = found k 4 0 (k - 1 - 2 - 4 - 8) (k - 15) (omega arith) (omega arith) (omega arith) (from_4 h)
+  pub text_4 : t.length ≡ 4 → t.number ≡ k - 15 → 15 ≤ k → k < 31 → IsTextAt k t
+  text_4 e f h l = found k 4 0 (k - 1 - 2 - 4 - 8) t (omega arith) e (omega (arith, f)) (from_4 h)
 
 -- a text of a letter more: the first letter, and the others
 pub text-first : (n v : ℕ) → v < 2 ^ suc n
@@ -143,12 +139,16 @@ module _ (columns rows m : ℕ) (e : rows ≡ length (choices texts columns)) (p
       (mod-lt m some)
       ∙ ap (λ w. get_or (of_target columns arrangement w) (rest % rows) no_table) (get_d-up_from 0 11 target 0 target_below ∙ z)
 
-  pub place_is : IsPlace columns m (record { arrangement = m / (11 * rows); target = m % (11 * rows) / rows; row = m % (11 * rows) % rows })
-  place_is = record {
-    table = arranged ∙ (targeted ∙ get_d_map (λ xs. table_of arrangement target xs) (choices texts columns) (rest % rows) [] no_table row_below);
-    arrangement = omega (arith, arrangement_below);
-    target = omega (arith, target_below);
-    row = row_below;
+  pub arrangement_within : arrangement ≤ 2
+  arrangement_within = omega (arith, arrangement_below)
+
+  pub target_within : target ≤ 10
+  target_within = omega (arith, target_below)
+
+  pub place_is : (p : Place) → p.arrangement ≡ arrangement → p.target ≡ target → p.row ≡ rest % rows → IsPlace columns m p
+  place_is p e₁ e₂ e₃ = record {
+    table = rw (e₁, e₂, e₃) (arranged ∙ (targeted ∙ get_d_map (λ xs. table_of arrangement target xs) (choices texts columns) (rest % rows) [] no_table row_below));
+    row = rw e₃ row_below;
   }
 
 -- ---- sheets
@@ -160,64 +160,29 @@ chosen-table : (n : ℕ) (p : Place) (c : Choice) → ChoiceAt n p c
     → table_of p.arrangement p.target (get_or (choices texts n) p.row []) ≡ table_of c.arrangement c.target (texts_is c)
 chosen-table n p c h = same-table (sym h.arrangement) (sym h.target) (sym h.row)
 
-chosen_range : (k m : ℕ) (p : Place) (c : Choice) → (c.columns ≡ 1) ⊎ (c.columns ≡ 2) → IsPlace k m p → ChoiceAt k p c → InRange c
-chosen_range k m p c columns i h = record {
-  columns = columns;
-  arrangement = omega (arith, h.arrangement, i.arrangement);
-  target = omega (arith, h.target, i.target);
-  first = h.first;
-  second = h.second;
-  unwritten = h.unwritten;
-}
-
 pub one_choice : (n : ℕ) (p : Place) (c : Choice) → n < 1023 → IsPlace 1 n p → ChoiceAt 1 p c → IsChoice n c
-one_choice n p c l i h = record {
-  table = rw tables_are (first_list (tables_with 1) (tables_with 2) 1023 n no_table one-column-count l ∙ (i.table ∙ chosen-table 1 p c h));
-  range = chosen_range 1 n p c (inl h.columns) i h;
-}
+one_choice n p c l i h =
+    rw tables_are (first_list (tables_with 1) (tables_with 2) 1023 n no_table one-column-count l ∙ (i.table ∙ chosen-table 1 p c h))
 
 pub two_choice : (n : ℕ) (p : Place) (c : Choice) → 1023 ≤ n → IsPlace 2 (n - 1023) p → ChoiceAt 2 p c → IsChoice n c
-two_choice n p c l i h = record {
-  table = rw tables_are (later_list (tables_with 1) (tables_with 2) 1023 n no_table one-column-count l ∙ (i.table ∙ chosen-table 2 p c h));
-  range = chosen_range 2 (n - 1023) p c (inr h.columns) i h;
-}
+two_choice n p c l i h =
+    rw tables_are (later_list (tables_with 1) (tables_with 2) 1023 n no_table one-column-count l ∙ (i.table ∙ chosen-table 2 p c h))
 
--- the empty text, which isn't written
-no_text : IsSmall (record { length = 0; number = 0 })
-no_text = record { short = omega arith; there = rw (letters-count 0) (omega arith) }
+module _ (p : Place) (c : Choice) (arrangement : c.arrangement ≡ p.arrangement) (target : c.target ≡ p.target) where
+  pub chosen-one : c.second ≡ None → p.row < 31 → IsTextAt p.row c.first → ChoiceAt 1 p c
+  unfolding texts_is
+  chosen-one e l h = record {
+    columns = rw e refl;
+    arrangement = arrangement;
+    target = target;
+    row = rw e (ap (λ x. x ∷ []) h ∙ sym (row_of-one p.row l));
+  }
 
-pub chosen-one : (p : Place) (t : Text) → p.row < 31 → IsTextAt p.row t → ChoiceAt 1 p (record {
-  columns = 1;
-  arrangement = p.arrangement;
-  target = p.target;
-  first = t;
-  second = record { length = 0; number = 0 };
-})
-unfolding texts_is
-chosen-one p t l h = record {
-  columns = refl;
-  arrangement = refl;
-  target = refl;
-  row = ap (λ x. x ∷ []) h.is ∙ sym (row_of-one p.row l);
-  first = h.small;
-  second = no_text;
-  unwritten = λ e. refl;
-}
-
-pub chosen_two : (p : Place) (t u : Text) → p.row < 961 → IsTextAt (p.row / 31) t → IsTextAt (p.row % 31) u → ChoiceAt 2 p (record {
-  columns = 2;
-  arrangement = p.arrangement;
-  target = p.target;
-  first = t;
-  second = u;
-})
-unfolding texts_is
-chosen_two p t u l h k = record {
-  columns = refl;
-  arrangement = refl;
-  target = refl;
-  row = rw (h.is, k.is) (sym (row_of_two p.row l));
-  first = h.small;
-  second = k.small;
-  unwritten = λ e. absurd (omega (arith, e));
-}
+  pub chosen_two : (u : Text) → c.second ≡ Some u → p.row < 961 → IsTextAt (p.row / 31) c.first → IsTextAt (p.row % 31) u → ChoiceAt 2 p c
+  unfolding texts_is
+  chosen_two u e l h k = record {
+    columns = rw e refl;
+    arrangement = arrangement;
+    target = target;
+    row = rw (e, h, k) (sym (row_of_two p.row l));
+  }

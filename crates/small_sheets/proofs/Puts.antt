@@ -1,17 +1,17 @@
 -- What is written where: a text letter by letter, and the parts of a sheet one after another. Assumes nothing.
 use Prim.Native.Nat.{ℕ, zero, suc, ◌+◌, ◌*◌, ◌-◌, ◌/◌, ◌%◌, ◌^◌, ◌≤◌, ◌<◌}
 use mathlib.Core.Path.{◌≡◌, refl, ap, sym, subst, ◌∙◌}
-use mathlib.Core.Logic.{◌⊎◌, inl, inr}
 use mathlib.Core.List.{List, [], ◌∷◌, ◌++◌, append_assoc, append-nil}
 use native.Mathlib.Nat.{one-le-pow, pow-le-pow_right, mod-lt}
 use native.Mathlib.Omega.{arith}
 use lib.ListN.{length, get_or, set, replicate, length-append, length-replicate, length-set}
+use Rattle.std.specs.Prelude.{Option, Some, None}
 use Rattle.rules.specs.Text.{flat}
 use Rattle.buffer.specs.Put.{over, put_at}
 use Rattle.buffer.proofs.Laws.{put-nil, put_store, over-put, over-put-zero, two}
 use Rattle.small.specs.Listing.{choices, letters}
 use Rattle.small_sheets.specs.Parts.{cell_bytes, head_bytes, columns_bytes}
-use Rattle.small_sheets.specs.Chosen.{Text, Choice, text_is, IsSmall, texts_is, InRange, cells_is, sheet_is}
+use Rattle.small_sheets.specs.Chosen.{Text, Choice, text_is, second_is, texts_is, columns_of, cells_is, sheet_is}
 use Rattle.small_sheets.proofs.Choices.{get_d_in, choices_chosen}
 use Rattle.small_sheets.proofs.Bytes.{columns-length}
 use Rattle.small_sheets.proofs.Numbers.{letters-count, text-first}
@@ -32,11 +32,11 @@ power_is n h =
     let some : 1 ≤ 2 ^ n = one-le-pow n 2 (omega arith) in
     (omega (arith, most), omega (arith, most, some))
 
-pub text-length : (t : Text) → IsSmall t → length (text_is t) ≡ t.length
+pub text-length : (t : Text) → length (text_is t) ≡ t.length
 unfolding text_is
-text-length t h =
+text-length t =
     let all = choices letters t.length in
-    (choices_chosen letters t.length (get_or all t.number []) (get_d_in all t.number [] h.there)).count
+    (choices_chosen letters t.length (get_or all t.number []) (get_d_in all t.number [] (rw (letters-count t.length) t.there))).count
 
 -- the letters that are written, and those still to come, make the text of n letters with number v
 pub record Putting (sheet₀ : List ℕ) (at n v : ℕ) (sheet : List ℕ) (left number place : ℕ) : Type 0 where
@@ -50,16 +50,16 @@ pub record Putting (sheet₀ : List ℕ) (at n v : ℕ) (sheet : List ℕ) (left
   pub so : sheet ≡ put_at sheet₀ at done
   pub size : length sheet ≡ length sheet₀
 
-pub put_begins : (sheet₀ : List ℕ) (at : ℕ) (t : Text) → IsSmall t → at + length (text_is t) ≤ length sheet₀
+pub put_begins : (sheet₀ : List ℕ) (at : ℕ) (t : Text) → at + length (text_is t) ≤ length sheet₀
     → Putting sheet₀ at t.length t.number sheet₀ t.length t.number at
-put_begins sheet₀ at t h room = record {
+put_begins sheet₀ at t room = record {
   done = [];
   whole = refl;
-  there = rw (letters-count t.length) at h.there;
-  short = h.short;
+  there = t.there;
+  short = t.short;
   count = omega arith;
   stands = omega arith;
-  room = omega (arith, text-length t h);
+  room = omega (arith, text-length t);
   so = sym (put-nil sheet₀ at);
   size = refl;
 }
@@ -110,65 +110,75 @@ put_ends sheet₀ at t sheet left number place i l =
 
 -- ---- cells
 
-pub cell-put : (d : List ℕ) (at : ℕ) (t : Text) (d₁ d₂ : List ℕ) (p r : ℕ) → IsSmall t → at + length (cell_bytes (text_is t)) ≤ length d
+pub cell-put : (d : List ℕ) (at : ℕ) (t : Text) (d₁ d₂ : List ℕ) (p r : ℕ) → at + length (cell_bytes (text_is t)) ≤ length d
     → p ≡ at + 4 → d₁ ≡ put_at d at (0 ∷ 0 ∷ 1 ∷ t.length ∷ []) → r ≡ p + length (text_is t) → d₂ ≡ put_at d₁ p (text_is t)
     → (r ≡ at + length (cell_bytes (text_is t))) × (d₂ ≡ put_at d at (cell_bytes (text_is t)))
-cell-put d at t d₁ d₂ p r small room e₁ h₁ e₂ h₂ =
-    let n = text-length t small in
+cell-put d at t d₁ d₂ p r room e₁ h₁ e₂ h₂ =
+    let n = text-length t in
     let head : List ℕ = 0 ∷ 0 ∷ 1 ∷ t.length ∷ [] in
     let put = two d at head (text_is t) d₁ d₂ p h₁ h₂ (sym e₁) (omega (arith, room)) in
     (omega (arith, e₁, e₂), put ∙ ap (λ k. put_at d at (0 ∷ 0 ∷ 1 ∷ k ∷ text_is t)) (sym n))
 
+-- the letters of a second text
+abbrev pub second_length : Option Text → ℕ
+second_length None = 0
+second_length (Some t) = t.length
+
 module _ (c : Choice) where
   -- one cell, or two
-  cells-one : c.columns ≡ 1 → cells_is c ≡ cell_bytes (text_is c.first)
+  cells-one : c.second ≡ None → cells_is c ≡ cell_bytes (text_is c.first)
   unfolding cells_is texts_is flat
   cells-one e = rw e (append-nil (cell_bytes (text_is c.first)))
 
-  cells_two : c.columns ≡ 2 → cells_is c ≡ cell_bytes (text_is c.first) ++ cell_bytes (text_is c.second)
+  cells_two : (t : Text) → c.second ≡ Some t → cells_is c ≡ cell_bytes (text_is c.first) ++ cell_bytes (text_is t)
   unfolding cells_is texts_is flat
-  cells_two e = rw e (ap (λ l. cell_bytes (text_is c.first) ++ l) (append-nil (cell_bytes (text_is c.second))))
+  cells_two t e = rw e (ap (λ l. cell_bytes (text_is c.first) ++ l) (append-nil (cell_bytes (text_is t))))
 
-  pub first-room : InRange c → length (cell_bytes (text_is c.first)) ≤ length (cells_is c)
-  first-room h = go h.columns
+  pub second-room : (t : Text) → c.second ≡ Some t
+      → length (cell_bytes (text_is c.first)) + length (cell_bytes (text_is t)) ≡ length (cells_is c)
+  second-room t e = rw (cells_two t e) (sym (length-append (cell_bytes (text_is c.first)) (cell_bytes (text_is t))))
+
+  pub first-room : length (cell_bytes (text_is c.first)) ≤ length (cells_is c)
+  first-room = go c.second refl
     where
-      go : (c.columns ≡ 1) ⊎ (c.columns ≡ 2) → length (cell_bytes (text_is c.first)) ≤ length (cells_is c)
-      go (inl e) = rw (cells-one e) (omega arith)
-      go (inr e) = rw (cells_two e, length-append (cell_bytes (text_is c.first)) (cell_bytes (text_is c.second))) (omega arith)
+      go : (x : Option Text) → c.second ≡ x → length (cell_bytes (text_is c.first)) ≤ length (cells_is c)
+      go None e = rw (cells-one e) (omega arith)
+      go (Some t) e = omega (arith, second-room t e)
 
-  pub second-room : c.columns ≡ 2 → length (cell_bytes (text_is c.first)) + length (cell_bytes (text_is c.second)) ≡ length (cells_is c)
-  second-room e = rw (cells_two e) (sym (length-append (cell_bytes (text_is c.first)) (cell_bytes (text_is c.second))))
-
-  not_two : InRange c → (c.columns ≡ 2 → ⊥) → c.columns ≡ 1
-  not_two h n = go h.columns
-    where
-      go : (c.columns ≡ 1) ⊎ (c.columns ≡ 2) → c.columns ≡ 1
-      go (inl e) = e
-      go (inr e) = absurd (n e)
-
-  pub cells-put-one : (d : List ℕ) (at : ℕ) (d₁ : List ℕ) → InRange c → (c.columns ≡ 2 → ⊥) → d₁ ≡ put_at d at (cell_bytes (text_is c.first))
+  pub cells-put-one : (d : List ℕ) (at : ℕ) (d₁ : List ℕ) → c.second ≡ None → d₁ ≡ put_at d at (cell_bytes (text_is c.first))
       → d₁ ≡ put_at d at (cells_is c)
-  cells-put-one d at d₁ h n e = rw (cells-one (not_two h n)) e
+  cells-put-one d at d₁ e h = rw (cells-one e) h
 
-  pub cells-put_two : (d : List ℕ) (at : ℕ) (d₁ d₂ : List ℕ) (p : ℕ) → c.columns ≡ 2 → at + length (cells_is c) ≤ length d
+  pub cells-put_two : (t : Text) (d : List ℕ) (at : ℕ) (d₁ d₂ : List ℕ) (p : ℕ) → c.second ≡ Some t → at + length (cells_is c) ≤ length d
       → p ≡ at + length (cell_bytes (text_is c.first)) → d₁ ≡ put_at d at (cell_bytes (text_is c.first))
-      → d₂ ≡ put_at d₁ p (cell_bytes (text_is c.second)) → d₂ ≡ put_at d at (cells_is c)
-  cells-put_two d at d₁ d₂ p e room k h₁ h₂ =
-      rw (cells_two e) (two d at (cell_bytes (text_is c.first)) (cell_bytes (text_is c.second)) d₁ d₂ p h₁ h₂ (sym k) (omega (arith, room)))
+      → d₂ ≡ put_at d₁ p (cell_bytes (text_is t)) → d₂ ≡ put_at d at (cells_is c)
+  cells-put_two t d at d₁ d₂ p e room k h₁ h₂ =
+      rw (cells_two t e) (two d at (cell_bytes (text_is c.first)) (cell_bytes (text_is t)) d₁ d₂ p h₁ h₂ (sym k) (omega (arith, room, second-room t e)))
 
-  cells-length : InRange c → length (cells_is c) ≡ 4 * c.columns + c.first.length + c.second.length
-  cells-length h = go h.columns
+  cells-length : length (cells_is c) ≡ 4 * columns_of c + c.first.length + second_length c.second
+  unfolding texts_is
+  cells-length = go c.second refl
     where
-      go : (c.columns ≡ 1) ⊎ (c.columns ≡ 2) → length (cells_is c) ≡ 4 * c.columns + c.first.length + c.second.length
-      go (inl e) = rw (cells-one e) (omega (arith, e, text-length c.first h.first, h.unwritten e))
-      go (inr e) = omega (arith, e, second-room e, text-length c.first h.first, text-length c.second h.second)
+      go : (x : Option Text) → c.second ≡ x → length (cells_is c) ≡ 4 * columns_of c + c.first.length + second_length c.second
+      go None e = rw (cells-one e, e) (omega (arith, text-length c.first))
+      go (Some t) e =
+          let room = second-room t e in
+          omega (arith, room, text-length c.first, text-length t, ap (λ x. length (second_is x)) e, ap second_length e)
 
-  pub parts-length : length (sheet_is c) ≡ 29 + (length (columns_bytes c.columns) + length (cells_is c))
+  pub parts-length : length (sheet_is c) ≡ 29 + (length (columns_bytes (columns_of c)) + length (cells_is c))
   unfolding sheet_is
-  parts-length = rw (length-append (columns_bytes c.columns) (cells_is c)) (omega arith)
+  parts-length = rw (length-append (columns_bytes (columns_of c)) (cells_is c)) (omega arith)
 
-  pub sheet_size : InRange c → length (sheet_is c) ≡ 34 + 15 * c.columns + c.first.length + c.second.length
-  sheet_size h = omega (arith, parts-length, columns-length c.columns, cells-length h)
+  pub sheet_size : length (sheet_is c) ≡ 34 + 15 * columns_of c + c.first.length + second_length c.second
+  sheet_size = omega (arith, parts-length, columns-length (columns_of c), cells-length)
+
+  pub columns-one : c.second ≡ None → (1 ≡ columns_of c) × (1 ≤ 2)
+  unfolding texts_is
+  columns-one e = (rw e refl, omega arith)
+
+  pub columns_two : (t : Text) → c.second ≡ Some t → (2 ≡ columns_of c) × (2 ≤ 2)
+  unfolding texts_is
+  columns_two t e = (rw e refl, omega arith)
 
 -- ---- the parts of a sheet
 
@@ -190,12 +200,12 @@ columns-put d at n d₁ d₂ d₃ p q r room e₁ h₁ e₂ h₂ e₃ h₃ =
     (omega (arith, e₁, e₂, e₃, columns-length n), put)
 
 pub sheet-put : (d : List ℕ) (c : Choice) (d₁ d₂ d₃ : List ℕ) (p q : ℕ) → p ≡ length (head_bytes c.arrangement c.target)
-    → d₁ ≡ over (head_bytes c.arrangement c.target) d → q ≡ p + length (columns_bytes c.columns) → d₂ ≡ put_at d₁ p (columns_bytes c.columns)
+    → d₁ ≡ over (head_bytes c.arrangement c.target) d → q ≡ p + length (columns_bytes (columns_of c)) → d₂ ≡ put_at d₁ p (columns_bytes (columns_of c))
     → d₃ ≡ put_at d₂ q (cells_is c) → d₃ ≡ over (sheet_is c) d
 unfolding sheet_is
 sheet-put d c d₁ d₂ d₃ p q e₁ h₁ e₂ h₂ h₃ =
     let head = head_bytes c.arrangement c.target in
-    let columns = columns_bytes c.columns in
+    let columns = columns_bytes (columns_of c) in
     let two-parts : d₂ ≡ over (head ++ columns) d = h₂ ∙ (ap (λ s. put_at s p columns) h₁ ∙ over-put head d columns p (sym e₁)) in
     h₃ ∙ (ap (λ s. put_at s q (cells_is c)) two-parts
     ∙ (over-put (head ++ columns) d (cells_is c) q (length-append head columns ∙ omega (arith, e₁, e₂))

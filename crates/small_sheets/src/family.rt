@@ -4,8 +4,9 @@ ghost use Rattle.buffer.specs.Put.{over, put_at};
 ghost use Rattle.small.specs.Listing.{choices, letters, texts, write_sheet};
 ghost use Rattle.small_sheets.specs.Parts.{cell_bytes, head_bytes, columns_bytes};
 ghost use Rattle.rules.specs.Refusals.{printed_of};
-ghost use Rattle.small_sheets.specs.Chosen.{text_is, IsSmall, IsTextAt, IsPlace, ChoiceAt, InRange, IsChoice, cells_is, sheet_is};
+ghost use Rattle.small_sheets.specs.Chosen.{text_is, columns_of, IsTextAt, IsPlace, ChoiceAt, IsChoice, cells_is, sheet_is};
 
+use crate::choice::{Choice, Place, Text};
 use rules::{Reason, Refusal, STYLE_CHARACTERS};
 
 // How many sheets there are, and how many of them have one column.
@@ -22,31 +23,6 @@ const TARGETS: usize = 11;
 
 // The bytes of a column.
 const COLUMN: usize = 11;
-
-// A text: its length, and its number among the texts of that length.
-#[derive(Clone, Copy)]
-pub struct Text {
-    pub length: usize,
-    pub number: usize,
-}
-
-// An arrangement and a target, and which of the rows of texts.
-#[derive(Clone, Copy)]
-pub struct Place {
-    pub arrangement: usize,
-    pub target: usize,
-    pub row: usize,
-}
-
-// All that a sheet of the family chooses. With one column the second text is empty, and isn't written.
-#[derive(Clone, Copy)]
-pub struct Choice {
-    pub columns: usize,
-    pub arrangement: usize,
-    pub target: usize,
-    pub first: Text,
-    pub second: Text,
-}
 
 // Text k of all: each length has twice as many texts as the one before.
 fn text_at(k: usize) -> Text
@@ -99,14 +75,10 @@ fn one_column(p: Place) -> Choice
     ensures { ChoiceAt 1 p result }
 {
     Choice {
-        columns: 1,
         arrangement: p.arrangement,
         target: p.target,
         first: text_at(p.row),
-        second: Text {
-            length: 0,
-            number: 0,
-        },
+        second: None,
     }
 }
 
@@ -116,11 +88,10 @@ fn two_columns(p: Place) -> Choice
     ensures { ChoiceAt 2 p result }
 {
     Choice {
-        columns: 2,
         arrangement: p.arrangement,
         target: p.target,
         first: text_at(p.row / TEXTS),
-        second: text_at(p.row % TEXTS),
+        second: Some(text_at(p.row % TEXTS)),
     }
 }
 
@@ -155,8 +126,7 @@ fn texts_of(n: usize) -> usize
 
 // Writes a text, letter by letter from the left; gives the place after.
 fn put_text(sheet: &mut [u8], at: usize, t: Text) -> usize
-    requires small { IsSmall t }
-    requires t_in_bounds { at + length (text_is t) ≤ length sheet.old }
+    requires { at + length (text_is t) ≤ length sheet.old }
     ensures value { result ≡ at + length (text_is t) }
     ensures sheet_after { sheet.new ≡ put_at sheet.old at (text_is t) }
 {
@@ -173,8 +143,7 @@ fn put_text(sheet: &mut [u8], at: usize, t: Text) -> usize
 
 // Writes a cell of one line; gives the place after.
 fn put_cell(sheet: &mut [u8], at: usize, t: Text) -> usize
-    requires small { IsSmall t }
-    requires t_in_bounds { at + length (cell_bytes (text_is t)) ≤ length sheet.old }
+    requires { at + length (cell_bytes (text_is t)) ≤ length sheet.old }
     ensures value { result ≡ at + length (cell_bytes (text_is t)) }
     ensures sheet_after { sheet.new ≡ put_at sheet.old at (cell_bytes (text_is t)) }
 {
@@ -185,13 +154,12 @@ fn put_cell(sheet: &mut [u8], at: usize, t: Text) -> usize
 
 // Writes the cells of the row.
 fn put_cells(sheet: &mut [u8], at: usize, c: Choice)
-    requires in_range { InRange c }
-    requires c_in_bounds { at + length (cells_is c) ≤ length sheet.old }
+    requires { at + length (cells_is c) ≤ length sheet.old }
     ensures { sheet.new ≡ put_at sheet.old at (cells_is c) }
 {
     let p = put_cell(sheet, at, c.first);
-    if c.columns == 2 {
-        put_cell(sheet, p, c.second);
+    if let Some(second) = c.second {
+        put_cell(sheet, p, second);
     }
 }
 
@@ -229,22 +197,34 @@ fn put_columns(sheet: &mut [u8], at: usize, columns: usize) -> usize
     buffer::copy(sheet, q, &row)
 }
 
+// How many columns a choice's sheet has.
+fn columns(c: Choice) -> usize
+    ensures { (result ≡ columns_of c) × (result ≤ 2) }
+{
+    match c.second {
+        Some(_) => 2,
+        None => 1,
+    }
+}
+
 // The bytes of a choice's sheet.
 fn size(c: Choice) -> usize
-    requires { InRange c }
     ensures { result ≡ length (sheet_is c) }
 {
-    34 + 15 * c.columns + c.first.length + c.second.length
+    let second = match c.second {
+        Some(text) => text.length,
+        None => 0,
+    };
+    34 + 15 * columns(c) + c.first.length + second
 }
 
 // Writes a choice's sheet from the buffer's beginning on.
 fn put_sheet(sheet: &mut [u8], c: Choice)
-    requires in_range { InRange c }
-    requires c_in_bounds { length (sheet_is c) ≤ length sheet.old }
+    requires { length (sheet_is c) ≤ length sheet.old }
     ensures { sheet.new ≡ over (sheet_is c) sheet.old }
 {
     let p = put_head(sheet, c.arrangement, c.target);
-    let q = put_columns(sheet, p, c.columns);
+    let q = put_columns(sheet, p, columns(c));
     put_cells(sheet, q, c);
 }
 

@@ -1,6 +1,7 @@
 // Every sheet of the family, one right after the other, on standard output: the test desk's sheets. What can't be written, a line on standard error.
 #![tactic(auto)]
 
+mod choice;
 mod family;
 
 ghost use Rattle.std.specs.Prelude.{◌≡◌, [], ◌≤◌, ◌<◌, length, get_or};

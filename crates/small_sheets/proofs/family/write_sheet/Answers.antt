@@ -11,15 +11,15 @@ returns-then-n-ge-SHEETS c =
 pub returns-then-sheet-needed : goal.returns-then-sheet-needed
 returns-then-sheet-needed c =
     let e =
-        sheet_short c.args.n c.args.sheet.now c.choose-c.result c.size-needed.result c.if-n-ge-SHEETS.false
-        c.choose-c.ensures c.size-needed.ensures c.if-sheet-needed.true in
+    sheet_short c.args.n c.args.sheet.now c.choose-c.result c.size-needed.result c.if-n-ge-SHEETS.false
+    c.choose-c.ensures c.size-needed.ensures c.if-sheet-needed.true in
     record { value = sym (ap (λ (w : Written). w.answer) e); sheet_after = sym (ap (λ (w : Written). w.buffer) e) }
 
 pub returns : goal.returns
 returns c =
     let e =
-        sheet_whole c.args.n c.args.sheet.now c.choose-c.result c.size-needed.result c.if-n-ge-SHEETS.false
-        c.choose-c.ensures c.size-needed.ensures c.if-sheet-needed.false in
+    sheet_whole c.args.n c.args.sheet.now c.choose-c.result c.size-needed.result c.if-n-ge-SHEETS.false
+    c.choose-c.ensures c.size-needed.ensures c.if-sheet-needed.false in
     record {
       value = sym (ap (λ (w : Written). w.answer) e);
       sheet_after = c.put_sheet.ensures ∙ sym (ap (λ (w : Written). w.buffer) e);
