@@ -139,12 +139,6 @@ module _ (columns rows m : ℕ) (e : rows ≡ length (choices texts columns)) (p
       (mod-lt m some)
       ∙ ap (λ w. get_or (of_target columns arrangement w) (rest % rows) no_table) (get_d-up_from 0 11 target 0 target_below ∙ z)
 
-  pub arrangement_within : arrangement ≤ 2
-  arrangement_within = omega (arith, arrangement_below)
-
-  pub target_within : target ≤ 10
-  target_within = omega (arith, target_below)
-
   pub place_is : (p : Place) → p.arrangement ≡ arrangement → p.target ≡ target → p.row ≡ rest % rows → IsPlace columns m p
   place_is p e₁ e₂ e₃ = record {
     table = rw (e₁, e₂, e₃) (arranged ∙ (targeted ∙ get_d_map (λ xs. table_of arrangement target xs) (choices texts columns) (rest % rows) [] no_table row_below));

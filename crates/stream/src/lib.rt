@@ -1,7 +1,7 @@
 // Standard input and output, with an error told from the end of the input. What was interrupted or wasn't ready is tried again.
 #![tactic(auto)]
 
-ghost use Rattle.std.specs.Prelude.{◌≡◌, ◌≤◌, length, IfOk};
+ghost use Rattle.std.specs.Prelude.{IfOk};
 ghost use Rattle.io.specs.Counts.{IsPrefixLen};
 
 use std::io::prelude::*;
