@@ -1,0 +1,8 @@
+-- The arrangement by the sheet's code. Assumes nothing.
+use Rattle.std.specs.Prelude.{ℕ, true, false, eqb}
+use Rattle.style.specs.declared.table.ContentArrangement.{ContentArrangement}
+use Rattle.style.specs.declared.table.ContentArrangement.TheVariants.{Disabled, Dynamic, DynamicFullWidth}
+
+-- 0 `Disabled`, 2 `DynamicFullWidth`, else `Dynamic`
+unfoldable pub arrangement_of : ℕ → ContentArrangement
+arrangement_of n = elim (eqb n 0) [ true ↦ Disabled | false ↦ elim (eqb n 2) [ true ↦ DynamicFullWidth | false ↦ Dynamic ] ]
