@@ -1,9 +1,9 @@
 -- What a column's code says of its constraint, and a code's arrangement. Assumes nothing.
 use Prim.Native.Nat.{ℕ}
-use mathlib.Core.Path.{◌≡◌, refl}
+use mathlib.Core.Path.{◌≡◌, refl, sym}
 use mathlib.Core.Bool.{Bool, true, false}
 use lib.Dec.{eqb}
-use borrow.Author.Tests.{eqb-true, ne_eqb}
+use borrow.Author.Tests.{eqb-true, eqb-false, ne_eqb}
 use Rattle.std.specs.Prelude.{Option, Some, None}
 use Rattle.rules.specs.declared.Column.{Column}
 use Rattle.rules.specs.declared.Width as sheet
@@ -76,7 +76,27 @@ module _ (n : ℕ) where
   unfolding arrangement_of
   code_dynamic x y = other (eqb n 0) _ _ (ne_eqb n 0 x) (other (eqb n 2) _ _ (ne_eqb n 2 y) refl)
 
--- ---- a constraint that hides
+-- ---- what a column's code makes of its constraint
+
+by_test : {A : Type 0} (P : A → Type 0) (n m : ℕ) (x y : A) → (n ≡ m → P x) → ((n ≡ m → ⊥) → P y)
+    → P (elim (eqb n m) as (λ b. A) [ true ↦ x | false ↦ y ])
+by_test {A} P n m x y f g = go (eqb n m) refl
+  where
+    go : (b : Bool) → eqb n m ≡ b → P (elim b as (λ z. A) [ true ↦ x | false ↦ y ])
+    go true e = f (eqb-true n m e)
+    go false e = g (eqb-false n m e)
+
+-- a fact about it, by the codes that set one, and by the others
+pub by_constraint : (c : Column) (P : Option ColumnConstraint → Type 0) → (c.constraint ≡ 1 → P (Some Hidden)) → (c.constraint ≡ 2 → P (Some ContentWidth))
+    → (c.constraint ≡ 3 → P (Some (Absolute (width_of c.first)))) → (c.constraint ≡ 4 → P (Some (LowerBoundary (width_of c.first))))
+    → (c.constraint ≡ 5 → P (Some (UpperBoundary (width_of c.first)))) → (c.constraint ≡ 6 → P (Some (Boundaries (width_of c.first) (width_of c.second))))
+    → ((c.constraint ≡ 1 → ⊥) → (c.constraint ≡ 2 → ⊥) → (c.constraint ≡ 3 → ⊥) → (c.constraint ≡ 4 → ⊥) → (c.constraint ≡ 5 → ⊥) → (c.constraint ≡ 6 → ⊥)
+    → P None) → P (constraint_of c)
+unfolding constraint_of
+by_constraint c P h1 h2 h3 h4 h5 h6 h0 =
+    let k = c.constraint in
+    by_test P k 1 _ _ h1 (λ n1. by_test P k 2 _ _ h2 (λ n2. by_test P k 3 _ _ h3 (λ n3. by_test P k 4 _ _ h4 (λ n4. by_test P k 5 _ _ h5
+    (λ n5. by_test P k 6 _ _ h6 (λ n6. h0 n1 n2 n3 n4 n5 n6))))))
 
 abbrev pub hides : Option ColumnConstraint → Bool
 hides None = false
@@ -88,33 +108,6 @@ hides (Some (UpperBoundary w)) = false
 hides (Some (Boundaries v w)) = false
 
 pub hides_as : (c : Column) → hides (constraint_of c) ≡ is_hidden c
-unfolding constraint_of
-hides_as c = go (eqb c.constraint 1) refl
-  where
-    after : (b2 b3 b4 b5 b6 : Bool) → hides (elim b2 as (λ b. Option ColumnConstraint) [
-      | true ↦ Some ContentWidth
-      | false ↦
-          elim b3 as (λ b. Option ColumnConstraint) [
-            | true ↦ Some (Absolute (width_of c.first))
-            | false ↦
-                elim b4 as (λ b. Option ColumnConstraint) [
-                  | true ↦ Some (LowerBoundary (width_of c.first))
-                  | false ↦
-                      elim b5 as (λ b. Option ColumnConstraint) [
-                        | true ↦ Some (UpperBoundary (width_of c.first))
-                        | false ↦
-                            elim b6 as (λ b. Option ColumnConstraint) [ true ↦ Some (Boundaries (width_of c.first) (width_of c.second)) | false ↦ None ]
-                      ]
-                ]
-          ]
-    ]) ≡ false
-    after true b3 b4 b5 b6 = refl
-    after false true b4 b5 b6 = refl
-    after false false true b5 b6 = refl
-    after false false false true b6 = refl
-    after false false false false true = refl
-    after false false false false false = refl
-
-    go : (b : Bool) → eqb c.constraint 1 ≡ b → hides (constraint_of c) ≡ b
-    go true e = rw (eqb-true c.constraint 1 e, constraint_of)
-    go false e = rw (constraint_of, e) (after (eqb c.constraint 2) (eqb c.constraint 3) (eqb c.constraint 4) (eqb c.constraint 5) (eqb c.constraint 6))
+hides_as c =
+    by_constraint c (λ k. hides k ≡ is_hidden c) (λ e. rw e) (λ e. rw e) (λ e. rw e) (λ e. rw e) (λ e. rw e) (λ e. rw e)
+    (λ n1 n2 n3 n4 n5 n6. sym (ne_eqb c.constraint 1 n1))
