@@ -2,6 +2,8 @@
 use Prim.Native.Nat.{ℕ, suc, ◌+◌, ◌≤◌, ◌<◌}
 use mathlib.Core.Path.{◌≡◌, refl, sym, ap, ◌∙◌}
 use mathlib.Core.Bool.{Bool, true, false}
+use lib.ListN.{get_or, take}
+use lib.Seq.{get_or-take}
 use native.Mathlib.Omega.{arith}
 use native.Mathlib.Numerals.{add-one}
 use Rattle.std.specs.Prelude as std
@@ -12,7 +14,7 @@ use Rattle.style.specs.declared.column.ContentWidth.{ContentWidth}
 use Rattle.constraint.specs.Set.{bit, contains}
 use Rattle.constraint.specs.Widths.{choose, column, decided, in_order, offered, Rule, step, taking}
 use Rattle.constraint.proofs.Bits.{bit-zero}
-use Rattle.rules.specs.Sheet.{is_hidden}
+use Rattle.rules.specs.Sheet.{no_column, is_hidden}
 
 -- the invariant of a loop over columns, of which there are m: x is what comes after i of them
 pub record Walk {A : Type 0} (f : ℕ → A → A) (x₀ : A) (m n i : ℕ) (x : A) : Type 0 where
@@ -36,6 +38,10 @@ module _ {A : Type 0} (f : ℕ → A → A) (x₀ : A) (m n : ℕ) where
     walk_done h =
         let e : i ≡ m = omega (arith, w.within, w.counted) in
         w.so ∙ ap (λ (k : ℕ). in_order f k x₀) e
+
+-- a column of those that there are
+pub column-taken : (t : Layout) (n i : ℕ) → i < n → get_or (take n t.columns) i no_column ≡ column t i
+column-taken t n i h = get_or-take n t.columns i no_column h
 
 -- an undecided column is not in the set
 module _ (c : Column) (i : ℕ) (s : State) where

@@ -9,7 +9,10 @@ use Rattle.rules.specs.declared.Column.{Column}
 use Rattle.rules.specs.declared.Width as sheet
 use Rattle.rules.specs.Sheet.{is_hidden}
 use Rattle.style.specs.Column.{width_of, constraint_of}
-use Rattle.style.specs.Table.{arrangement_of}
+use denote.Enum.Bare.{sameb}
+use Rattle.style.specs.contracts.table.ContentArrangement.{the_type}
+use Rattle.style.specs.Table.{arrangement_of, is_disabled, is_full}
+use Rattle.style.specs.declared.table.ContentArrangement.{ContentArrangement}
 use Rattle.style.specs.declared.column.Width.{Width}
 use Rattle.style.specs.declared.column.Width.TheVariants.{Fixed, Percentage}
 use Rattle.style.specs.declared.column.ColumnConstraint.{ColumnConstraint}
@@ -111,3 +114,27 @@ pub hides_as : (c : Column) → hides (constraint_of c) ≡ is_hidden c
 hides_as c =
     by_constraint c (λ k. hides k ≡ is_hidden c) (λ e. rw e) (λ e. rw e) (λ e. rw e) (λ e. rw e) (λ e. rw e) (λ e. rw e)
     (λ n1 n2 n3 n4 n5 n6. sym (ne_eqb c.constraint 1 n1))
+
+-- ---- the arrangements
+
+pub disabled_same : (a : ContentArrangement) → sameb the_type a Disabled ≡ is_disabled a
+disabled_same Disabled = refl
+disabled_same Dynamic = refl
+disabled_same DynamicFullWidth = refl
+
+pub full_same : (a : ContentArrangement) → sameb the_type a DynamicFullWidth ≡ is_full a
+full_same Disabled = refl
+full_same Dynamic = refl
+full_same DynamicFullWidth = refl
+
+pub disabled_as : (n : ℕ) → is_disabled (arrangement_of n) ≡ eqb n 0
+unfolding arrangement_of
+disabled_as n =
+    by_test (λ a. is_disabled a ≡ eqb n 0) n 0 _ _ (λ e. rw e)
+    (λ x. by_test (λ a. is_disabled a ≡ eqb n 0) n 2 _ _ (λ e. rw e) (λ y. sym (ne_eqb n 0 x)))
+
+pub full_as : (n : ℕ) → is_full (arrangement_of n) ≡ eqb n 2
+unfolding arrangement_of
+full_as n =
+    by_test (λ a. is_full a ≡ eqb n 2) n 0 _ _ (λ e. rw e)
+    (λ x. by_test (λ a. is_full a ≡ eqb n 2) n 2 _ _ (λ e. rw e) (λ y. sym (ne_eqb n 2 y)))
