@@ -2,17 +2,16 @@
 use Prim.Native.Nat.{ℕ, suc, ◌+◌, ◌≤◌, ◌<◌}
 use mathlib.Core.Path.{◌≡◌, refl, sym, ap, ◌∙◌}
 use mathlib.Core.Bool.{Bool, true, false}
+use mathlib.Core.Option.{Option}
 use lib.ListN.{get_or, take}
 use lib.Seq.{get_or-take}
 use native.Mathlib.Omega.{arith}
 use native.Mathlib.Numerals.{add-one}
-use Rattle.std.specs.Prelude as std
 use Rattle.rules.specs.declared.Column.{Column}
 use Rattle.constraint.specs.declared.Layout.{Layout}
 use Rattle.constraint.specs.declared.State.{State}
-use Rattle.style.specs.declared.column.ContentWidth.{ContentWidth}
 use Rattle.constraint.specs.Set.{bit, contains}
-use Rattle.constraint.specs.Widths.{choose, column, decided, in_order, offered, Rule, step, taking}
+use Rattle.constraint.specs.Widths.{choose, column, decided, in_order, Rule, step, taking}
 use Rattle.constraint.proofs.Bits.{bit-zero}
 use Rattle.rules.specs.Sheet.{no_column, is_hidden}
 
@@ -56,12 +55,14 @@ module _ (c : Column) (i : ℕ) (s : State) where
   open-bit h = bit-zero s.decided.0 i (open_go (is_hidden c) h)
 
 -- a step's two ways out
-module _ (t : Layout) (i : ℕ) (s : State) where
-  pub step-decided : (rule : Rule) (r : Bool) → r ≡ decided (column t i) i s → r ≡ true → s ≡ step rule t i s
-  unfolding step
-  step-decided rule r e h = let q : decided (column t i) i s ≡ true = sym e ∙ h in rw q
+module _ (t : Layout) (i : ℕ) (s : State) (rule : Rule) (c : Column) (f : c ≡ column t i) (r : Bool) (e : r ≡ decided c i s) where
+  told : r ≡ decided (column t i) i s
+  told = e ∙ ap (λ (k : Column). decided k i s) f
 
-  pub step_open : (rule : Rule) (r : Bool) (o : std.Option ContentWidth) (u : State) → r ≡ decided (column t i) i s → r ≡ false
-      → offered o ≡ rule t i s → u ≡ taking s i (offered o) → u ≡ step rule t i s
+  pub step-decided : r ≡ true → s ≡ step rule t i s
   unfolding step
-  step_open rule r o u e h p q = let z : decided (column t i) i s ≡ false = sym e ∙ h in q ∙ ap (taking s i) p ∙ sym (rw z)
+  step-decided h = let q : decided (column t i) i s ≡ true = sym told ∙ h in rw q
+
+  pub step_open : (o : Option ℕ) (u : State) → r ≡ false → o ≡ rule t i s → u ≡ taking s i o → u ≡ step rule t i s
+  unfolding step
+  step_open o u h p q = let z : decided (column t i) i s ≡ false = sym told ∙ h in q ∙ ap (taking s i) p ∙ sym (rw z)
