@@ -14,8 +14,6 @@ use Rattle.rules.specs.Sheet.{Table, no_cell, no_row, column_at}
 use Rattle.rules.specs.Widths.{lifted, shorter_by3, longest_part}
 use Rattle.rules.specs.Places.{rows_place}
 use Rattle.rules.specs.declared.Column.{Column}
-use Rattle.table.specs.Held.{settings_of}
-use Rattle.table.specs.declared.records.Settings.{Settings}
 use Rattle.table.specs.Walk.{rows_in, cells_in, lines_in, rows_end, first_row, first_cell, first_line, RowIs, CellIs, LinesNext, CellsSkipped}
 use Rattle.table.specs.declared.records.Rows.{Rows}
 use Rattle.table.specs.declared.records.Cells.{Cells}
@@ -203,7 +201,5 @@ module _ (s : List ℕ) (j a d : ℕ) (h : Rows) (first : Tried) (x : RowsTried 
       enough_spares a (longest_part t j a) m (rw (e, both, ← g) (both_enough a _ _ _ _ x.longest y.longest))
 
 -- the delimiter where a cell sets none
-pub otherwise_is : (t : Table) (j : ℕ) (c : Column) (x : Settings) (p q : ℕ) → c ≡ column_at t j → x ≡ settings_of t → p ≡ or_else x.delimiter 32
-    → q ≡ or_else c.delimiter p → q ≡ otherwise t j
-unfolding settings_of
-otherwise_is t j c x p q e f g h = h ∙ rw (g, e, f)
+pub otherwise_is : (t : Table) (j : ℕ) (c : Column) (q : ℕ) → c ≡ column_at t j → q ≡ or_else c.delimiter (or_else t.delimiter 32) → q ≡ otherwise t j
+otherwise_is t j c q e f = f ∙ rw e

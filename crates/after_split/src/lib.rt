@@ -2,7 +2,8 @@
 // its loops. No text is copied: each line is the part of the sheet that holds it.
 #![tactic(auto)]
 
-ghost use Rattle.std.specs.Prelude.{◌≡◌, ◌+◌, ◌<◌, max, ltb};
+ghost use Rattle.std.specs.Prelude.{◌≡◌, ℕ, ◌+◌, ◌<◌, max, unwrap_or, ltb};
+ghost use Rattle.rules.specs.Text.{or_else};
 ghost use Rattle.rules.specs.Sheet.{column_at};
 ghost use Rattle.rules.specs.Widths.{shorter_by3, longest_part};
 ghost use Rattle.table.specs.Held.{IsAccepted, table_of};
@@ -20,6 +21,26 @@ use table::{settings, walk};
 pub struct Tried {
     pub longest: usize,
     pub end: usize,
+}
+
+// A delimiter that is set: 0 is none.
+fn set(delimiter: u8) -> Option<u8>
+    ensures { (other : ℕ) → unwrap_or result other ≡ or_else delimiter other }
+{
+    if delimiter == 0 {
+        None
+    } else {
+        Some(delimiter)
+    }
+}
+
+// Where a cell sets no delimiter: the column's, else the table's, else a blank.
+fn delimiter(sheet: &[u8], c: &Column) -> u8
+    requires { IsAccepted sheet.now }
+    ensures { result ≡ or_else c.now.delimiter (or_else (table_of sheet.now).delimiter 32) }
+{
+    let table = settings::settings(sheet);
+    set(c.delimiter).unwrap_or(set(table.delimiter).unwrap_or(b' '))
 }
 
 // A line of no more columns than the average isn't split. Where it has as many columns as bytes, no pair is in it. Below an average of 3
@@ -43,7 +64,7 @@ fn longer(longest: usize, line: &[u8], average: usize, delimiter: u8) -> usize
     if line.len() <= longest {
         return longest;
     }
-    numbers::greater(longest, longest_part_of_line(line, average, delimiter))
+    longest.max(longest_part_of_line(line, average, delimiter))
 }
 
 // Splitting pays only if it saves three columns: with such a part it doesn't, whatever the others are.
@@ -105,7 +126,7 @@ fn longest_part_of_row(
         sheet,
         lines,
         average,
-        numbers::or_else(cell.delimiter, otherwise),
+        set(cell.delimiter).unwrap_or(otherwise),
         before,
     );
     if saves_too_little(average, longest) {
@@ -148,13 +169,12 @@ fn longest_part_of_rows(
 }
 
 // The longest part of the column's lines, over header and rows, split at the average; or one that saves too little as well.
-pub fn longest_line_after_split(sheet: &[u8], c: Column, column: usize, average: u16) -> u16
-    requires { IsAccepted sheet.now × (c ≡ column_at (table_of sheet.now) column) }
+pub fn longest_line_after_split(sheet: &[u8], c: &Column, column: usize, average: u16) -> u16
+    requires { IsAccepted sheet.now × (c.now ≡ column_at (table_of sheet.now) column) }
     ensures { shorter_by3 result average ≡ shorter_by3 (longest_part (table_of sheet.now) column average) average }
 {
-    let table = settings::settings(sheet);
-    let otherwise = numbers::or_else(c.delimiter, numbers::or_else(table.delimiter, b' '));
-    let a = average as usize;
+    let otherwise = delimiter(sheet, c);
+    let a = usize::from(average);
     let header = walk::header(sheet);
     let first = longest_part_of_rows(sheet, header, column, a, otherwise);
     if saves_too_little(a, first.longest) {
@@ -166,5 +186,5 @@ pub fn longest_line_after_split(sheet: &[u8], c: Column, column: usize, average:
     };
     let rows = walk::rows(sheet, behind);
     let others = longest_part_of_rows(sheet, rows, column, a, otherwise);
-    numbers::greater(first.longest, others.longest) as u16
+    first.longest.max(others.longest) as u16
 }

@@ -17,7 +17,8 @@ use Rattle.rules.specs.Widths.{lifted, zeros, is_undecided, fix, fix_at, visit, 
 use Rattle.laws.proofs.Settled.{zeros-le, settled, settled-again, settled-last, settled-none, run_settled}
 use Rattle.constraint.specs.declared.Layout.{Layout}
 use Rattle.constraint.specs.declared.State.{State}
-use Rattle.constraint.specs.Widths.{choose, in_order, column, average, bit, decided, fixed, taking, Rule, step, pass, set_width}
+use Rattle.constraint.specs.Set.{bit, set_width}
+use Rattle.constraint.specs.Widths.{choose, in_order, column, average, decided, fixed, taking, Rule, step, pass}
 use Rattle.constraint.proofs.Bits.{add-lt, count_add, bit-same, bit-other}
 use Rattle.constraint.proofs.Laws.{open-bit}
 use Rattle.arrangement.specs.Arrange.{again, repeated, lower_rule, fit_rule, fit_pass, split_rule, step1, step2, step3}
@@ -29,12 +30,12 @@ use Rattle.arrangement.proofs.Offers.{SameRule, lower-same, fit_same, split-same
 -- the same widths, none past the columns; what is decided is noted; what is undecided and what is in the set make up the visible columns
 pub record Agrees (l : Layout) (t : Table) (s : State) (u : doc.State) : Type 0 where
   pub long : length s.widths ≡ most_columns
-  pub fits : s.decided < 2 ^ set_width
+  pub fits : s.decided.0 < 2 ^ set_width
   pub widths : take l.count s.widths ≡ u.widths
   pub past : (j : ℕ) → l.count ≤ j → get_or s.widths j 0 ≡ 0
   pub noted : (j : ℕ) → j < l.count → decided (column l j) j s ≡ not (is_undecided u j)
   pub seen : s.visible ≡ length (doc.visible t)
-  pub counted : doc.undecided u + ones s.decided ≡ length (doc.visible t)
+  pub counted : doc.undecided u + ones s.decided.0 ≡ length (doc.visible t)
   pub remaining : s.remaining ≡ u.remaining
 
 -- a width that is noted where none was
@@ -51,14 +52,14 @@ zeros-set (suc x ∷ ws) (suc i) (suc v) h e p = omega (arith, zeros-set ws i (s
 pub undecided-shown : (l : Layout) (i : ℕ) (s : State) → decided (column l i) i s ≡ false → is_hidden (column l i) ≡ false
 undecided-shown l i s e = go (is_hidden (column l i)) e
   where
-    go : (b : Bool) → choose b true (eqb (bit s.decided i) 1) ≡ false → b ≡ false
+    go : (b : Bool) → choose b true (eqb (bit s.decided.0 i) 1) ≡ false → b ≡ false
     go true h = h
     go false h = refl
 
 module _ (l : Layout) (t : Table) (d : Describes l t) where
   module _ (s : State) (u : doc.State) (a : Agrees l t s u) where
     pub average_as : average s ≡ doc.average u
-    average_as = let e : s.visible - ones s.decided ≡ doc.undecided u = omega (arith, a.seen, a.counted) in rw (e, a.remaining)
+    average_as = let e : s.visible - ones s.decided.0 ≡ doc.undecided u = omega (arith, a.seen, a.counted) in rw (e, a.remaining)
 
     pub length_as : length u.widths ≡ l.count
     length_as = ap length (sym a.widths) ∙ length-take l.count s.widths ∙ omega (arith, a.long, d.few)
@@ -67,7 +68,7 @@ module _ (l : Layout) (t : Table) (d : Describes l t) where
     width_as j h = sym (get_or-take l.count s.widths j 0 h) ∙ ap (λ (ws : List ℕ). get_or ws j 0) a.widths
 
     module _ (i w : ℕ) (h : i < l.count) (o : decided (column l i) i s ≡ false) where
-      z : bit s.decided i ≡ 0
+      z : bit s.decided.0 i ≡ 0
       z = open-bit (column l i) i s o
 
       was : get_or u.widths i 0 ≡ 0
@@ -78,11 +79,11 @@ module _ (l : Layout) (t : Table) (d : Describes l t) where
       now-noted =
           let k = length_as in
           let n : eqb (lifted w) 0 ≡ false = ne_eqb (lifted w) 0 (omega arith) in
-          rw (undecided-shown l i s o, bit-same i s.decided z, get_or-set_same u.widths i (lifted w) 0 (omega arith), n)
+          rw (undecided-shown l i s o, bit-same i s.decided.0 z, get_or-set_same u.widths i (lifted w) 0 (omega arith), n)
 
       still_noted : (j : ℕ) → j < l.count → (j ≡ i → ⊥) → decided (column l j) j (fixed s i w) ≡ not (is_undecided (fix i w u) j)
       unfolding fix
-      still_noted j k n = rw (bit-other i j s.decided z n, get_or-set_other u.widths i j (lifted w) 0 n) (a.noted j k)
+      still_noted j k n = rw (bit-other i j s.decided.0 z n, get_or-set_other u.widths i j (lifted w) 0 n) (a.noted j k)
 
       -- a column is fixed
       pub fix_agrees : Agrees l t (fixed s i w) (fix i w u)
@@ -90,13 +91,13 @@ module _ (l : Layout) (t : Table) (d : Describes l t) where
       fix_agrees =
           record {
             long = length-set s.widths i (lifted w) ∙ a.long;
-            fits = add-lt set_width s.decided i (omega (arith, d.few)) a.fits z;
+            fits = add-lt set_width s.decided.0 i (omega (arith, d.few)) a.fits z;
             widths = take-set-lt l.count s.widths i (lifted w) h ∙ ap (λ (ws : List ℕ). set ws i (lifted w)) a.widths;
             past = λ j k. get_or-set_other s.widths i j (lifted w) 0 (λ e. omega arith) ∙ a.past j k;
             noted = λ j k. by_place (λ (x : ℕ). x < l.count → decided (column l x) x (fixed s i w) ≡ not (is_undecided (fix i w u) x)) j i (λ q. now-noted)
                 (λ n q. still_noted j q n) k;
             seen = a.seen;
-            counted = omega (arith, a.counted, count_add i s.decided z, zeros-set u.widths i (lifted w) (omega (arith, length_as)) was (omega arith));
+            counted = omega (arith, a.counted, count_add i s.decided.0 z, zeros-set u.widths i (lifted w) (omega (arith, length_as)) was (omega arith));
             remaining = ap (λ (n : ℕ). n - w) a.remaining;
           }
 
@@ -132,7 +133,7 @@ module _ (l : Layout) (t : Table) (d : Describes l t) where
       (turn : (s : State) (u : doc.State) → Agrees l t s u → begins u ≡ true → f s ≡ pass rule l s)
       (stay : (s : State) (u : doc.State) → Agrees l t s u → begins u ≡ false → f s ≡ s) where
     -- a pass that leaves the set as it was has fixed no column
-    ends : (s : State) (u : doc.State) → Agrees l t s u → begins u ≡ true → (pass rule l s).decided ≡ s.decided
+    ends : (s : State) (u : doc.State) → Agrees l t s u → begins u ≡ true → (pass rule l s).decided.0 ≡ s.decided.0
         → Agrees l t (pass rule l s) (settled begins r l.count u)
     ends s u a b e =
         let p = pass_agrees rule r same s u a in
@@ -140,33 +141,33 @@ module _ (l : Layout) (t : Table) (d : Describes l t) where
         rw (settled-last begins r l.count u b k) p
 
     -- one that changed it has fixed some
-    falls : (s : State) (u : doc.State) → Agrees l t s u → ((pass rule l s).decided ≡ s.decided → ⊥) → doc.undecided (doc.pass r l.count u) < doc.undecided u
+    falls : (s : State) (u : doc.State) → Agrees l t s u → ((pass rule l s).decided.0 ≡ s.decided.0 → ⊥) → doc.undecided (doc.pass r l.count u) < doc.undecided u
     falls s u a n =
         let p = pass_agrees rule r same s u a in
         let g = pass_grew l d.few s a.fits rule in
-        let m : ones (pass rule l s).decided ≤ ones s.decided → ⊥ = λ h. n (ap (λ (x : State). x.decided) (g.same h)) in
+        let m : ones (pass rule l s).decided.0 ≤ ones s.decided.0 → ⊥ = λ h. n (ap (λ (x : State). x.decided.0) (g.same h)) in
         omega (arith, p.counted, a.counted, g.more)
 
     -- passes by the set are passes by the undecided count
     again_agrees : (k : ℕ) (s : State) (u : doc.State) → doc.undecided u < k → Agrees l t s u → Agrees l t (again k f s) (settled begins r l.count u)
     again_agrees zero s u h a = absurd (not-suc-le-zero h)
     again_agrees (suc k) s u h a =
-        go (begins u) (eqb (f s).decided s.decided) refl refl
+        go (begins u) (eqb (f s).decided.0 s.decided.0) refl refl
         (λ m. again_agrees k (pass rule l s) (doc.pass r l.count u) m (pass_agrees rule r same s u a))
       where
-        go : (b c : Bool) → begins u ≡ b → eqb (f s).decided s.decided ≡ c
+        go : (b c : Bool) → begins u ≡ b → eqb (f s).decided.0 s.decided.0 ≡ c
             → (doc.undecided (doc.pass r l.count u) < k → Agrees l t (again k f (pass rule l s)) (settled begins r l.count (doc.pass r l.count u)))
             → Agrees l t (again (suc k) f s) (settled begins r l.count u)
         go true true b c i =
             let e = turn s u a b in
-            rw (again-stop k f s c, e) (ends s u a b (eqb-true (pass rule l s).decided s.decided (rw e at c)))
+            rw (again-stop k f s c, e) (ends s u a b (eqb-true (pass rule l s).decided.0 s.decided.0 (rw e at c)))
         go true false b c i =
             let e = turn s u a b in
-            let m = falls s u a (eqb-false (pass rule l s).decided s.decided (rw e at c)) in
+            let m = falls s u a (eqb-false (pass rule l s).decided.0 s.decided.0 (rw e at c)) in
             rw (again_go k f s c, e, settled-again begins r l.count u b m) (i (omega arith))
         go false c b q i =
             let e = stay s u a b in
-            rw (again-stop k f s (rw e (eq-eqb s.decided s.decided refl)), e, settled-none begins r l.count u b) a
+            rw (again-stop k f s (rw e (eq-eqb s.decided.0 s.decided.0 refl)), e, settled-none begins r l.count u b) a
 
     pub repeated_agrees : (s : State) (u : doc.State) → Agrees l t s u
         → Agrees l t (repeated f s) (run begins r (length t.columns) (suc (length t.columns)) u).left

@@ -24,6 +24,8 @@ use Rattle.arrangement.specs.declared.dynamic.Course.{Course}
 use Rattle.arrangement.specs.Describes.{Describes}
 use Rattle.sharing.specs.Limits.{Small}
 use Rattle.sharing.specs.Share.{finished}
+use Rattle.style.specs.Table.{is_disabled}
+use Rattle.style.proofs.Laws.{disabled_as}
 use Rattle.arrangement.proofs.Cases.{unlike}
 use Rattle.arrangement.proofs.Agrees.{Agrees, width_as, step1_agrees, step2_agrees, step3_agrees}
 use Rattle.arrangement.proofs.Begins.{targeted_agrees}
@@ -52,23 +54,19 @@ module _ (l : Layout) (t : Table) (d : Describes l t) where
     pub arranged_widths : Widths l (contents t) (arranged parts l).state
     unfolding arranged contents
     arranged_widths =
-        go (eqb l.target 0) (eqb t.target 0) (eqb l.arrangement 0) (eqb t.arrangement 0) (ap (λ (n : ℕ). eqb n 0) d.target)
-        (ap (λ (n : ℕ). eqb n 0) d.arrangement)
+        go (eqb l.target 0 || is_disabled l.arrangement) (eqb t.target 0 || eqb t.arrangement 0)
+        (rw (d.target, d.arrangement, disabled_as t.arrangement))
       where
-        go : (x y b c : Bool) → x ≡ y → b ≡ c
-            → Widths l (elim (y || c) as (λ x. List ℕ) [
+        go : (x y : Bool) → x ≡ y
+            → Widths l (elim y as (λ x. List ℕ) [
               | true ↦ map (λ j. or_else (doc.first t j) (doc.untargeted t j)) (doc.numbers t)
               | false ↦ doc.step4 t (doc.step3 t (doc.step2 t (doc.step1 t (doc.start t))))
             ])
-            (choose x (plainly (started l).decided (pass untargeted l (started l)))
-            (choose b (plainly (started l).decided (pass untargeted l (started l))) (dynamic parts l (started l)))).state
-        go true true b c e q = untargeted_widths l t d
-        go false false true true e q = untargeted_widths l t d
-        go false false false false e q = finished_widths l t d _ _ steps_agree
-        go true false b c e q = absurd (unlike true refl e)
-        go false true b c e q = absurd (unlike true refl (sym e))
-        go false false true false e q = absurd (unlike true refl q)
-        go false false false true e q = absurd (unlike true refl (sym q))
+            (choose x (plainly (started l).decided (pass untargeted l (started l))) (dynamic parts l (started l))).state
+        go true true e = untargeted_widths l t d
+        go false false e = finished_widths l t d _ _ steps_agree
+        go true false e = absurd (unlike true refl e)
+        go false true e = absurd (unlike true refl (sym e))
 
     -- the content widths, and 0 past the columns
     pub arranged-contents : (arranged parts l).state.widths ≡ as_array 0 (contents t)

@@ -18,7 +18,8 @@ use Rattle.rules.specs.Widths.{lifted, zeros, evaluate, noted, taken}
 use Rattle.laws.proofs.Lists.{get_d_map, get_d-up_from, length-up_from, keep_yes, keep_no}
 use Rattle.constraint.specs.declared.Layout.{Layout}
 use Rattle.constraint.specs.declared.State.{State}
-use Rattle.constraint.specs.Widths.{choose, in_order, column, longest, borders, bit, decided, fixed, taking, step, first, hide, evaluated, set_width}
+use Rattle.constraint.specs.Set.{bit, set_width}
+use Rattle.constraint.specs.Widths.{choose, in_order, column, longest, borders, decided, fixed, taking, step, first, hide, evaluated}
 use Rattle.constraint.proofs.Bits.{add-lt, count_add, bit-same, bit-other, zero_bit}
 use Rattle.arrangement.specs.Arrange.{begun, started, charged, remaining, targeted}
 use Rattle.arrangement.specs.Describes.{Describes}
@@ -80,14 +81,14 @@ module _ (l : Layout) (t : Table) (d : Describes l t) where
   -- i columns have had their first step
   record Begun (i : ℕ) (s : State) : Type 0 where
     long : length s.widths ≡ most_columns
-    fits : s.decided < 2 ^ set_width
+    fits : s.decided.0 < 2 ^ set_width
     seen : s.visible ≡ length (doc.visible t)
     unspent : s.remaining ≡ 0
     done : (j : ℕ) → j < i → get_or s.widths j 0 ≡ doc.first t j
     todo : (j : ℕ) → i ≤ j → get_or s.widths j 0 ≡ 0
     known : (j : ℕ) → j < i → decided (column l j) j s ≡ not (eqb (doc.first t j) 0)
-    out : (j : ℕ) → i ≤ j → bit s.decided j ≡ 0
-    counted : zeros (map (doc.first t) (up_from 0 i)) + ones s.decided ≡ length (keep (shown t) (up_from 0 i))
+    out : (j : ℕ) → i ≤ j → bit s.decided.0 j ≡ 0
+    counted : zeros (map (doc.first t) (up_from 0 i)) + ones s.decided.0 ≡ length (keep (shown t) (up_from 0 i))
 
   module _ (i : ℕ) (s : State) (h : i < l.count) (b : Begun i s) where
     -- a width that is noted for column i, and what stands elsewhere
@@ -151,18 +152,18 @@ module _ (l : Layout) (t : Table) (d : Describes l t) where
     take-begun w e n =
         let v : doc.first t i ≡ lifted w = rw n in
         let m : eqb (doc.first t i) 0 ≡ false = ne_eqb (doc.first t i) 0 (omega arith) in
-        let z : bit s.decided i ≡ 0 = b.out i (omega arith) in
+        let z : bit s.decided.0 i ≡ 0 = b.out i (omega arith) in
         record {
           long = length-set s.widths i _ ∙ b.long;
-          fits = add-lt set_width s.decided i (omega (arith, d.few)) b.fits z;
+          fits = add-lt set_width s.decided.0 i (omega (arith, d.few)) b.fits z;
           seen = b.seen;
           unspent = omega (arith, b.unspent);
           done = set_done (lifted w) (sym v);
           todo = set_todo (lifted w);
-          known = now_known (fixed s i w) (rw (m, hidden_as l t d i h, e, bit-same i s.decided z))
-              (λ j k. rw (bit-other i j s.decided z (λ q. omega arith)));
-          out = λ j k. bit-other i j s.decided z (λ q. omega arith) ∙ b.out j (omega arith);
-          counted = omega (arith, b.counted, count_add i s.decided z, zeros-some (doc.first t) i (omega arith), length-shown e);
+          known = now_known (fixed s i w) (rw (m, hidden_as l t d i h, e, bit-same i s.decided.0 z))
+              (λ j k. rw (bit-other i j s.decided.0 z (λ q. omega arith)));
+          out = λ j k. bit-other i j s.decided.0 z (λ q. omega arith) ∙ b.out j (omega arith);
+          counted = omega (arith, b.counted, count_add i s.decided.0 z, zeros-some (doc.first t) i (omega arith), length-shown e);
         }
 
     taking-begun : (o : Option ℕ) → is_hidden (column_at t i) ≡ false → evaluate t i ≡ o → Begun (suc i) (taking s i o)
@@ -233,11 +234,11 @@ module _ (l : Layout) (t : Table) (d : Describes l t) where
 
     charged_as : (i r : ℕ) → i < l.count → charged l s i r ≡ r - taken t i
     unfolding charged
-    charged_as i r h = go (is_hidden (column_at t i)) (eqb (bit s.decided i) 1) refl refl
+    charged_as i r h = go (is_hidden (column_at t i)) (eqb (bit s.decided.0 i) 1) refl refl
       where
-        go : (x y : Bool) → is_hidden (column_at t i) ≡ x → eqb (bit s.decided i) 1 ≡ y
+        go : (x y : Bool) → is_hidden (column_at t i) ≡ x → eqb (bit s.decided.0 i) 1 ≡ y
             → choose (is_hidden (column l i)) r
-            (choose (eqb (bit s.decided i) 1) (r - (get_or s.widths i 0 + padding (column l i))) (r - padding (column l i)))
+            (choose (eqb (bit s.decided.0 i) 1) (r - (get_or s.widths i 0 + padding (column l i))) (r - padding (column l i)))
             ≡ r - taken t i
         go true y e q = rw (hidden_as l t d i h, e, taken_hidden t i e) (omega arith)
         go false true e q = rw (hidden_as l t d i h, e, q, taken-shown t i e, b.done i h, d.column i h)

@@ -13,11 +13,14 @@ use Rattle.rules.specs.Widths.{is_untargeted, is_undecided, longest_part}
 use Rattle.rules.specs.Fixing.{after1, after2, after3}
 use Rattle.constraint.specs.declared.Layout.{Layout}
 use Rattle.constraint.specs.declared.State.{State}
-use Rattle.constraint.specs.Widths.{choose, column, bit, pass}
+use Rattle.constraint.specs.Set.{bit}
+use Rattle.constraint.specs.Widths.{choose, column, pass}
 use Rattle.arrangement.specs.declared.dynamic.Course.{Course}
 use Rattle.arrangement.specs.Arrange.{untargeted, targeted, step1, step2, step3, started, plainly, dynamic, arranged}
 use Rattle.arrangement.specs.Describes.{Describes}
 use Rattle.arrangement.specs.Courses.{Decided, CourseIs}
+use Rattle.style.specs.Table.{is_disabled}
+use Rattle.style.proofs.Laws.{disabled_as}
 use Rattle.arrangement.proofs.Cases.{unlike}
 use Rattle.arrangement.proofs.Offers.{hidden_as}
 use Rattle.arrangement.proofs.Agrees.{Agrees, width_as, step1_agrees, step2_agrees, step3_agrees}
@@ -29,37 +32,21 @@ module _ (l : Layout) (t : Table) (d : Describes l t) where
   decided_as : (s : State) (u : doc.State) → Agrees l t s u → Decided t s.decided u
   decided_as s u a j k h = let m : j < l.count = omega (arith, d.count) in go (is_hidden (column l j)) (hidden_as l t d j m ∙ h) (a.noted j m)
     where
-      go : (b : Bool) → b ≡ false → choose b true (eqb (bit s.decided j) 1) ≡ not (is_undecided u j) → eqb (bit s.decided j) 1 ≡ not (is_undecided u j)
+      go : (b : Bool) → b ≡ false → choose b true (eqb (bit s.decided.0 j) 1) ≡ not (is_undecided u j) → eqb (bit s.decided.0 j) 1 ≡ not (is_undecided u j)
       go true e n = absurd (unlike true refl e)
       go false e n = n
 
-  tests : eqb l.target 0 || eqb l.arrangement 0 ≡ is_untargeted t
-  tests = rw (d.target, d.arrangement)
+  tests : eqb l.target 0 || is_disabled l.arrangement ≡ is_untargeted t
+  tests = rw (d.target, d.arrangement, disabled_as t.arrangement)
 
   -- no target, or `Disabled`; or neither
   arranged-plain : is_untargeted t ≡ true → arranged (longest_part t) l ≡ plainly (started l).decided (pass untargeted l (started l))
   unfolding arranged
-  arranged-plain n = go (eqb l.target 0) (eqb l.arrangement 0) (tests ∙ n)
-    where
-      go : (x b : Bool) → x || b ≡ true
-          → choose x (plainly (started l).decided (pass untargeted l (started l)))
-          (choose b (plainly (started l).decided (pass untargeted l (started l))) (dynamic (longest_part t) l (started l)))
-          ≡ plainly (started l).decided (pass untargeted l (started l))
-      go true b e = refl
-      go false true e = refl
-      go false false e = absurd (unlike true refl (sym e))
+  arranged-plain n = rw (tests ∙ n)
 
   arranged-dynamic : is_untargeted t ≡ false → arranged (longest_part t) l ≡ dynamic (longest_part t) l (started l)
   unfolding arranged
-  arranged-dynamic n = go (eqb l.target 0) (eqb l.arrangement 0) (tests ∙ n)
-    where
-      go : (x b : Bool) → x || b ≡ false
-          → choose x (plainly (started l).decided (pass untargeted l (started l)))
-          (choose b (plainly (started l).decided (pass untargeted l (started l))) (dynamic (longest_part t) l (started l)))
-          ≡ dynamic (longest_part t) l (started l)
-      go true b e = absurd (unlike true refl e)
-      go false true e = absurd (unlike true refl e)
-      go false false e = refl
+  arranged-dynamic n = rw (tests ∙ n)
 
   agrees1 : Agrees l t (step1 l (targeted l (started l))) (after1 t)
   agrees1 = step1_agrees l t d _ _ (targeted_agrees l t d)

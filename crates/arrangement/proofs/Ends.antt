@@ -18,11 +18,12 @@ use Rattle.laws.proofs.Lists.{map_below, below-up_from, all_keep, all_imp, keep_
 use Rattle.laws.proofs.Contents.{share-some}
 use Rattle.constraint.specs.declared.Layout.{Layout}
 use Rattle.constraint.specs.declared.State.{State}
-use Rattle.constraint.specs.Widths.{choose, in_order, column, decided, fixed, pass}
+use Rattle.constraint.specs.Widths.{choose, in_order, column, undecided, decided, fixed, pass}
 use Rattle.constraint.proofs.Bits.{bit-other}
 use Rattle.constraint.proofs.Laws.{open-bit}
-use Rattle.sharing.specs.declared.Sharing.{Sharing}
-use Rattle.sharing.specs.Share.{share, sharing, undecided, distributed, widened, widening, filled, finished}
+use Rattle.style.specs.Table.{is_full}
+use Rattle.style.proofs.Laws.{full_as}
+use Rattle.sharing.specs.Share.{Sharing, share, sharing, distributed, widened, widening, filled, finished}
 use Rattle.arrangement.specs.Arrange.{trimmed, untargeted, started}
 use Rattle.arrangement.specs.Describes.{Describes}
 use Rattle.arrangement.proofs.Rounds.{order_induct}
@@ -227,7 +228,7 @@ module _ (l : Layout) (t : Table) (d : Describes l t) where
           record {
             widths = ap (λ (v : ℕ). set x.state.widths i v) e ∙ ap (λ (ws : List ℕ). set ws i (shared_at i (get_or ws i 0))) g.widths;
             given = omega (arith, g.given, zeros-take-none u.widths i long_enough z);
-            ahead = λ j k q. rw (bit-other i j x.state.decided b (λ e. omega arith)) (g.ahead j (omega arith) q);
+            ahead = λ j k q. rw (bit-other i j x.state.decided.0 b (λ e. omega arith)) (g.ahead j (omega arith) q);
           }
 
       sharing_given : 1 ≤ doc.undecided u → Given (suc i) (sharing l (max s.remaining (undecided s)) (undecided s) i x)
@@ -353,8 +354,8 @@ module _ (l : Layout) (t : Table) (d : Describes l t) where
     pub finished_widths : Widths l (doc.step4 t u) (finished l s)
     unfolding finished doc.step4
     finished_widths =
-        go (eqb (undecided s) 0) (eqb (doc.undecided u) 0) (eqb l.arrangement 2) (eqb t.arrangement 2) (ap (λ (n : ℕ). eqb n 0) parts_as) refl
-        (ap (λ (n : ℕ). eqb n 2) d.arrangement)
+        go (eqb (undecided s) 0) (eqb (doc.undecided u) 0) (is_full l.arrangement) (eqb t.arrangement 2) (ap (λ (n : ℕ). eqb n 0) parts_as) refl
+        (rw (d.arrangement, full_as t.arrangement))
       where
         go : (x y b c : Bool) → x ≡ y → eqb (doc.undecided u) 0 ≡ y → b ≡ c
             → Widths l (elim y as (λ x. List ℕ) [

@@ -17,10 +17,13 @@ use Rattle.rules.specs.Widths.{content_of, percent_of, width_of, value_of, lower
 use Rattle.rules.specs.Widths.{within_average, at_upper, fitting_average, split_at_average, longest_part}
 use Rattle.laws.proofs.Lists.{keep_yes, keep_no}
 use Rattle.laws.proofs.Cases.{one_if-cond}
+use Rattle.style.specs.Column as style
+use Rattle.style.specs.declared.column.Width as form
+use Rattle.style.specs.declared.column.Width.TheVariants.{Fixed, Percentage}
 use Rattle.constraint.specs.declared.Layout.{Layout}
 use Rattle.constraint.specs.declared.State.{State}
 use Rattle.constraint.specs.Widths.{choose, in_order, column, counting, visible, borders, percent, value, valued, lower, upper, average, Rule}
-use Rattle.constraint.specs.Widths.{absolute, covered, first}
+use Rattle.constraint.specs.Widths.{absolute, covered, first, first_of}
 use Rattle.arrangement.specs.Arrange.{trimmed, untargeted, lower_rule, capped, fit_rule, split_rule}
 use Rattle.arrangement.specs.Describes.{Describes}
 
@@ -64,18 +67,22 @@ module _ (l : Layout) (t : Table) (d : Describes l t) where
     unfolding doc.borders
     room_as = let a = borders_as v in let b = d.target in omega (arith, ap (borders_of t.style) m)
 
-    value_as : (w : Width) → value l v w ≡ width_of t w
-    unfolding value width_of percent_of
+    value_as : (w : Width) → value l v (style.width_of w) ≡ width_of t w
+    unfolding style.width_of width_of percent_of
     value_as w = go (eqb w.unit 0) (eqb l.target 0) (eqb t.target 0) (ap (λ (n : ℕ). eqb n 0) d.target)
       where
         part : ℕ
         part = (t.target - doc.borders t) * min 100 w.value / 100
 
+        -- the value, y telling whether there is no target
+        valued_by : Bool → form.Width → Option ℕ
+        valued_by y x = elim x [ Fixed n ↦ some n | Percentage n ↦ choose y none (some (percent (l.target - borders l v) n)) ]
+
         p : percent (l.target - borders l v) w.value ≡ part
         p = let a : min w.value 100 ≡ min 100 w.value = omega arith in rw (room_as, a)
 
         go : (x y z : Bool) → y ≡ z
-            → choose x (some w.value) (choose y none (some (percent (l.target - borders l v) w.value)))
+            → valued_by y (elim x as (λ b. form.Width) [ true ↦ Fixed w.value | false ↦ Percentage w.value ])
             ≡ elim x as (λ x. Option ℕ) [ true ↦ some w.value | false ↦ elim z as (λ x. Option ℕ) [ true ↦ none | false ↦ some part ] ]
         go true y z e = refl
         go false true z e = rw (← e)
@@ -95,7 +102,7 @@ module _ (l : Layout) (t : Table) (d : Describes l t) where
     upper_as c = valued_as (upper_width c)
 
     -- `Absolute` has no lower bound, and only it has a width of its own
-    absolute_alone : (c : Column) → eqb c.constraint 3 ≡ true → (doc.absolute t c ≡ value l v c.first) × (doc.lower t c ≡ none)
+    absolute_alone : (c : Column) → eqb c.constraint 3 ≡ true → (doc.absolute t c ≡ value l v (style.width_of c.first)) × (doc.lower t c ≡ none)
     unfolding doc.absolute absolute_width doc.lower lower_width value_of
     absolute_alone c e = let k = eqb-true c.constraint 3 e in (rw k (sym (value_as c.first)), rw k)
 
@@ -108,7 +115,7 @@ module _ (l : Layout) (t : Table) (d : Describes l t) where
     evaluated c n a b = elim a [ some w ↦ some (content_of c w) | none ↦ elim b [ some w ↦ covering c n w | none ↦ none ] ]
 
     first-offered : (c : Column) (n : ℕ) → is_hidden c ≡ false
-        → choose (eqb c.constraint 2) (some n) (choose (eqb c.constraint 3) (absolute c (value l v c.first)) (covered c n (lower l v c)))
+        → choose (eqb c.constraint 2) (some n) (choose (eqb c.constraint 3) (absolute c (value l v (style.width_of c.first))) (covered c n (lower l v c)))
         ≡ elim (is_hidden c || eqb c.constraint 2) as (λ x. Option ℕ) [ true ↦ some n | false ↦ evaluated c n (doc.absolute t c) (doc.lower t c) ]
     unfolding evaluated
     first-offered c n h = rw h (go (eqb c.constraint 2) (eqb c.constraint 3) refl)
@@ -122,15 +129,15 @@ module _ (l : Layout) (t : Table) (d : Describes l t) where
         unset (some w) = refl
 
         go : (x y : Bool) → eqb c.constraint 3 ≡ y
-            → choose x (some n) (choose y (absolute c (value l v c.first)) (covered c n (lower l v c)))
+            → choose x (some n) (choose y (absolute c (value l v (style.width_of c.first))) (covered c n (lower l v c)))
             ≡ elim x as (λ x. Option ℕ) [ true ↦ some n | false ↦ evaluated c n (doc.absolute t c) (doc.lower t c) ]
         go true y e = refl
-        go false true e = let k = absolute_alone c e in rw (k.0, k.1) (set (value l v c.first))
+        go false true e = let k = absolute_alone c e in rw (k.0, k.1) (set (value l v (style.width_of c.first)))
         go false false e = rw (not-absolute c e, lower_as c) (unset (doc.lower t c))
 
   -- the first step's offer to a visible column
   pub first_as : (i : ℕ) (s : State) → i < l.count → s.visible ≡ length (doc.visible t) → is_hidden (column_at t i) ≡ false → first l i s ≡ evaluate t i
-  unfolding first evaluate evaluated
+  unfolding first_of evaluate evaluated
   first_as i s h m e = rw (d.column i h, d.longest i h) (first-offered s.visible m (column_at t i) (doc.longest t i) e)
 
   -- a rule offers what the definitions' rule does by the average

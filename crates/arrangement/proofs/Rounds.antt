@@ -10,10 +10,11 @@ use lib.Count.{ones, ones-le}
 use borrow.Author.Tests.{eqb-false}
 use Rattle.constraint.specs.declared.Layout.{Layout}
 use Rattle.constraint.specs.declared.State.{State}
-use Rattle.constraint.specs.Widths.{choose, in_order, column, average, decided, taking, Rule, step, pass, set_width}
+use Rattle.constraint.specs.Set.{set_width}
+use Rattle.constraint.specs.Widths.{choose, in_order, column, decided, taking, Rule, step, pass}
 use Rattle.constraint.proofs.Bits.{add-lt, count_add}
 use Rattle.constraint.proofs.Laws.{open-bit}
-use Rattle.arrangement.specs.Arrange.{again, repeated, fit_rule, fit_pass}
+use Rattle.arrangement.specs.Arrange.{again, repeated, turn}
 use Rattle.rules.specs.Sheet.{most_columns}
 
 -- what holds after i columns, by the columns
@@ -29,11 +30,11 @@ order-keeps P f n x h p = order_induct (λ i y. P y) f n x h p
 
 -- t comes of s by fixing columns: none, and then it is s, or some
 pub record Grew (s t : State) : Type 0 where
-  pub small : t.decided < 2 ^ set_width
-  pub more : ones s.decided ≤ ones t.decided
-  pub same : ones t.decided ≤ ones s.decided → t ≡ s
+  pub small : t.decided.0 < 2 ^ set_width
+  pub more : ones s.decided.0 ≤ ones t.decided.0
+  pub same : ones t.decided.0 ≤ ones s.decided.0 → t ≡ s
 
-pub grew_none : (s : State) → s.decided < 2 ^ set_width → Grew s s
+pub grew_none : (s : State) → s.decided.0 < 2 ^ set_width → Grew s s
 grew_none s l = record { small = l; more = omega arith; same = λ h. refl }
 
 grew_trans : (s t u : State) → Grew s t → Grew t u → Grew s u
@@ -44,48 +45,48 @@ grew_trans s t u a b =
       same = λ h. b.same (omega (arith, a.more, b.more)) ∙ a.same (omega (arith, a.more, b.more));
     }
 
-module _ (t : Layout) (i : ℕ) (s : State) (hi : i < set_width) (l : s.decided < 2 ^ set_width) where
+module _ (t : Layout) (i : ℕ) (s : State) (hi : i < set_width) (l : s.decided.0 < 2 ^ set_width) where
   step_cases : (b : Bool) (o : Option ℕ) → decided (column t i) i s ≡ b → Grew s (choose b s (taking s i o))
   step_cases true o e = grew_none s l
   step_cases false none e = grew_none s l
   step_cases false (some w) e =
       let z = open-bit (column t i) i s e in
-      let n = count_add i s.decided z in
-      record { small = add-lt set_width s.decided i hi l z; more = omega (arith, n); same = λ h. absurd (omega (arith, n)) }
+      let n = count_add i s.decided.0 z in
+      record { small = add-lt set_width s.decided.0 i hi l z; more = omega (arith, n); same = λ h. absurd (omega (arith, n)) }
 
   step_grew : (rule : Rule) → Grew s (step rule t i s)
   unfolding step
   step_grew rule = step_cases (decided (column t i) i s) (rule t i s) refl
 
-module _ (t : Layout) (fits : t.count ≤ most_columns) (s : State) (l : s.decided < 2 ^ set_width) where
+module _ (t : Layout) (fits : t.count ≤ most_columns) (s : State) (l : s.decided.0 < 2 ^ set_width) where
   pub pass_grew : (rule : Rule) → Grew s (pass rule t s)
   pass_grew rule =
       order-keeps (λ (u : State). Grew s u) (step rule t) t.count s
       (λ i u h g. grew_trans s u (step rule t i u) g (step_grew t i u (omega arith) g.small rule))
       (grew_none s l)
 
-  fit_cases : (b : Bool) → Grew s (choose b s (pass fit_rule t s))
-  fit_cases true = grew_none s l
-  fit_cases false = pass_grew fit_rule
+  turn_cases : (rule : Rule) (b : Bool) → Grew s (choose b s (pass rule t s))
+  turn_cases rule true = grew_none s l
+  turn_cases rule false = pass_grew rule
 
-  pub fit_grew : Grew s (fit_pass t s)
-  fit_grew = fit_cases (eqb (average s) 0)
+  pub turn_grew : (ended : State → Bool) (rule : Rule) → Grew s (turn ended rule t s)
+  turn_grew ended rule = turn_cases rule (ended s)
 
 -- how many are undecided, at most
 abbrev pub left : State → ℕ
-left s = set_width - ones s.decided
+left s = set_width - ones s.decided.0
 
-left_falls : (s t : State) → Grew s t → eqb t.decided s.decided ≡ false → left t < left s
+left_falls : (s t : State) → Grew s t → eqb t.decided.0 s.decided.0 ≡ false → left t < left s
 left_falls s t g e =
-    let u = ones-le set_width t.decided g.small in
-    let n : ones t.decided ≤ ones s.decided → ⊥ = λ h. eqb-false t.decided s.decided e (ap (λ (x : State). x.decided) (g.same h)) in
+    let u = ones-le set_width t.decided.0 g.small in
+    let n : ones t.decided.0 ≤ ones s.decided.0 → ⊥ = λ h. eqb-false t.decided.0 s.decided.0 e (ap (λ (x : State). x.decided.0) (g.same h)) in
     omega (arith, g.more)
 
-pub again-stop : (k : ℕ) (f : State → State) (r : State) → eqb (f r).decided r.decided ≡ true → again (suc k) f r ≡ f r
+pub again-stop : (k : ℕ) (f : State → State) (r : State) → eqb (f r).decided.0 r.decided.0 ≡ true → again (suc k) f r ≡ f r
 unfolding again
 again-stop k f r e = rw (e, again)
 
-pub again_go : (k : ℕ) (f : State → State) (r : State) → eqb (f r).decided r.decided ≡ false → again (suc k) f r ≡ again k f (f r)
+pub again_go : (k : ℕ) (f : State → State) (r : State) → eqb (f r).decided.0 r.decided.0 ≡ false → again (suc k) f r ≡ again k f (f r)
 unfolding again
 again_go k f r e = rw (e, again)
 
@@ -96,7 +97,7 @@ Next f end r false = r ≡ end
 
 -- the loop's invariant
 pub record Going (f : State → State) (end r : State) (more : Bool) : Type 0 where
-  pub small : r.decided < 2 ^ set_width
+  pub small : r.decided.0 < 2 ^ set_width
   pub next : Next f end r more
 
 abbrev pub weight : Bool → ℕ
@@ -104,7 +105,7 @@ weight true = 1
 weight false = 0
 
 module _ (f : State → State) (s : State) where
-  pub round_begin : s.decided < 2 ^ set_width → Going f (repeated f s) s true
+  pub round_begin : s.decided.0 < 2 ^ set_width → Going f (repeated f s) s true
   unfolding Next
   round_begin l = record { small = l; next = (suc set_width, omega arith, refl) }
 
@@ -117,26 +118,26 @@ module _ (f : State → State) (end r : State) (more : Bool) (g : Going f end r 
     grown : Grew r u
     grown = subst (λ (x : State). Grew r x) (sym q) w
 
-    turn : (b : Bool) (k : ℕ) → eqb u.decided r.decided ≡ b → left r < k → again k f r ≡ end → Next f end u (not b)
+    next_turn : (b : Bool) (k : ℕ) → eqb u.decided.0 r.decided.0 ≡ b → left r < k → again k f r ≡ end → Next f end u (not b)
     unfolding Next
-    turn b zero z h p = absurd (not-suc-le-zero h)
-    turn true (suc k) z h p =
-        let y : eqb (f r).decided r.decided ≡ true = ap (λ (x : State). eqb x.decided r.decided) (sym q) ∙ z in
+    next_turn b zero z h p = absurd (not-suc-le-zero h)
+    next_turn true (suc k) z h p =
+        let y : eqb (f r).decided.0 r.decided.0 ≡ true = ap (λ (x : State). eqb x.decided.0 r.decided.0) (sym q) ∙ z in
         q ∙ sym (again-stop k f r y) ∙ p
-    turn false (suc k) z h p =
-        let y : eqb (f r).decided r.decided ≡ false = ap (λ (x : State). eqb x.decided r.decided) (sym q) ∙ z in
+    next_turn false (suc k) z h p =
+        let y : eqb (f r).decided.0 r.decided.0 ≡ false = ap (λ (x : State). eqb x.decided.0 r.decided.0) (sym q) ∙ z in
         (k, omega (arith, left_falls r u grown z), ap (again k f) q ∙ sym (again_go k f r y) ∙ p)
 
-    pub round-again : Going f end u (not (eqb u.decided r.decided))
+    pub round-again : Going f end u (not (eqb u.decided.0 r.decided.0))
     unfolding Next
     round-again =
         let n = subst (λ (b : Bool). Next f end r b) e g.next in
-        record { small = grown.small; next = turn (eqb u.decided r.decided) n.0 refl n.1 n.2 }
+        record { small = grown.small; next = next_turn (eqb u.decided.0 r.decided.0) n.0 refl n.1 n.2 }
 
-    falls : (b : Bool) → eqb u.decided r.decided ≡ b → left u + weight (not b) < left r + 1
+    falls : (b : Bool) → eqb u.decided.0 r.decided.0 ≡ b → left u + weight (not b) < left r + 1
     falls true z = omega (arith, grown.more)
     falls false z = omega (arith, left_falls r u grown z)
 
-    pub round_less : left u + weight (not (eqb u.decided r.decided)) < left r + weight more
+    pub round_less : left u + weight (not (eqb u.decided.0 r.decided.0)) < left r + weight more
     round_less =
-        subst (λ (b : Bool). left u + weight (not (eqb u.decided r.decided)) < left r + weight b) (sym e) (falls (eqb u.decided r.decided) refl)
+        subst (λ (b : Bool). left u + weight (not (eqb u.decided.0 r.decided.0)) < left r + weight b) (sym e) (falls (eqb u.decided.0 r.decided.0) refl)

@@ -1,24 +1,31 @@
 -- The arrangement: untargeted widths, the remaining width, steps 1 to 3, and the whole; step 4 is `sharing`'s. Assumes nothing.
-use Rattle.std.specs.Prelude.{ℕ, zero, suc, ◌+◌, ◌-◌, true, false, ◌&&◌, get_or, replicate, eqb, leb, ltb}
+use Rattle.std.specs.Prelude.{ℕ, zero, suc, ◌+◌, ◌-◌, Bool, true, false, ◌&&◌, ◌||◌, get_or, replicate, eqb, leb, ltb}
 use Rattle.std.proofs.Math.Option.{Option, none, some}
 use Rattle.rules.specs.declared.Column.{Column}
 use Rattle.constraint.specs.declared.Layout.{Layout}
 use Rattle.constraint.specs.declared.State.{State}
 use Rattle.arrangement.specs.declared.dynamic.Course.{Course}
-use Rattle.constraint.specs.Widths.{choose, in_order, column, longest, visible, borders, lower, upper, average, set_width, bit, Rule, pass}
+use Rattle.constraint.specs.declared.column_set.ColumnSet.{ColumnSet}
+use Rattle.constraint.specs.Set.{set_width, contains}
+use Rattle.constraint.specs.Widths.{choose, in_order, column, longest, visible, borders, lower, upper, average, Rule, pass}
 use Rattle.constraint.specs.Widths.{evaluated}
 use Rattle.sharing.specs.Share.{finished}
+use Rattle.style.specs.Table.{is_disabled}
 use Rattle.rules.specs.Sheet.{most_columns, padding, is_hidden}
 use Rattle.rules.specs.Widths.{content_of, within_average, shorter_by3}
 
 -- a pass that fixed a column is repeated
 unfoldable pub again : ℕ → (State → State) → State → State
 again zero f s = s
-again (suc fuel) f s = elim (eqb (f s).decided s.decided) [ true ↦ f s | false ↦ again fuel f (f s) ]
+again (suc fuel) f s = elim (eqb (f s).decided.0 s.decided.0) [ true ↦ f s | false ↦ again fuel f (f s) ]
 
 -- each pass but the last fixes a column, and there are at most as many as the set can hold
 abbrev pub repeated : (State → State) → State → State
 repeated f s = again (suc set_width) f s
+
+-- a pass of a step that ends where a state is such
+abbrev pub turn : (State → Bool) → Rule → Layout → State → State
+turn ended rule t s = choose (ended s) s (pass rule t s)
 
 -- No target, or `Disabled`: the longest; if an upper bound is below the longest, the bound made content
 abbrev pub trimmed : Column → ℕ → Option ℕ → ℕ
@@ -31,7 +38,7 @@ untargeted t i s = some (trimmed (column t i) (longest t i) (upper t s.visible (
 unfoldable pub charged : Layout → State → ℕ → ℕ → ℕ
 charged t s i r =
     choose (is_hidden (column t i)) r
-    (choose (eqb (bit s.decided i) 1) (r - (get_or s.widths i 0 + padding (column t i)))
+    (choose (contains s.decided i) (r - (get_or s.widths i 0 + padding (column t i)))
     (r - padding (column t i)))
 
 abbrev pub remaining : Layout → State → ℕ
@@ -63,7 +70,7 @@ fit_rule t i s = capped (average s) (column t i) (longest t i) (upper t s.visibl
 
 -- a pass begins only if the average isn't 0
 abbrev pub fit_pass : Layout → State → State
-fit_pass t s = choose (eqb (average s) 0) s (pass fit_rule t s)
+fit_pass t s = turn (λ s. eqb (average s) 0) fit_rule t s
 
 abbrev pub step2 : Layout → State → State
 step2 t s = repeated (fit_pass t) s
@@ -91,11 +98,11 @@ dynamic parts t s =
     course_of t (targeted t s) (step1 t (targeted t s)) (step2 t (step1 t (targeted t s))) (step3 parts t (step2 t (step1 t (targeted t s))))
 
 -- without a target the first step's columns are the only ones decided on the way
-abbrev pub plainly : ℕ → State → Course
+abbrev pub plainly : ColumnSet → State → Course
 plainly first s = record { first = first; lower = first; fitted = first; split = first; before = s.widths; state = s }
 
 abbrev pub begun : Layout → State
-begun t = record { widths = replicate most_columns 0; decided = 0; remaining = 0; visible = visible t }
+begun t = record { widths = replicate most_columns 0; decided = record { 0 = 0 }; remaining = 0; visible = visible t }
 
 -- the first step, for each column
 abbrev pub started : Layout → State
@@ -103,6 +110,5 @@ started t = in_order (evaluated t) t.count (begun t)
 
 unfoldable pub arranged : (ℕ → ℕ → ℕ) → Layout → Course
 arranged parts t =
-    choose (eqb t.target 0) (plainly (started t).decided (pass untargeted t (started t)))
-    (choose (eqb t.arrangement 0) (plainly (started t).decided (pass untargeted t (started t)))
-    (dynamic parts t (started t)))
+    choose (eqb t.target 0 || is_disabled t.arrangement) (plainly (started t).decided (pass untargeted t (started t)))
+    (dynamic parts t (started t))

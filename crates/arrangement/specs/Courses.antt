@@ -1,17 +1,18 @@
 -- The course of a table's widths. Assumes nothing.
-use Rattle.std.specs.Prelude.{ℕ, ◌<◌, ◌≡◌, true, false, not, length, get_or, eqb}
+use Rattle.std.specs.Prelude.{ℕ, ◌<◌, ◌≡◌, true, false, not, length, get_or}
 use Rattle.rules.specs.Sheet.{Table, column_at, is_hidden}
 use Rattle.rules.specs.Widths.{State, is_untargeted, is_undecided, start, longest_part, contents}
 use Rattle.rules.specs.Fixing.{after1, after2, after3}
-use Rattle.constraint.specs.Widths.{bit}
+use Rattle.constraint.specs.declared.column_set.ColumnSet.{ColumnSet}
+use Rattle.constraint.specs.Set.{contains}
 use Rattle.arrangement.specs.declared.dynamic.Course.{Course}
 use Rattle.arrangement.specs.declared.Found.{Found}
 use Rattle.arrangement.specs.Arrange.{arranged}
 use Rattle.arrangement.specs.Describes.{Describes}
 
 -- of the visible columns the set has exactly those that are decided
-abbrev pub Decided : Table → ℕ → State → Type 0
-Decided t set s = (j : ℕ) → j < length t.columns → is_hidden (column_at t j) ≡ false → eqb (bit set j) 1 ≡ not (is_undecided s j)
+abbrev pub Decided : Table → ColumnSet → State → Type 0
+Decided t set s = (j : ℕ) → j < length t.columns → is_hidden (column_at t j) ≡ false → contains set j ≡ not (is_undecided s j)
 
 -- the columns decided after each step, and the widths before and after step 4
 pub record CourseIs (t : Table) (c : Course) : Type 0 where

@@ -9,6 +9,7 @@ use constraint::Layout;
 use rules::{
     BOTTOM_BORDER, CONTENT_LINES, HEADER_LINES, HEADER_RULE, ROW_RULE, STYLE_CHARACTERS, TOP_BORDER,
 };
+use style::table::ContentArrangement;
 use style::table_style::{ContentLineStyle, LineStyle, TableStyle};
 use table::{longest, settings};
 
@@ -66,7 +67,7 @@ pub fn layout(sheet: &[u8]) -> Layout
     let style = style_from(settings::style(sheet));
     let longest = longest::longest(sheet);
     Layout {
-        arrangement: head.arrangement,
+        arrangement: ContentArrangement::from(head.arrangement),
         target: head.target,
         left: style.has_left_border(),
         right: style.has_right_border(),

@@ -14,11 +14,15 @@ ghost use Rattle.arrangement.specs.Describes.{Describes};
 ghost use Rattle.arrangement.specs.Widths.{marked, widths_from};
 ghost use Rattle.arrangement.specs.Courses.{FoundIs};
 
+use constraint::column_set::ColumnSet;
 use constraint::{Layout, State};
 use dynamic::Course;
 use rules::MOST_COLUMNS;
+use style::column;
+use style::table::ContentArrangement;
 
-// Content widths and hidden columns: the first `count` are the sheet's, past them they are 0 and not hidden.
+// Content widths and hidden columns: the first `count` are the sheet's, past them they are 0 and not hidden. The arrays are those of the C
+// interface's record.
 #[derive(Clone, Copy)]
 pub struct Widths {
     pub count: usize,
@@ -27,25 +31,24 @@ pub struct Widths {
 }
 
 // The first step for every column.
-fn start(t: Layout) -> State
-    requires { t.count ≤ most_columns }
-    ensures { result ≡ started t }
+fn start(t: &Layout) -> State
+    requires { t.now.count ≤ most_columns }
+    ensures { result ≡ started t.now }
 {
-    let n = t.count as usize;
-    let mut r = State {
+    let mut s = State {
         widths: [0u16; MOST_COLUMNS],
-        decided: 0,
+        decided: ColumnSet::EMPTY,
         remaining: 0,
-        visible: constraint::count_visible_columns(t),
+        visible: t.count_visible_columns(),
     };
-    for i in 0..n {
-        r = constraint::evaluate(t, i, r);
+    for i in 0..usize::from(t.count) {
+        t.evaluate(i, &mut s);
     }
-    r
+    s
 }
 
 // Without a target only the first step decides columns before the rest are fixed, and nothing is shared.
-fn untargeted(first: u16, state: State) -> Course
+fn untargeted(first: ColumnSet, state: State) -> Course
     ensures { result ≡ plainly first state }
 {
     let before = state.widths;
@@ -60,45 +63,40 @@ fn untargeted(first: u16, state: State) -> Course
 }
 
 // A target is made up only where there is one and the arrangement isn't `Disabled`.
-fn arrange(sheet: &[u8], t: Layout) -> Course
-    requires { IsAccepted sheet.now × Describes t (table_of sheet.now) }
-    ensures { result ≡ arranged (longest_part (table_of sheet.now)) t }
+fn arrange(sheet: &[u8], t: &Layout) -> Course
+    requires { IsAccepted sheet.now × Describes t.now (table_of sheet.now) }
+    ensures { result ≡ arranged (longest_part (table_of sheet.now)) t.now }
 {
-    let s = start(t);
-    if t.target == 0 {
-        return untargeted(s.decided, disabled::arrange(t, s));
-    }
-    if t.arrangement == 0 {
-        return untargeted(s.decided, disabled::arrange(t, s));
+    let mut s = start(t);
+    if t.target == 0 || t.arrangement == ContentArrangement::Disabled {
+        let first = s.decided;
+        disabled::arrange(t, &mut s);
+        return untargeted(first, s);
     }
     dynamic::arrange(sheet, t, s)
 }
 
 // Callers skip hidden columns without looking at constraints.
-fn hidden_columns(t: Layout) -> [bool; MOST_COLUMNS]
-    requires { t.count ≤ most_columns }
-    ensures { result ≡ marked t }
+fn hidden_columns(t: &Layout) -> [bool; MOST_COLUMNS]
+    requires { t.now.count ≤ most_columns }
+    ensures { result ≡ marked t.now }
 {
-    let n = t.count as usize;
     let mut flags = [false; MOST_COLUMNS];
-    for i in 0..n {
-        flags[i] = constraint::is_hidden(t.columns[i]);
+    for i in 0..usize::from(t.count) {
+        flags[i] = column::is_hidden(&t.columns[i]);
     }
     flags
 }
 
 // The content width of each column and whether it is hidden, once the widths are arranged.
-pub fn widths_of(t: Layout, c: Course) -> Widths
-    requires { t.count ≤ most_columns }
-    ensures { result ≡ widths_from t c }
+pub fn widths_of(t: &Layout, c: &Course) -> Widths
+    requires { t.now.count ≤ most_columns }
+    ensures { result ≡ widths_from t.now c.now }
 {
-    let state = c.state;
-    let content = state.widths;
-    let hidden = hidden_columns(t);
     Widths {
-        count: t.count as usize,
-        content,
-        hidden,
+        count: usize::from(t.count),
+        content: c.state.widths,
+        hidden: hidden_columns(t),
     }
 }
 
@@ -115,6 +113,6 @@ pub fn arrange_sheet(sheet: &[u8]) -> Found
     ensures { FoundIs (table_of sheet.now) result }
 {
     let layout = layout::layout(sheet);
-    let course = arrange(sheet, layout);
+    let course = arrange(sheet, &layout);
     Found { layout, course }
 }

@@ -9,7 +9,7 @@ use lib.Dec.{eqb}
 use lib.Pow.{shr-shr, shl_exact}
 use lib.Count.{ones, ones_step}
 use borrow.Author.Tests.{eqb-false}
-use Rattle.constraint.specs.Widths.{bit, set_width}
+use Rattle.constraint.specs.Set.{bit, set_width}
 
 absent_half : (s i : ℕ) → s / 2 ^ suc i % 2 ≡ 0 → s / 2 / 2 ^ i % 2 ≡ 0
 absent_half s i e = ap (λ (k : ℕ). k % 2) (shr-shr s 1 i ∙ ap (λ (k : ℕ). s / 2 ^ k) (one-add i)) ∙ e

@@ -1,155 +1,176 @@
--- One law for each way out of a function: its premises are what the code tested and what its callees ensure. Assumes nothing.
-use Prim.Native.Nat.{ℕ, ◌+◌, ◌-◌, ◌^◌, ◌≤◌, ◌<◌}
+-- What a column's constraint makes of its bounds and of the first step, and one law for each way out of a function. Assumes nothing.
+use Prim.Native.Nat.{ℕ, zero, suc, ◌+◌, ◌≤◌}
 use mathlib.Core.Path.{◌≡◌, refl, sym, ap, ◌∙◌}
-use mathlib.Core.Bool.{Bool, true, false}
+use mathlib.Core.Bool.{Bool, true, false, not}
 use mathlib.Core.Logic.{◌⊎◌, inl, inr}
-use mathlib.Core.Option.{none, some}
+use mathlib.Core.Option.{Option, none, some}
 use native.Mathlib.Omega.{arith}
-use lib.ListN.{set}
-use lib.Dec.{eqb, leb}
-use borrow.Author.Tests.{eqb-true, eqb-false, ne_eqb, le-leb, lt-leb}
-use Rattle.rules.specs.declared.Width.{Width}
+use native.Mathlib.Numerals.{add-one}
+use lib.ListN.{length, take}
+use borrow.Author.Tests.{ne_eqb}
+use Rattle.std.specs.Prelude as std
+use Rattle.std.specs.Prelude.{Some, None}
+use Rattle.std.specs.List.{count_by}
+use Rattle.std.proofs.lemmas.List.Sums.{count_by_more_yes, count_by_more_no}
 use Rattle.rules.specs.declared.Column.{Column}
+use Rattle.rules.specs.Sheet.{no_column, is_hidden}
+use Rattle.rules.specs.Widths.{lower_width, upper_width}
+use Rattle.style.specs.Column.{constraint_of}
+use Rattle.style.specs.declared.column.Width.{Width}
+use Rattle.style.specs.declared.column.ColumnConstraint.{ColumnConstraint}
+use Rattle.style.specs.declared.column.ColumnConstraint.TheVariants.{Hidden, ContentWidth, Absolute, LowerBoundary, UpperBoundary, Boundaries}
+use Rattle.style.proofs.Laws.{by_constraint}
 use Rattle.constraint.specs.declared.Layout.{Layout}
 use Rattle.constraint.specs.declared.State.{State}
-use Rattle.style.specs.declared.column.ContentWidth.{ContentWidth}
-use Rattle.style.specs.declared.column.ConstraintWidth.{ConstraintWidth}
-use Rattle.constraint.specs.declared.Bound.{Bound}
-use Rattle.constraint.specs.declared.Bound.TheVariants.{At}
-use Rattle.constraint.specs.declared.Offer.{Offer}
-use Rattle.constraint.specs.declared.Offer.TheVariants.{Take}
-use Rattle.constraint.specs.Widths.{choose, column, longest, borders, percent, bound, offered, value, valued, lower, upper, bit, fixed, taking}
-use Rattle.constraint.specs.Widths.{step, absolute, covered, first, hide, evaluated}
-use Rattle.constraint.proofs.Cases.{if-true, if_ne}
-use Rattle.rules.specs.Sheet.{padding, is_hidden}
-use Rattle.rules.specs.Widths.{lifted, lower_width, upper_width, covering}
-use Rattle.style.specs.Column.{content}
+use Rattle.constraint.specs.Set.{contains}
+use Rattle.constraint.specs.Widths.{column, longest, visible, counting, in_order, value, lower, upper, absolute, covered, first_of}
+use Rattle.constraint.specs.Widths.{choose, hide, taking, step, evaluated}
 
-pub between-set : (b : Bool) (v r : ℕ) → b ≡ true → r ≡ v - 1 → v < 65536 → (r ≡ choose b (v - 1) 0) × (r < 65536)
-between-set b v r e q h = (rw e q, omega arith)
+-- ---- by the constraint
 
-pub value-percent : (t : Layout) (v : ℕ) (w : Width) (r p : ℕ) → (w.unit ≡ 0 → ⊥) → (t.target ≡ 0 → ⊥) → r ≡ t.target - borders t v
-    → p ≡ percent r w.value → some p ≡ value t v w
-unfolding value
-value-percent t v w r p a b e q =
-    let k = ap some (q ∙ ap (λ (k : ℕ). percent k w.value) e) in
-    if_ne w.unit 0 (some w.value) _ (some p) a (if_ne t.target 0 none _ (some p) b k)
+module _ (t : Layout) (v : ℕ) where
+  abbrev lower_by : std.Option ColumnConstraint → Option ℕ
+  lower_by (Some (LowerBoundary w)) = value t v w
+  lower_by (Some (Boundaries w x)) = value t v w
+  lower_by (Some Hidden) = none
+  lower_by (Some ContentWidth) = none
+  lower_by (Some (Absolute w)) = none
+  lower_by (Some (UpperBoundary w)) = none
+  lower_by None = none
 
--- the widths of the two bounds, by the codes that the code tests
-lower-set : (c : Column) → (c.constraint ≡ 4) ⊎ (c.constraint ≡ 6) → some c.first ≡ lower_width c
-unfolding lower_width
-lower-set c (inl h) = rw h
-lower-set c (inr h) = rw h
+  abbrev upper_by : std.Option ColumnConstraint → Option ℕ
+  upper_by (Some (UpperBoundary w)) = value t v w
+  upper_by (Some (Boundaries x w)) = value t v w
+  upper_by (Some Hidden) = none
+  upper_by (Some ContentWidth) = none
+  upper_by (Some (Absolute w)) = none
+  upper_by (Some (LowerBoundary w)) = none
+  upper_by None = none
 
-lower_unset : (c : Column) → ((c.constraint ≡ 4) ⊎ (c.constraint ≡ 6) → ⊥) → none ≡ lower_width c
-unfolding lower_width
-lower_unset c h =
-    rw (ne_eqb c.constraint 4 (λ e. h (inl e)), lower_width) (rw (ne_eqb c.constraint 6 (λ e. h (inr e)), lower_width))
+  module _ (c : Column) where
+    lower_as : lower_by (constraint_of c) ≡ lower t v c
+    unfolding lower lower_width
+    lower_as =
+        by_constraint c (λ k. lower_by k ≡ lower t v c) (λ e. rw e) (λ e. rw e) (λ e. rw e) (λ e. rw e) (λ e. rw e) (λ e. rw e)
+        (λ n1 n2 n3 n4 n5 n6. rw (ne_eqb c.constraint 4 n4, ne_eqb c.constraint 6 n6, lower, lower_width))
 
-upper_5 : (c : Column) → c.constraint ≡ 5 → some (choose (eqb c.constraint 6) c.second c.first) ≡ upper_width c
-unfolding upper_width
-upper_5 c h = rw h
+    upper_as : upper_by (constraint_of c) ≡ upper t v c
+    unfolding upper upper_width
+    upper_as =
+        by_constraint c (λ k. upper_by k ≡ upper t v c) (λ e. rw e) (λ e. rw e) (λ e. rw e) (λ e. rw e) (λ e. rw e) (λ e. rw e)
+        (λ n1 n2 n3 n4 n5 n6. rw (ne_eqb c.constraint 5 n5, ne_eqb c.constraint 6 n6, upper, upper_width))
 
-upper_6 : (c : Column) → c.constraint ≡ 6 → some (choose (eqb c.constraint 6) c.second c.first) ≡ upper_width c
-unfolding upper_width
-upper_6 c h = rw h
+    module _ (k : std.Option ColumnConstraint) (e : k ≡ constraint_of c) where
+      pub lower-none : k ≡ None → none ≡ lower t v c
+      lower-none h = ap lower_by (sym h ∙ e) ∙ lower_as
 
-upper-set : (c : Column) → 5 ≤ c.constraint → c.constraint < 7 → some (choose (eqb c.constraint 6) c.second c.first) ≡ upper_width c
-upper-set c h k = go (eqb c.constraint 5) refl
+      pub upper-none : k ≡ None → none ≡ upper t v c
+      upper-none h = ap upper_by (sym h ∙ e) ∙ upper_as
+
+      module _ (x : ColumnConstraint) (h : k ≡ Some x) where
+        pub lower-at : (w : Width) (o : Option ℕ) → ((y : Width) × (x ≡ Boundaries w y)) ⊎ (x ≡ LowerBoundary w) → o ≡ value t v w → o ≡ lower t v c
+        lower-at w o (inr q) f = f ∙ ap lower_by (ap Some (sym q) ∙ sym h ∙ e) ∙ lower_as
+        lower-at w o (inl q) f = f ∙ ap lower_by (ap Some (sym q.1) ∙ sym h ∙ e) ∙ lower_as
+
+        pub upper-at : (w : Width) (o : Option ℕ) → ((y : Width) × (x ≡ Boundaries y w)) ⊎ (x ≡ UpperBoundary w) → o ≡ value t v w → o ≡ upper t v c
+        upper-at w o (inr q) f = f ∙ ap upper_by (ap Some (sym q) ∙ sym h ∙ e) ∙ upper_as
+        upper-at w o (inl q) f = f ∙ ap upper_by (ap Some (sym q.1) ∙ sym h ∙ e) ∙ upper_as
+
+        pub lower-not : ((w : Width) → x ≡ LowerBoundary w → ⊥) → ((w y : Width) → x ≡ Boundaries w y → ⊥) → none ≡ lower t v c
+        lower-not m n = go x m n ∙ ap lower_by (sym h ∙ e) ∙ lower_as
+          where
+            go : (x : ColumnConstraint) → ((w : Width) → x ≡ LowerBoundary w → ⊥) → ((w y : Width) → x ≡ Boundaries w y → ⊥) → none ≡ lower_by (Some x)
+            go (LowerBoundary w) m n = absurd (m w refl)
+            go (Boundaries w y) m n = absurd (n w y refl)
+            go Hidden m n = refl
+            go ContentWidth m n = refl
+            go (Absolute w) m n = refl
+            go (UpperBoundary w) m n = refl
+
+        pub upper-not : ((w : Width) → x ≡ UpperBoundary w → ⊥) → ((w y : Width) → x ≡ Boundaries w y → ⊥) → none ≡ upper t v c
+        upper-not m n = go x m n ∙ ap upper_by (sym h ∙ e) ∙ upper_as
+          where
+            go : (x : ColumnConstraint) → ((w : Width) → x ≡ UpperBoundary w → ⊥) → ((w y : Width) → x ≡ Boundaries w y → ⊥) → none ≡ upper_by (Some x)
+            go (UpperBoundary w) m n = absurd (m w refl)
+            go (Boundaries w y) m n = absurd (n w y refl)
+            go Hidden m n = refl
+            go ContentWidth m n = refl
+            go (Absolute w) m n = refl
+            go (LowerBoundary w) m n = refl
+
+module _ (t : Layout) (i v : ℕ) where
+  abbrev rest : Option ℕ
+  rest = covered (column t i) (longest t i) (lower t v (column t i))
+
+  abbrev first_by : std.Option ColumnConstraint → Option ℕ
+  first_by (Some ContentWidth) = some (longest t i)
+  first_by (Some (Absolute w)) = absolute (column t i) (value t v w)
+  first_by (Some Hidden) = rest
+  first_by (Some (LowerBoundary w)) = rest
+  first_by (Some (UpperBoundary w)) = rest
+  first_by (Some (Boundaries x w)) = rest
+  first_by None = rest
+
+  first_as : first_by (constraint_of (column t i)) ≡ first_of t i v
+  unfolding first_of
+  first_as =
+      let c = column t i in
+      by_constraint c (λ k. first_by k ≡ first_of t i v) (λ e. rw e) (λ e. rw e) (λ e. rw e) (λ e. rw e) (λ e. rw e) (λ e. rw e)
+      (λ n1 n2 n3 n4 n5 n6. rw (ne_eqb c.constraint 2 n2, ne_eqb c.constraint 3 n3, first_of))
+
+  module _ (k : std.Option ColumnConstraint) (e : k ≡ constraint_of (column t i)) where
+    pub first-none : k ≡ None → none ≡ first_of t i v
+    first-none h =
+        ap (covered (column t i) (longest t i)) (lower-none t v (column t i) k e h) ∙ ap first_by (sym h ∙ e) ∙ first_as
+
+    module _ (x : ColumnConstraint) (h : k ≡ Some x) where
+      pub first-content : x ≡ ContentWidth → some (longest t i) ≡ first_of t i v
+      first-content q = ap first_by (ap Some (sym q) ∙ sym h ∙ e) ∙ first_as
+
+      pub first-absolute : (w : Width) (b o : Option ℕ) → x ≡ Absolute w → b ≡ value t v w → o ≡ absolute (column t i) b → o ≡ first_of t i v
+      first-absolute w b o q f g = g ∙ ap (absolute (column t i)) f ∙ ap first_by (ap Some (sym q) ∙ sym h ∙ e) ∙ first_as
+
+      pub first-other : (b o : Option ℕ) → (x ≡ ContentWidth → ⊥) → ((w : Width) → x ≡ Absolute w → ⊥) → b ≡ lower t v (column t i)
+          → o ≡ covered (column t i) (longest t i) b → o ≡ first_of t i v
+      first-other b o m n f g = g ∙ ap (covered (column t i) (longest t i)) f ∙ go x m n ∙ ap first_by (sym h ∙ e) ∙ first_as
+        where
+          go : (x : ColumnConstraint) → (x ≡ ContentWidth → ⊥) → ((w : Width) → x ≡ Absolute w → ⊥) → rest ≡ first_by (Some x)
+          go ContentWidth m n = absurd (m refl)
+          go (Absolute w) m n = absurd (n w refl)
+          go Hidden m n = refl
+          go (LowerBoundary w) m n = refl
+          go (UpperBoundary w) m n = refl
+          go (Boundaries w y) m n = refl
+
+-- ---- the visible columns
+
+counted : (t : Layout) (n : ℕ) → n ≤ length t.columns → count_by (λ c. not (is_hidden c)) (take n t.columns) ≡ in_order (counting t) n 0
+unfolding in_order
+counted t zero h = refl
+counted t (suc n) h =
+    ap (λ (k : ℕ). count_by (λ c. not (is_hidden c)) (take k t.columns)) (sym (add-one n)) ∙ go (is_hidden (column t n)) refl (counted t n (omega arith))
   where
-    go : (b : Bool) → eqb c.constraint 5 ≡ b → some (choose (eqb c.constraint 6) c.second c.first) ≡ upper_width c
-    go true e = upper_5 c (eqb-true c.constraint 5 e)
-    go false e = let n = eqb-false c.constraint 5 e in upper_6 c (omega arith)
+    go : (b : Bool) → is_hidden (column t n) ≡ b → count_by (λ c. not (is_hidden c)) (take n t.columns) ≡ in_order (counting t) n 0
+        → count_by (λ c. not (is_hidden c)) (take (n + 1) t.columns) ≡ choose (is_hidden (column t n)) (in_order (counting t) n 0) (in_order (counting t) n 0 + 1)
+    go true e q = rw e (count_by_more_no (λ c. not (is_hidden c)) t.columns n no_column (omega arith) (ap not e) ∙ q)
+    go false e q =
+        rw e (count_by_more_yes (λ c. not (is_hidden c)) t.columns n no_column (omega arith) (ap not e) ∙ ap (λ (k : ℕ). k + 1) q)
 
-upper_unset : (c : Column) → (c.constraint < 5) ⊎ (7 ≤ c.constraint) → none ≡ upper_width c
-unfolding upper_width
-upper_unset c (inl h) = rw (ne_eqb c.constraint 5 (λ e. omega arith), upper_width) (rw (ne_eqb c.constraint 6 (λ e. omega arith)))
-upper_unset c (inr h) = rw (ne_eqb c.constraint 5 (λ e. omega arith), upper_width) (rw (ne_eqb c.constraint 6 (λ e. omega arith)))
+pub visible_counted : (t : Layout) → t.count ≤ length t.columns → count_by (λ c. not (is_hidden c)) (take t.count t.columns) ≡ visible t
+unfolding visible
+visible_counted t h = counted t t.count h
 
-module _ (t : Layout) (v : ℕ) (c : Column) where
-  pub lower-at : (b : Bound) → (c.constraint ≡ 4) ⊎ (c.constraint ≡ 6) → bound b ≡ value t v c.first → bound b ≡ lower t v c
-  unfolding lower
-  lower-at b h q = q ∙ ap (valued t v) (lower-set c h)
-
-  pub lower-none : ((c.constraint ≡ 4) ⊎ (c.constraint ≡ 6) → ⊥) → none ≡ lower t v c
-  unfolding lower
-  lower-none n = ap (valued t v) (lower_unset c n)
-
-  pub upper-at : (b : Bound) (w : Width) → 5 ≤ c.constraint → c.constraint < 7 → w ≡ choose (eqb c.constraint 6) c.second c.first
-      → bound b ≡ value t v w → bound b ≡ upper t v c
-  unfolding upper
-  upper-at b w l h e q = q ∙ ap (value t v) e ∙ ap (valued t v) (upper-set c l h)
-
-  pub upper-none : (c.constraint < 5) ⊎ (7 ≤ c.constraint) → none ≡ upper t v c
-  unfolding upper
-  upper-none h = ap (valued t v) (upper_unset c h)
-
-module _ (c : Column) (b : Bound) (w : ConstraintWidth) (e : b ≡ At w) where
-  pub absolute-at : (n : ContentWidth) → n ≡ content c w → some n.0 ≡ absolute c (bound b)
-  absolute-at n q = rw e (ap (λ (k : ContentWidth). some k.0) q)
-
-  pub covered-at : (n k : ContentWidth) (p : ℕ) → p ≡ padding c → n.0 + p ≤ w.0 → k ≡ content c w → some k.0 ≡ covered c n.0 (bound b)
-  unfolding covering
-  covered-at n k p z h q =
-      let f : leb (n.0 + padding c) w.0 ≡ true = le-leb (n.0 + padding c) w.0 (omega arith) in
-      rw (e, f, covering) (ap (λ (x : ContentWidth). some x.0) q)
-
-  pub covered-not : (n : ContentWidth) (p : ℕ) → p ≡ padding c → w.0 < n.0 + p → none ≡ covered c n.0 (bound b)
-  unfolding covering
-  covered-not n p z h =
-      let f : leb (n.0 + padding c) w.0 ≡ false = lt-leb (n.0 + padding c) w.0 (omega arith) in
-      rw (e, f, covering)
+-- ---- the first step
 
 module _ (t : Layout) (i : ℕ) (s : State) where
-  pub first-content : (column t i).constraint ≡ 2 → some (longest t i) ≡ first t i s
-  unfolding first
-  first-content e = sym (rw e)
-
-  pub first-absolute : (b : Bound) (o : Offer) → (column t i).constraint ≡ 3 → bound b ≡ value t s.visible (column t i).first
-      → offered o ≡ absolute (column t i) (bound b) → offered o ≡ first t i s
-  unfolding first
-  first-absolute b o e q p = rw e (p ∙ ap (absolute (column t i)) q)
-
-  pub first-other : (b : Bound) (o : Offer) → ((column t i).constraint ≡ 2 → ⊥) → ((column t i).constraint ≡ 3 → ⊥)
-      → bound b ≡ lower t s.visible (column t i) → offered o ≡ covered (column t i) (longest t i) (bound b) → offered o ≡ first t i s
-  unfolding first
-  first-other b o x y q p =
-      let k = p ∙ ap (covered (column t i) (longest t i)) q in
-      let absolute = absolute (column t i) (value t s.visible (column t i).first) in
-      if_ne (column t i).constraint 2 (some (longest t i)) _ (offered o) x
-      (if_ne (column t i).constraint 3 absolute _ (offered o) y k)
-
-pub fixed-at : (s : State) (i w n d r : ℕ) → n ≡ lifted w → d ≡ s.decided + 2 ^ i → r ≡ s.remaining - w
-    → ◌≡◌ {A = State} (record { widths = set s.widths i n; decided = d; remaining = r; visible = s.visible }) (fixed s i w)
-fixed-at s i w n d r a b e = cc
-
-pub hide-at : (t : Layout) (i : ℕ) (s : State) (n : ℕ) → n ≡ lifted (longest t i)
-    → ◌≡◌ {A = State} (record { widths = set s.widths i n; decided = s.decided; remaining = s.remaining; visible = s.visible }) (hide t i s)
-hide-at t i s n e = cc
-
-pub taking-at : (s : State) (i : ℕ) (o : Offer) (w : ContentWidth) (u : State) → o ≡ Take w → u ≡ fixed s i w.0 → u ≡ taking s i (offered o)
-taking-at s i o w u e q = rw e q
-
-pub counted-le : (b : Bool) (n r i : ℕ) → r ≡ choose b n (n + 1) → n ≤ i → r ≤ i + 1
-counted-le true n r i e h = omega arith
-counted-le false n r i e h = omega arith
-
-module _ (t : Layout) (i : ℕ) (s : State) (h : Bool) (p : h ≡ is_hidden (column t i)) where
-  pub evaluated_hidden : (u : State) → h ≡ true → u ≡ hide t i s → u ≡ evaluated t i s
+  pub evaluated_hidden : is_hidden (column t i) ≡ true → hide t i s ≡ evaluated t i s
   unfolding evaluated
-  evaluated_hidden u a q = if-true (is_hidden (column t i)) h _ _ u p a q
+  evaluated_hidden e = sym (rw e)
 
-  pub evaluated_in : (k : Bool) → h ≡ false → k ≡ eqb (bit s.decided i) 1 → k ≡ true → s ≡ evaluated t i s
+  pub evaluated_in : is_hidden (column t i) ≡ false → contains s.decided i ≡ true → s ≡ evaluated t i s
   unfolding evaluated step
-  evaluated_in k a e q =
-      let x : is_hidden (column t i) ≡ false = sym p ∙ a in
-      let y : eqb (bit s.decided i) 1 ≡ true = sym e ∙ q in
-      sym (rw (x, y))
+  evaluated_in e f = sym (rw (e, f))
 
-  pub evaluated_open : (k : Bool) (o : Offer) (u : State) → h ≡ false → k ≡ eqb (bit s.decided i) 1 → k ≡ false
-      → offered o ≡ first t i s → u ≡ taking s i (offered o) → u ≡ evaluated t i s
+  pub evaluated_open : is_hidden (column t i) ≡ false → contains s.decided i ≡ false → taking s i (first_of t i s.visible) ≡ evaluated t i s
   unfolding evaluated step
-  evaluated_open k o u a e q f g =
-      let x : is_hidden (column t i) ≡ false = sym p ∙ a in
-      let y : eqb (bit s.decided i) 1 ≡ false = sym e ∙ q in
-      g ∙ ap (taking s i) f ∙ sym (rw (x, y))
+  evaluated_open e f = sym (rw (e, f))

@@ -1,18 +1,19 @@
--- Laws of the definitions: content, percent, the loop over columns. Assumes nothing.
-use Prim.Native.Nat.{ℕ, suc, ◌+◌, ◌*◌, ◌/◌, ◌≤◌, ◌<◌, min}
+-- Laws of the definitions: the loop over columns, a step. Assumes nothing.
+use Prim.Native.Nat.{ℕ, suc, ◌+◌, ◌≤◌, ◌<◌}
 use mathlib.Core.Path.{◌≡◌, refl, sym, ap, ◌∙◌}
 use mathlib.Core.Bool.{Bool, true, false}
+use mathlib.Core.Option.{Option}
+use lib.ListN.{get_or, take}
+use lib.Seq.{get_or-take}
 use native.Mathlib.Omega.{arith}
 use native.Mathlib.Numerals.{add-one}
-use native.Mathlib.Nat.{mul-le-mul_left}
-use lib.Dec.{eqb}
 use Rattle.rules.specs.declared.Column.{Column}
 use Rattle.constraint.specs.declared.Layout.{Layout}
 use Rattle.constraint.specs.declared.State.{State}
-use Rattle.constraint.specs.declared.Offer.{Offer}
-use Rattle.constraint.specs.Widths.{choose, column, decided, bit, in_order, percent, offered, Rule, step, taking}
+use Rattle.constraint.specs.Set.{bit, contains}
+use Rattle.constraint.specs.Widths.{choose, column, decided, in_order, Rule, step, taking}
 use Rattle.constraint.proofs.Bits.{bit-zero}
-use Rattle.rules.specs.Sheet.{is_hidden}
+use Rattle.rules.specs.Sheet.{no_column, is_hidden}
 
 -- the invariant of a loop over columns, of which there are m: x is what comes after i of them
 pub record Walk {A : Type 0} (f : ℕ → A → A) (x₀ : A) (m n i : ℕ) (x : A) : Type 0 where
@@ -37,38 +38,31 @@ module _ {A : Type 0} (f : ℕ → A → A) (x₀ : A) (m n : ℕ) where
         let e : i ≡ m = omega (arith, w.within, w.counted) in
         w.so ∙ ap (λ (k : ℕ). in_order f k x₀) e
 
-pub percent-all : (room p : ℕ) → 100 ≤ p → room ≡ percent room p
-percent-all room p h =
-    let e : min p 100 ≡ 100 = omega arith in
-    rw e (omega arith)
-
-pub percent-part : (room p : ℕ) → p < 100 → room * p / 100 ≡ percent room p
-percent-part room p h =
-    let e : min p 100 ≡ p = omega arith in
-    rw e
-
-pub percent_fits : (room p : ℕ) → p ≤ 100 → room * p ≤ room * 100
-percent_fits room p h = mul-le-mul_left room h
+-- a column of those that there are
+pub column-taken : (t : Layout) (n i : ℕ) → i < n → get_or (take n t.columns) i no_column ≡ column t i
+column-taken t n i h = get_or-take n t.columns i no_column h
 
 -- an undecided column is not in the set
 module _ (c : Column) (i : ℕ) (s : State) where
-  open_go : (b : Bool) → choose b true (eqb (bit s.decided i) 1) ≡ false → bit s.decided i ≡ 0
-  open_go true h = let z : ◌≡◌ {A = ℕ} 0 1 = cc in omega arith
-  open_go false h = bit-zero s.decided i h
+  open_go : (b : Bool) → choose b true (contains s.decided i) ≡ false → contains s.decided i ≡ false
+  open_go true h = let z : ◌≡◌ {A = ℕ} 0 1 = cc in absurd (omega arith)
+  open_go false h = h
 
-  pub open-bit : decided c i s ≡ false → bit s.decided i ≡ 0
-  open-bit h = open_go (is_hidden c) h
+  pub open_by : (r : Bool) → r ≡ decided c i s → r ≡ false → contains s.decided i ≡ false
+  open_by r e h = open_go (is_hidden c) (sym e ∙ h)
 
-  pub open_by : (r : Bool) → r ≡ decided c i s → r ≡ false → bit s.decided i ≡ 0
-  open_by r e h = open-bit (sym e ∙ h)
+  pub open-bit : decided c i s ≡ false → bit s.decided.0 i ≡ 0
+  open-bit h = bit-zero s.decided.0 i (open_go (is_hidden c) h)
 
 -- a step's two ways out
-module _ (t : Layout) (i : ℕ) (s : State) where
-  pub step-decided : (rule : Rule) (r : Bool) → r ≡ decided (column t i) i s → r ≡ true → s ≡ step rule t i s
-  unfolding step
-  step-decided rule r e h = let q : decided (column t i) i s ≡ true = sym e ∙ h in rw q
+module _ (t : Layout) (i : ℕ) (s : State) (rule : Rule) (c : Column) (f : c ≡ column t i) (r : Bool) (e : r ≡ decided c i s) where
+  told : r ≡ decided (column t i) i s
+  told = e ∙ ap (λ (k : Column). decided k i s) f
 
-  pub step_open : (rule : Rule) (r : Bool) (o : Offer) (u : State) → r ≡ decided (column t i) i s → r ≡ false
-      → offered o ≡ rule t i s → u ≡ taking s i (offered o) → u ≡ step rule t i s
+  pub step-decided : r ≡ true → s ≡ step rule t i s
   unfolding step
-  step_open rule r o u e h p q = let z : decided (column t i) i s ≡ false = sym e ∙ h in q ∙ ap (taking s i) p ∙ sym (rw z)
+  step-decided h = let q : decided (column t i) i s ≡ true = sym told ∙ h in rw q
+
+  pub step_open : (o : Option ℕ) (u : State) → r ≡ false → o ≡ rule t i s → u ≡ taking s i o → u ≡ step rule t i s
+  unfolding step
+  step_open o u h p q = let z : decided (column t i) i s ≡ false = sym told ∙ h in q ∙ ap (taking s i) p ∙ sym (rw z)

@@ -1,17 +1,19 @@
 -- Widths: padding, borders, percent, bounds, the average, and fixing a column. Assumes nothing.
-use Rattle.std.specs.Prelude.{ℕ, zero, suc, ◌+◌, ◌-◌, ◌*◌, ◌/◌, ◌%◌, ◌^◌, min, Bool, true, false, get_or, set, eqb}
+use Rattle.std.specs.Prelude.{ℕ, zero, suc, ◌+◌, ◌-◌, ◌*◌, ◌/◌, min, Bool, true, false, Some, None, get_or, set, eqb}
+use Rattle.std.specs.Prelude as std
 use Rattle.std.proofs.Math.Option.{Option, none, some}
-use Rattle.std.specs.Int.Count.{ones}
-use Rattle.rules.specs.declared.Width.{Width}
+use Rattle.rules.specs.declared.Width as sheet
 use Rattle.rules.specs.declared.Column.{Column}
 use Rattle.rules.specs.Sheet.{no_column, is_hidden}
 use Rattle.rules.specs.Widths.{lifted, content_of, lower_width, upper_width, covering}
 use Rattle.constraint.specs.declared.Layout.{Layout}
 use Rattle.constraint.specs.declared.State.{State}
-use Rattle.constraint.specs.declared.Bound.{Bound}
-use Rattle.constraint.specs.declared.Bound.TheVariants.{Unset, At}
-use Rattle.constraint.specs.declared.Offer.{Offer}
-use Rattle.constraint.specs.declared.Offer.TheVariants.{Keep, Take}
+use Rattle.constraint.specs.Set.{contains, insert, len}
+use Rattle.style.specs.declared.column.ConstraintWidth.{ConstraintWidth}
+use Rattle.style.specs.declared.column.ContentWidth.{ContentWidth}
+use Rattle.style.specs.declared.column.Width.{Width}
+use Rattle.style.specs.declared.column.Width.TheVariants.{Fixed, Percentage}
+use Rattle.style.specs.Column.{width_of}
 
 abbrev pub choose : {A : Type 0} → Bool → A → A → A
 choose true a b = a
@@ -45,26 +47,25 @@ borders t v = choose t.left 1 0 + choose t.right 1 0 + choose t.junction (v - 1)
 abbrev pub percent : ℕ → ℕ → ℕ
 percent room p = room * min p 100 / 100
 
--- `Bound`, case by case: no width, or a constraint width
-abbrev pub bound : Bound → Option ℕ
-bound Unset = none
-bound (At w) = some w.0
+-- a bound, case by case: no width, or a constraint width
+abbrev pub bound : std.Option ConstraintWidth → Option ℕ
+bound None = none
+bound (Some w) = some w.0
 
--- `Offer`, case by case: no width, or a content width
-abbrev pub offered : Offer → Option ℕ
-offered Keep = none
-offered (Take w) = some w.0
+-- an offer, case by case: no width, or a content width
+abbrev pub offered : std.Option ContentWidth → Option ℕ
+offered None = none
+offered (Some w) = some w.0
 
 -- a width's value; a percent without a target has none
-unfoldable pub value : Layout → ℕ → Width → Option ℕ
-value t v w =
-    choose (eqb w.unit 0) (some w.value)
-    (choose (eqb t.target 0) none (some (percent (t.target - borders t v) w.value)))
+abbrev pub value : Layout → ℕ → Width → Option ℕ
+value t v (Fixed n) = some n
+value t v (Percentage p) = choose (eqb t.target 0) none (some (percent (t.target - borders t v) p))
 
 -- the value of the width that a constraint has for a purpose, if it has one
-abbrev pub valued : Layout → ℕ → Option Width → Option ℕ
+abbrev pub valued : Layout → ℕ → Option sheet.Width → Option ℕ
 valued t v none = none
-valued t v (some w) = value t v w
+valued t v (some w) = value t v (width_of w)
 
 -- the bounds of a column's constraint
 unfoldable pub lower : Layout → ℕ → Column → Option ℕ
@@ -73,25 +74,22 @@ lower t v c = valued t v (lower_width c)
 unfoldable pub upper : Layout → ℕ → Column → Option ℕ
 upper t v c = valued t v (upper_width c)
 
+-- how many visible columns aren't in the set of decided ones
+abbrev pub undecided : State → ℕ
+undecided s = s.visible - len s.decided
+
 -- what is left for each undecided column; 0 if there is none
 abbrev pub average : State → ℕ
-average s = s.remaining / (s.visible - ones s.decided)
-
--- the set of decided visible columns is a 16-bit number, which has a bit for each column
-abbrev pub set_width : ℕ
-set_width = 16
-
-abbrev pub bit : ℕ → ℕ → ℕ
-bit s i = s / 2 ^ i % 2
+average s = s.remaining / undecided s
 
 -- a column, which has number i, is hidden or its width is found
 abbrev pub decided : Column → ℕ → State → Bool
-decided c i s = choose (is_hidden c) true (eqb (bit s.decided i) 1)
+decided c i s = choose (is_hidden c) true (contains s.decided i)
 
 -- column i is fixed: the width offered is taken off what remains, before 0 becomes 1
 abbrev pub fixed : State → ℕ → ℕ → State
 fixed s i w =
-    record { widths = set s.widths i (lifted w); decided = s.decided + 2 ^ i; remaining = s.remaining - w; visible = s.visible }
+    record { widths = set s.widths i (lifted w); decided = insert s.decided i; remaining = s.remaining - w; visible = s.visible }
 
 abbrev pub taking : State → ℕ → Option ℕ → State
 taking s i none = s
@@ -119,12 +117,15 @@ abbrev pub covered : Column → ℕ → Option ℕ → Option ℕ
 covered c n none = none
 covered c n (some w) = covering c n w
 
--- 2 `ContentWidth` takes the longest, 3 is `Absolute`
-unfoldable pub first : Rule
-first t i s =
+-- 2 `ContentWidth` takes the longest, 3 is `Absolute`; v is the number of visible columns
+unfoldable pub first_of : Layout → ℕ → ℕ → Option ℕ
+first_of t i v =
     choose (eqb (column t i).constraint 2) (some (longest t i))
-    (choose (eqb (column t i).constraint 3) (absolute (column t i) (value t s.visible (column t i).first))
-    (covered (column t i) (longest t i) (lower t s.visible (column t i))))
+    (choose (eqb (column t i).constraint 3) (absolute (column t i) (value t v (width_of (column t i).first)))
+    (covered (column t i) (longest t i) (lower t v (column t i))))
+
+abbrev pub first : Rule
+first t i s = first_of t i s.visible
 
 -- a hidden column's width is its longest; it is not in the set
 abbrev pub hide : Layout → ℕ → State → State

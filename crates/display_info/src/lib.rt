@@ -26,6 +26,7 @@ use rules::{
     BOTTOM_BORDER, CONTENT_LINES, Column, HEADER_LINES, HEADER_RULE, MOST_COLUMNS, ROW_RULE,
     STYLE_CHARACTERS, TOP_BORDER,
 };
+use style::column;
 use style::table_style::TableStyle;
 use table::records::{Indicator, Rows};
 use table::{settings, walk};
@@ -171,7 +172,7 @@ fn show_column(
     requires { count < most_columns }
     ensures { view_of columns.new result ≡ showing (view_of columns.old count) j c width delimiter }
 {
-    if constraint::is_hidden(c) {
+    if column::is_hidden(&c) {
         return count;
     }
     let v = VisibleColumn {
@@ -213,9 +214,7 @@ pub fn content_widths(sheet: &[u8]) -> Widths
     ensures { result ≡ arranged_widths (table_of sheet.now) }
 {
     let found = arrangement::arrange_sheet(sheet);
-    let layout = found.layout;
-    let course = found.course;
-    arrangement::widths_of(layout, course)
+    arrangement::widths_of(&found.layout, &found.course)
 }
 
 // The page over all rows of the sheet, by its widths; it may be called plain if the check found it so.

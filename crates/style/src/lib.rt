@@ -2,4 +2,5 @@
 #![tactic(auto)]
 
 pub mod column;
+pub mod table;
 pub mod table_style;

@@ -32,35 +32,6 @@ pub struct TableStyle {
     pub bottom_border: LineStyle,
 }
 
-// One of four characters is set.
-fn any_of_four(a: u8, b: u8, c: u8, d: u8) -> bool
-    ensures { result ≡ (is_set a || is_set b || is_set c || is_set d) }
-{
-    if a != 0 {
-        return true;
-    }
-    if b != 0 {
-        return true;
-    }
-    if c != 0 {
-        return true;
-    }
-    d != 0
-}
-
-// One of six characters is set: a style has six that stand at the same edge.
-fn any_of_six(a: u8, b: u8, c: u8, d: u8, e: u8, f: u8) -> bool
-    ensures { result ≡ (is_set a || is_set b || is_set c || is_set d || is_set e || is_set f) }
-{
-    if any_of_four(a, b, c, d) {
-        return true;
-    }
-    if e != 0 {
-        return true;
-    }
-    f != 0
-}
-
 impl LineStyle {
     pub const NONE: LineStyle = LineStyle {
         left: 0,
@@ -70,10 +41,12 @@ impl LineStyle {
     };
 
     // A line that has no character set isn't drawn.
-    pub fn is_visible(self) -> bool
-        ensures { result ≡ is_visible (line_bytes self) 0 }
+    pub fn is_visible(&self) -> bool
+        ensures { result ≡ is_visible (line_bytes self.now) 0 }
     {
-        any_of_four(self.left, self.fill, self.junction, self.right)
+        [self.left, self.fill, self.junction, self.right]
+            .iter()
+            .any(|c| *c != 0)
     }
 }
 
@@ -147,73 +120,75 @@ impl TableStyle {
         TableStyle::BARE
     }
 
-    pub fn has_top_border(self) -> bool
-        ensures { result ≡ is_visible (bytes_of self) top_border }
+    pub fn has_top_border(&self) -> bool
+        ensures { result ≡ is_visible (bytes_of self.now) top_border }
     {
-        let line = self.top_border;
-        line.is_visible()
+        self.top_border.is_visible()
     }
 
-    pub fn has_bottom_border(self) -> bool
-        ensures { result ≡ is_visible (bytes_of self) bottom_border }
+    pub fn has_bottom_border(&self) -> bool
+        ensures { result ≡ is_visible (bytes_of self.now) bottom_border }
     {
-        let line = self.bottom_border;
-        line.is_visible()
+        self.bottom_border.is_visible()
     }
 
-    pub fn has_header_separator(self) -> bool
-        ensures { result ≡ is_visible (bytes_of self) header_rule }
+    pub fn has_header_separator(&self) -> bool
+        ensures { result ≡ is_visible (bytes_of self.now) header_rule }
     {
-        let line = self.header_separator;
-        line.is_visible()
+        self.header_separator.is_visible()
     }
 
-    pub fn has_row_separator(self) -> bool
-        ensures { result ≡ is_visible (bytes_of self) row_rule }
+    pub fn has_row_separator(&self) -> bool
+        ensures { result ≡ is_visible (bytes_of self.now) row_rule }
     {
-        let line = self.row_separator;
-        line.is_visible()
+        self.row_separator.is_visible()
     }
 
     // The left border is drawn as soon as any `left` is set.
-    pub fn has_left_border(self) -> bool
-        ensures { result ≡ any_left (bytes_of self) }
+    pub fn has_left_border(&self) -> bool
+        ensures { result ≡ any_left (bytes_of self.now) }
     {
-        any_of_six(
+        [
             self.top_border.left,
             self.header_lines.left,
             self.header_separator.left,
             self.content_lines.left,
             self.row_separator.left,
             self.bottom_border.left,
-        )
+        ]
+        .iter()
+        .any(|c| *c != 0)
     }
 
     // The right border is drawn as soon as any `right` is set.
-    pub fn has_right_border(self) -> bool
-        ensures { result ≡ any_right (bytes_of self) }
+    pub fn has_right_border(&self) -> bool
+        ensures { result ≡ any_right (bytes_of self.now) }
     {
-        any_of_six(
+        [
             self.top_border.right,
             self.header_lines.right,
             self.header_separator.right,
             self.content_lines.right,
             self.row_separator.right,
             self.bottom_border.right,
-        )
+        ]
+        .iter()
+        .any(|c| *c != 0)
     }
 
     // Vertical lines are drawn as soon as any `junction` is set.
-    pub fn has_vertical_lines(self) -> bool
-        ensures { result ≡ any_junction (bytes_of self) }
+    pub fn has_vertical_lines(&self) -> bool
+        ensures { result ≡ any_junction (bytes_of self.now) }
     {
-        any_of_six(
+        [
             self.top_border.junction,
             self.header_lines.junction,
             self.header_separator.junction,
             self.content_lines.junction,
             self.row_separator.junction,
             self.bottom_border.junction,
-        )
+        ]
+        .iter()
+        .any(|c| *c != 0)
     }
 }

@@ -18,8 +18,11 @@ use Rattle.rules.specs.Widths.{is_undecided, is_untargeted, below_longest, at_up
 use Rattle.rules.specs.Fixing.{after1, after2, after3}
 use Rattle.rules.specs.Reasons.{step_number, untargeted_step, fitted_step, targeted_step, step_of, is_widened, step_numbers, widened_columns}
 use Rattle.laws.proofs.Explained.{explained}
+use Rattle.style.specs.Table.{is_disabled}
+use Rattle.style.proofs.Laws.{disabled_as}
 use Rattle.constraint.specs.declared.Layout.{Layout}
-use Rattle.constraint.specs.Widths.{choose, column, longest, visible, upper, bit}
+use Rattle.constraint.specs.Set.{contains}
+use Rattle.constraint.specs.Widths.{choose, column, longest, visible, upper}
 use Rattle.arrangement.specs.declared.Widths.{Widths}
 use Rattle.arrangement.specs.declared.dynamic.Course.{Course}
 use Rattle.arrangement.specs.Arrange.{arranged}
@@ -79,11 +82,9 @@ fitted-step t j = go (doc.upper t (column_at t j))
 abbrev pick : {A : Type 0} → Bool → A → A → A
 pick {A} x p q = elim x as (λ y. A) [ true ↦ p | false ↦ q ]
 
--- two tests in the code, one in the definitions
-two_tests : {A : Type 0} (x b : Bool) (p q : A) → choose x p (choose b p q) ≡ pick (x || b) p q
-two_tests true b p q = refl
-two_tests false true p q = refl
-two_tests false false p q = refl
+chosen : {A : Type 0} (x : Bool) (p q : A) → choose x p q ≡ pick x p q
+chosen true p q = refl
+chosen false p q = refl
 
 -- decided, or not
 decided-or : {A : Type 0} (u : Bool) (p q r : A) → q ≡ r → choose (not u) p q ≡ pick u r p
@@ -116,11 +117,11 @@ module _ (l : Layout) (t : Table) (d : Describes l t) (a : Course) (c : CourseIs
     by-target true e = refl
     by-target false e = targeted_named e
 
-    tests : choose (eqb l.target 0) (untargeted_step t j) (choose (eqb l.arrangement 0) (untargeted_step t j) (targeted_by l a j))
+    tests : choose (eqb l.target 0 || is_disabled l.arrangement) (untargeted_step t j) (targeted_by l a j)
         ≡ pick (is_untargeted t) (untargeted_step t j) (targeted_step t j)
     tests =
-        let e : eqb l.target 0 || eqb l.arrangement 0 ≡ is_untargeted t = rw (d.target, d.arrangement) in
-        two_tests (eqb l.target 0) (eqb l.arrangement 0) (untargeted_step t j) (targeted_by l a j)
+        let e : eqb l.target 0 || is_disabled l.arrangement ≡ is_untargeted t = rw (d.target, d.arrangement, disabled_as t.arrangement) in
+        chosen (eqb l.target 0 || is_disabled l.arrangement) (untargeted_step t j) (targeted_by l a j)
         ∙ ap (λ (x : Bool). pick x (untargeted_step t j) (targeted_by l a j)) e ∙ by-target (is_untargeted t) refl
 
     shown_named : step_by l a j ≡ step_of t j
@@ -133,7 +134,7 @@ module _ (l : Layout) (t : Table) (d : Describes l t) (a : Course) (c : CourseIs
     unfolding widened_by is_widened
     at_split u true e f =
         let z = c.unshared f in
-        rw (hidden_as l t d j k, v, f, z, is_widened) (go (eqb (bit a.split j) 1))
+        rw (hidden_as l t d j k, v, f, z, is_widened) (go (contains a.split j))
       where
         go : (x : Bool) → choose x (ltb (get_or a.state.widths j 0) (get_or a.state.widths j 0)) false ≡ false
         go true = le-ltb (get_or a.state.widths j 0) (get_or a.state.widths j 0) (omega arith)

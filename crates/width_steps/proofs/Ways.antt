@@ -1,47 +1,26 @@
 -- One law for each way out of the functions that name a step. Assumes nothing.
-use Prim.Native.Nat.{ℕ, ◌+◌, ◌≤◌, ◌<◌}
+use Prim.Native.Nat.{ℕ}
 use mathlib.Core.Path.{◌≡◌, ap, ◌∙◌}
 use mathlib.Core.List.{List}
 use mathlib.Core.Bool.{Bool}
-use native.Mathlib.Omega.{arith}
+use mathlib.Core.Option.{Option}
 use lib.ListN.{set}
-use borrow.Author.Tests.{le-leb, lt-leb, lt-ltb, le-ltb}
-use Rattle.rules.specs.declared.Column.{Column}
 use Rattle.rules.specs.declared.WidthStep.{WidthStep}
-use Rattle.rules.specs.declared.WidthStep.TheVariants.{LongestWithinAverage, UpperBound, UntargetedLongest, UntargetedUpper}
-use Rattle.rules.specs.Sheet.{padding}
 use Rattle.rules.specs.Reasons.{step_number}
 use Rattle.constraint.specs.declared.Layout.{Layout}
-use Rattle.constraint.specs.declared.Bound.{Bound}
-use Rattle.constraint.specs.declared.Bound.TheVariants.{At}
-use Rattle.constraint.specs.Widths.{bound, column, longest, upper, visible}
-use Rattle.style.specs.declared.column.ConstraintWidth.{ConstraintWidth}
+use Rattle.constraint.specs.Widths.{column, longest, upper, visible}
 use Rattle.arrangement.specs.declared.dynamic.Course.{Course}
 use Rattle.width_steps.specs.Steps.{untargeted_by, fitted_by, step_by, naming, widened_by, widening}
 
-module _ (b : Bound) (w : ConstraintWidth) (e : b ≡ At w) (n : ℕ) where
-  pub untargeted_below : w.0 < n → UntargetedUpper ≡ untargeted_by n (bound b)
-  untargeted_below h = rw (e, lt-ltb w.0 n h)
-
-  pub untargeted_above : n ≤ w.0 → UntargetedLongest ≡ untargeted_by n (bound b)
-  untargeted_above h = rw (e, le-ltb w.0 n h)
-
-  module _ (c : Column) (p : ℕ) (z : p ≡ padding c) where
-    pub fitted_loose : n + p < w.0 → LongestWithinAverage ≡ fitted_by c n (bound b)
-    fitted_loose h = rw (e, lt-leb w.0 (n + padding c) (omega arith))
-
-    pub fitted_reached : w.0 ≤ n + p → UpperBound ≡ fitted_by c n (bound b)
-    fitted_reached h = rw (e, le-leb w.0 (n + padding c) (omega arith))
-
 -- the upper bound that is asked for
-module _ (t : Layout) (i v : ℕ) (b : Bound) (r : WidthStep) (e : v ≡ visible t) (f : bound b ≡ upper t v (column t i)) where
-  same : bound b ≡ upper t (visible t) (column t i)
+module _ (t : Layout) (i v : ℕ) (b : Option ℕ) (r : WidthStep) (e : v ≡ visible t) (f : b ≡ upper t v (column t i)) where
+  same : b ≡ upper t (visible t) (column t i)
   same = f ∙ ap (λ (x : ℕ). upper t x (column t i)) e
 
-  pub untargeted-here : r ≡ untargeted_by (longest t i) (bound b) → r ≡ untargeted_by (longest t i) (upper t (visible t) (column t i))
+  pub untargeted-here : r ≡ untargeted_by (longest t i) b → r ≡ untargeted_by (longest t i) (upper t (visible t) (column t i))
   untargeted-here g = g ∙ ap (untargeted_by (longest t i)) same
 
-  pub fitted-here : r ≡ fitted_by (column t i) (longest t i) (bound b) → r ≡ fitted_by (column t i) (longest t i) (upper t (visible t) (column t i))
+  pub fitted-here : r ≡ fitted_by (column t i) (longest t i) b → r ≡ fitted_by (column t i) (longest t i) (upper t (visible t) (column t i))
   fitted-here g = g ∙ ap (fitted_by (column t i) (longest t i)) same
 
 -- a column's number, and whether it was widened

@@ -1,5 +1,5 @@
 -- The step of a column by the course of the widths, and the report. Assumes nothing.
-use Rattle.std.specs.Prelude.{ℕ, ◌+◌, List, Bool, false, get_or, set, replicate, eqb, leb, ltb}
+use Rattle.std.specs.Prelude.{ℕ, ◌+◌, List, Bool, false, ◌||◌, get_or, set, replicate, eqb, leb, ltb}
 use Rattle.std.proofs.Math.Option.{Option, none, some}
 use Rattle.rules.specs.declared.Column.{Column}
 use Rattle.rules.specs.declared.WidthStep.{WidthStep}
@@ -8,8 +8,10 @@ use Rattle.rules.specs.declared.WidthStep.TheVariants.{UntargetedLongest, Untarg
 use Rattle.rules.specs.Sheet.{Table, most_columns, padding, is_hidden}
 use Rattle.rules.specs.Calls.{as_array}
 use Rattle.rules.specs.Reasons.{step_number, step_numbers, widened_columns}
+use Rattle.style.specs.Table.{is_disabled}
 use Rattle.constraint.specs.declared.Layout.{Layout}
-use Rattle.constraint.specs.Widths.{choose, in_order, column, longest, visible, upper, bit}
+use Rattle.constraint.specs.Set.{contains}
+use Rattle.constraint.specs.Widths.{choose, in_order, column, longest, visible, upper}
 use Rattle.arrangement.specs.declared.dynamic.Course.{Course}
 use Rattle.arrangement.specs.Widths.{arranged_widths}
 use Rattle.width_steps.specs.declared.Report.{Report}
@@ -25,17 +27,16 @@ fitted_by c n b = elim b [ some w ↦ choose (leb w (n + padding c)) UpperBound 
 -- the first of steps 1 to 3 after which the column is decided, or step 4
 unfoldable pub targeted_by : Layout → Course → ℕ → WidthStep
 targeted_by t a i =
-    choose (eqb (bit a.lower i) 1) LowerBound
-    (choose (eqb (bit a.fitted i) 1) (fitted_by (column t i) (longest t i) (upper t (visible t) (column t i)))
-    (choose (eqb (bit a.split i) 1) SplitPart EvenShare))
+    choose (contains a.lower i) LowerBound
+    (choose (contains a.fitted i) (fitted_by (column t i) (longest t i) (upper t (visible t) (column t i)))
+    (choose (contains a.split i) SplitPart EvenShare))
 
 unfoldable pub step_by : Layout → Course → ℕ → WidthStep
 step_by t a i =
     choose (is_hidden (column t i)) NoStep
-    (choose (eqb (bit a.first i) 1) FirstConstraint
-    (choose (eqb t.target 0) (untargeted_by (longest t i) (upper t (visible t) (column t i)))
-    (choose (eqb t.arrangement 0) (untargeted_by (longest t i) (upper t (visible t) (column t i)))
-    (targeted_by t a i))))
+    (choose (contains a.first i) FirstConstraint
+    (choose (eqb t.target 0 || is_disabled t.arrangement) (untargeted_by (longest t i) (upper t (visible t) (column t i)))
+    (targeted_by t a i)))
 
 abbrev pub naming : Layout → Course → ℕ → List ℕ → List ℕ
 naming t a i xs = set xs i (step_number (step_by t a i))
@@ -47,7 +48,7 @@ steps_by t a = in_order (naming t a) t.count (replicate most_columns 0)
 unfoldable pub widened_by : Layout → Course → ℕ → Bool
 widened_by t a i =
     choose (is_hidden (column t i)) false
-    (choose (eqb (bit a.split i) 1) (ltb (get_or a.before i 0) (get_or a.state.widths i 0)) false)
+    (choose (contains a.split i) (ltb (get_or a.before i 0) (get_or a.state.widths i 0)) false)
 
 abbrev pub widening : Layout → Course → ℕ → List Bool → List Bool
 widening t a i xs = set xs i (widened_by t a i)

@@ -8,4 +8,4 @@ pub returns-then-line-longest : goal.returns-then-line-longest
 returns-then-line-longest c = omega (arith, c.if-line-longest.true, line_bytes c.args.average c.args.delimiter c.args.line.now)
 
 pub returns : goal.returns
-returns c = c.greater.ensures ∙ ap (max _) c.longest_part_of_line.ensures
+returns c = c.max.ensures ∙ ap (max _) c.longest_part_of_line.ensures

@@ -1,3 +1,4 @@
+use mathlib.Core.Path.{◌∙◌}
 use native.Mathlib.Omega.{arith}
 use Rattle.after_split.proofs.Knowns.{cell_known}
 use Rattle.after_split.proofs.Tries.{row_short, row_enough, row_there}
@@ -15,14 +16,14 @@ cell-cell-requires c = (omega arith, omega (arith, c.skip_cells-c.ensures.ends, 
 pub longest_part_of_lines-longest-requires : goal.longest_part_of_lines-longest-requires
 longest_part_of_lines-longest-requires c =
     let cell = c.cell-cell.ensures in
-    cell_known _ _ _ _ _ _ _ c.skip_cells-c.ensures c.if-c-eq0.false cell c.or_else.ensures c.requires
+    cell_known _ _ _ _ _ _ _ c.skip_cells-c.ensures c.if-c-eq0.false cell (c.unwrap_or.ensures ∙ c.set.ensures _) c.requires
 
 pub returns-then-saves_too_little : goal.returns-then-saves_too_little
 returns-then-saves_too_little c =
     let skipped = c.skip_cells-c.ensures in
     let cell = c.cell-cell.ensures in
     let found = c.longest_part_of_lines-longest.ensures in
-    row_enough _ _ _ _ _ _ _ skipped _ _ _ c.if-c-eq0.false cell c.or_else.ensures found _ c.saves_too_little.ensures _ c.if-saves_too_little.true
+    row_enough _ _ _ _ _ _ _ skipped _ _ _ c.if-c-eq0.false cell (c.unwrap_or.ensures ∙ c.set.ensures _) found _ c.saves_too_little.ensures _ c.if-saves_too_little.true
 
 pub skip_cells-last-requires : goal.skip_cells-last-requires
 skip_cells-last-requires c = omega (arith, c.skip_cells-c.ensures.ends, c.requires.inside)
@@ -32,4 +33,4 @@ returns c =
     let skipped = c.skip_cells-c.ensures in
     let cell = c.cell-cell.ensures in
     let found = c.longest_part_of_lines-longest.ensures in
-    row_there _ _ _ _ _ _ _ skipped _ _ _ c.if-c-eq0.false cell c.or_else.ensures found _ c.saves_too_little.ensures _ c.skip_cells-last.ensures
+    row_there _ _ _ _ _ _ _ skipped _ _ _ c.if-c-eq0.false cell (c.unwrap_or.ensures ∙ c.set.ensures _) found _ c.saves_too_little.ensures _ c.skip_cells-last.ensures

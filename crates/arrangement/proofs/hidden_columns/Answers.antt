@@ -1,5 +1,5 @@
-use borrow.Author.Rules.{rules}
-use Rattle.constraint.proofs.Laws.{walk_begin, walk-again, walk_done}
+use Rattle.std.proofs.Common.{rules}
+use Rattle.constraint.proofs.Laws.{walk_begin, walk-again}
 use Rattle.arrangement.proofs.Layouts.{marking-at}
 use Rattle.arrangement.proofs.hidden_columns.Goals as goal
 
@@ -8,6 +8,3 @@ loop-i-init c = search (rules, walk_begin)
 
 pub loop-i-preserved : goal.loop-i-preserved
 loop-i-preserved c = search (rules, walk-again, marking-at)
-
-pub returns : goal.returns
-returns c = search (rules, walk_done)

@@ -1,19 +1,25 @@
+use Rattle.std.proofs.Common.{rules}
 use native.Mathlib.Omega.{arith}
-use Rattle.constraint.proofs.Laws.{walk_begin, walk-again, walk_done}
-use Rattle.sharing.proofs.Shares.{sharing_given, distributed-at}
-use borrow.Author.Rules.{rules}
+use Rattle.constraint.proofs.Laws.{walk_begin, walk-again, walk_done, column-taken}
+use Rattle.sharing.proofs.Shares.{sharing-decided, sharing_open, distributed-at}
 use Rattle.sharing.proofs.distribute_remaining_space.Goals as goal
 
 pub loop-i-init : goal.loop-i-init
 loop-i-init c = (omega arith, search (rules, walk_begin))
 
-pub share_step-x-requires : goal.share_step-x-requires
-share_step-x-requires c = (omega arith, omega (arith, c.undecided_columns-parts.ensures), omega arith)
+pub loop-i-preserved-then-is_decided : goal.loop-i-preserved-then-is_decided
+loop-i-preserved-then-is_decided c =
+    let column = column-taken c.args.t.now c.from.result c.loop-i.i (omega (arith, c.loop-i.invariant.1.counted, c.from.ensures)) in
+    let stays = sharing-decided _ _ _ _ _ _ column _ c.is_decided.ensures c.if-is_decided.true in
+    (omega arith, walk-again _ _ _ _ _ _ c.loop-i.invariant.1 _ (omega arith) stays)
 
 pub loop-i-preserved : goal.loop-i-preserved
-loop-i-preserved c = (search (rules, sharing_given), search (rules, walk-again))
+loop-i-preserved c =
+    let column = column-taken c.args.t.now c.from.result c.loop-i.i (omega (arith, c.loop-i.invariant.1.counted, c.from.ensures)) in
+    let gets = sharing_open _ _ _ _ _ _ column _ _ _ c.is_decided.ensures c.if-is_decided.false c.share_of.ensures.0 c.fix_column.ensures in
+    (omega arith, walk-again _ _ _ _ _ _ c.loop-i.invariant.1 _ (omega arith) gets)
 
 pub returns : goal.returns
 returns c =
     let walked = walk_done _ _ _ _ _ _ c.loop-i.invariant.1 (omega arith) in
-    distributed-at _ _ _ _ c.loop-i.x c.undecided_columns-parts.ensures c.greater_u16-total.ensures walked
+    distributed-at _ _ _ _ _ c.undecided-parts.ensures c.max-total.ensures walked

@@ -1,7 +1,7 @@
+use Rattle.std.proofs.Common.{rules}
 use native.Mathlib.Omega.{arith}
-use Rattle.constraint.proofs.Laws.{walk_begin, walk-again, walk_done}
-use Rattle.sharing.proofs.Shares.{widening_given, widening-ahead, filled_none, filled-some}
-use borrow.Author.Rules.{rules}
+use Rattle.constraint.proofs.Laws.{walk_begin, walk-again, walk_done, column-taken}
+use Rattle.sharing.proofs.Shares.{widening_hidden, widening-visible, widened-ahead, filled_none, filled-some}
 use Rattle.sharing.proofs.use_full_width.Goals as goal
 
 pub returns-then-parts-eq0 : goal.returns-then-parts-eq0
@@ -10,15 +10,20 @@ returns-then-parts-eq0 c = search (rules, filled_none)
 pub loop-i-init : goal.loop-i-init
 loop-i-init c = (omega arith, (λ k h. c.requires.1.widths k), search (rules, walk_begin))
 
-pub widen_step-x-requires : goal.widen_step-x-requires
-widen_step-x-requires c =
-    let width = c.loop-i.invariant.1 c.loop-i.i (omega arith) in
-    (omega arith, omega arith, omega arith, omega (arith, width, c.requires.1.remaining))
+pub loop-i-preserved-then-is_hidden : goal.loop-i-preserved-then-is_hidden
+loop-i-preserved-then-is_hidden c =
+    let column = column-taken c.args.t.now c.from.result c.loop-i.i (omega (arith, c.loop-i.invariant.2.counted, c.from.ensures)) in
+    let stays = widening_hidden _ _ _ _ _ _ column _ c.is_hidden.ensures c.if-is_hidden.true in
+    (omega arith, (λ k h. c.loop-i.invariant.1 k (omega arith)), walk-again _ _ _ _ _ _ c.loop-i.invariant.2 _ (omega arith) stays)
 
 pub loop-i-preserved : goal.loop-i-preserved
 loop-i-preserved c =
-    let e = c.widen_step-x.ensures in
-    (widening_given _ _ _ _ _ _ c.loop-i.invariant.0 e, widening-ahead _ _ _ _ _ _ c.loop-i.invariant.1 e, search (rules, walk-again))
+    let column = column-taken c.args.t.now c.from.result c.loop-i.i (omega (arith, c.loop-i.invariant.2.counted, c.from.ensures)) in
+    let gets = widening-visible _ _ _ _ _ _ column _ _ c.is_hidden.ensures c.if-is_hidden.false c.share_of.ensures.0 in (
+      omega arith,
+      widened-ahead c.loop-i.s c.loop-i.i _ c.loop-i.invariant.1,
+      walk-again _ _ _ _ _ _ c.loop-i.invariant.2 _ (omega arith) gets,
+    )
 
 pub returns : goal.returns
-returns c = filled-some _ _ c.loop-i.x c.if-parts-eq0.false (walk_done _ _ _ _ _ _ c.loop-i.invariant.2 (omega arith))
+returns c = filled-some _ _ _ c.if-parts-eq0.false (walk_done _ _ _ _ _ _ c.loop-i.invariant.2 (omega arith))

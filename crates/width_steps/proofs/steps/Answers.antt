@@ -1,6 +1,6 @@
-use Rattle.constraint.proofs.Laws.{walk_begin, walk-again, walk_done}
+use Rattle.std.proofs.Common.{rules}
+use Rattle.constraint.proofs.Laws.{walk_begin, walk-again}
 use Rattle.width_steps.proofs.Ways.{naming-at}
-use borrow.Author.Rules.{rules}
 use Rattle.width_steps.proofs.steps.Goals as goal
 
 pub loop-i-init : goal.loop-i-init
@@ -8,6 +8,3 @@ loop-i-init c = search (rules, walk_begin)
 
 pub loop-i-preserved : goal.loop-i-preserved
 loop-i-preserved c = search (rules, walk-again, naming-at)
-
-pub returns : goal.returns
-returns c = search (rules, walk_done)

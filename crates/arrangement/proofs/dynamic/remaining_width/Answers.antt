@@ -1,9 +1,9 @@
+use Rattle.std.proofs.Common.{rules}
 use mathlib.Core.Path.{ap, ◌∙◌}
 use native.Mathlib.Omega.{arith}
 use Rattle.constraint.specs.Widths.{in_order}
 use Rattle.constraint.proofs.Laws.{walk_begin, walk-again, walk_done}
 use Rattle.arrangement.specs.Arrange.{charged}
-use borrow.Author.Rules.{rules}
 use Rattle.arrangement.proofs.dynamic.remaining_width.Goals as goal
 
 pub loop-i-init : goal.loop-i-init
@@ -13,4 +13,6 @@ pub loop-i-preserved : goal.loop-i-preserved
 loop-i-preserved c = search (rules, walk-again)
 
 pub returns : goal.returns
-returns c = walk_done _ _ _ _ _ _ c.loop-i.invariant (omega arith) ∙ ap (in_order (charged c.args.t c.args.s) c.args.t.count) c.room-r.ensures
+returns c =
+    let t = c.args.t.now in
+    walk_done _ _ _ _ _ _ c.loop-i.invariant (omega arith) ∙ ap (in_order (charged t c.args.s.now) t.count) c.room-r.ensures

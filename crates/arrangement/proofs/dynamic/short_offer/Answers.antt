@@ -1,9 +1,11 @@
-use borrow.Author.Rules.{rules}
-use Rattle.arrangement.proofs.Ways.{within-taken, within_kept}
+use Rattle.std.proofs.Common.{rules}
+use Rattle.rules.specs.Widths.{within_average}
 use Rattle.arrangement.proofs.dynamic.short_offer.Goals as goal
 
 pub returns-then-n-a : goal.returns-then-n-a
-returns-then-n-a c = search (rules, within-taken)
+unfolding within_average
+returns-then-n-a c = search rules
 
-pub returns : goal.returns
-returns c = search (rules, within_kept)
+pub returns-else-n-a : goal.returns-else-n-a
+unfolding within_average
+returns-else-n-a c = search rules

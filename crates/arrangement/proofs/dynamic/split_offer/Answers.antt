@@ -1,9 +1,11 @@
-use Rattle.after_split.proofs.Trials.{shorter-taken, shorter_kept}
-use borrow.Author.Rules.{rules}
+use Rattle.std.proofs.Common.{rules}
+use Rattle.rules.specs.Widths.{shorter_by3}
 use Rattle.arrangement.proofs.dynamic.split_offer.Goals as goal
 
-pub returns-then-n-a : goal.returns-then-n-a
-returns-then-n-a c = search (rules, shorter-taken)
+pub returns-then-from : goal.returns-then-from
+unfolding shorter_by3
+returns-then-from c = search rules
 
-pub returns : goal.returns
-returns c = search (rules, shorter_kept)
+pub returns-else-from : goal.returns-else-from
+unfolding shorter_by3
+returns-else-from c = search rules
