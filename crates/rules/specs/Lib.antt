@@ -5,6 +5,7 @@ pub mod Description
 pub mod Format
 pub mod Places
 pub mod Steps
+pub mod Refusals
 pub mod Limits
 pub mod Style
 pub mod Wrap
