@@ -9,7 +9,7 @@ use borrow.Author.Tests.{le-leb, lt-leb}
 use Rattle.rules.specs.Text.{or_else}
 use Rattle.rules.specs.Description.{word, writes}
 use Rattle.rules.specs.Writer.{passes}
-use Rattle.rules.specs.declared.Step.{Step}
+use Rattle.rules.specs.Steps.{Step}
 use Rattle.buffer.specs.Put.{put_at}
 use Rattle.buffer.proofs.Laws.{put_one, put-put}
 use Rattle.editor.specs.declared.walk.Walk.{Walk}

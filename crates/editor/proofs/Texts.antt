@@ -19,8 +19,7 @@ use Rattle.rules.specs.Description.{writes}
 use Rattle.rules.specs.Format.{line}
 use Rattle.rules.specs.Editor.{Cursor, Taken, lacking, number_at, bytes_at, text_taken, takes}
 use Rattle.rules.specs.Writer.{thence, passes, in_turn, character_judged, characters_judged, judges}
-use Rattle.rules.specs.declared.Step.{Step}
-use Rattle.rules.specs.declared.Step.TheVariants.{At, Refused}
+use Rattle.rules.specs.Steps.{Step, At, Refused}
 use Rattle.sheet.specs.Steps.{printables}
 use Rattle.laws.proofs.Reading.{between_both}
 use Rattle.editor.specs.declared.walk.Walk.{Walk}

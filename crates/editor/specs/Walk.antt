@@ -7,8 +7,7 @@ use Rattle.rules.specs.Description.{Format, byte, word, only, zero_word, text, c
 use Rattle.rules.specs.Format.{line}
 use Rattle.rules.specs.Editor.{Cursor, number_at, takes}
 use Rattle.rules.specs.Writer.{passes, in_turn, character_judged, characters_judged, judges}
-use Rattle.rules.specs.declared.Step.{Step}
-use Rattle.rules.specs.declared.Step.TheVariants.{At, Refused}
+use Rattle.rules.specs.Steps.{Step, At, Refused}
 use Rattle.buffer.specs.Put.{put_at}
 use Rattle.editor.specs.declared.walk.Walk.{Walk}
 use Rattle.editor.specs.declared.text.Kind.{Kind}

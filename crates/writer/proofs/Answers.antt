@@ -15,8 +15,7 @@ use Rattle.rules.specs.Calls.{Written, not_printed, put_or}
 use Rattle.rules.specs.Calls as calls
 use Rattle.rules.specs.Editor.{Cursor, Taken, start, takes}
 use Rattle.rules.specs.Writer.{judges, judged, save_of, save, save_taken, write_sheet}
-use Rattle.rules.specs.declared.Step.{Step}
-use Rattle.rules.specs.declared.Step.TheVariants.{At, Refused}
+use Rattle.rules.specs.Steps.{Step, At, Refused}
 use Rattle.rules.proofs.Parts.{Whole, table_whole}
 use Rattle.laws.proofs.Accepted.{line_whole}
 use Rattle.laws.proofs.Judging.{table_tests, judged_inside, judged_number, table_narrow, judged_bytes}

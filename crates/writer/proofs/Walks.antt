@@ -15,7 +15,7 @@ use Rattle.rules.specs.Description.{within, code, word_to, optional, counted, un
 use Rattle.rules.specs.Format.{width, column, line, cell_by, cell, cell_count, row_by, row, table_by, table}
 use Rattle.rules.specs.Editor.{Cursor, Taken, number_at, bytes_at, text_taken, several_taken, takes}
 use Rattle.rules.specs.Writer.{judges}
-use Rattle.rules.specs.declared.Step.{Step}
+use Rattle.rules.specs.Steps.{Step}
 use Rattle.buffer.specs.Put.{put_at}
 use Rattle.buffer.proofs.Laws.{length-put}
 use Rattle.editor.specs.declared.walk.Walk.{Walk}

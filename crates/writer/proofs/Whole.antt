@@ -9,8 +9,7 @@ use Rattle.rules.specs.Text.{or_else, flat}
 use Rattle.rules.specs.Description.{Format, byte, word, only, zero_word, text, cell_text, listed, give, next, writes, Faithful}
 use Rattle.rules.specs.Editor.{Cursor, Taken, several_taken, takes}
 use Rattle.rules.specs.Writer.{thence, in_turn, judges}
-use Rattle.rules.specs.declared.Step.{Step}
-use Rattle.rules.specs.declared.Step.TheVariants.{At, Refused}
+use Rattle.rules.specs.Steps.{Step, At, Refused}
 use Rattle.buffer.specs.Put.{put_at}
 use Rattle.buffer.proofs.Laws.{put-nil, put-put, length-put}
 use Rattle.laws.proofs.Lists.{map-append}
