@@ -21,7 +21,7 @@ use Rattle.laws.proofs.Accepted.{line_whole}
 use Rattle.laws.proofs.Judging.{table_tests, judged_inside, judged_number, table_narrow, judged_bytes}
 use Rattle.buffer.specs.Put.{put_at, over}
 use Rattle.buffer.proofs.Laws.{over-put-zero}
-use Rattle.editor.specs.declared.walk.Walk.{Walk}
+use Rattle.editor.specs.Walk.{Walk}
 use Rattle.writer.specs.declared.Decided.{Decided}
 use Rattle.editor.specs.Walk.{cap, State, state, cursor_of, fault_of, place_of, first_place, walked}
 use Rattle.writer.specs.Answer.{begun, fitting, decided}

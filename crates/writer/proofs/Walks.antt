@@ -18,10 +18,10 @@ use Rattle.rules.specs.Writer.{judges}
 use Rattle.rules.specs.Steps.{Step}
 use Rattle.buffer.specs.Put.{put_at}
 use Rattle.buffer.proofs.Laws.{length-put}
-use Rattle.editor.specs.declared.walk.Walk.{Walk}
+use Rattle.editor.specs.Walk.{Walk}
 use Rattle.editor.specs.Walk.{cursor_of, moved, State, state, noted, advanced, stamped, low, entered, field_entered, byte_entered, again, value_at, walked}
 use Rattle.writer.specs.Answer.{constraint_walked, head_walked, body_walked}
-use Rattle.editor.proofs.Entering.{missing-entered}
+use Rattle.editor.proofs.Entering.{missing_entered}
 use Rattle.editor.proofs.Fields.{byte-walked}
 
 -- ---- once something was missing
@@ -70,7 +70,7 @@ field_stays x ns ts s m =
     let y = judges x v s.walk.place in
     let l = map low (writes x v) in
     ap (λ (c : Cursor). entered y l (state (moved c s.walk) s.sheet)) (takes_stays x ns ts (cursor_of s.walk) m)
-    ∙ sym (missing-entered y l s.walk s.sheet m)
+    ∙ sym (missing_entered y l s.walk s.sheet m)
 
 again_stays : (f : State → State) (s : State) → f s ≡ s → (n : ℕ) → again n f s ≡ s
 unfolding again

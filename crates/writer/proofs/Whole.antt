@@ -14,7 +14,7 @@ use Rattle.buffer.specs.Put.{put_at}
 use Rattle.buffer.proofs.Laws.{put-nil, put-put, length-put}
 use Rattle.laws.proofs.Lists.{map-append}
 use Rattle.laws.proofs.Judging.{judged_ends, judged_number}
-use Rattle.editor.specs.declared.walk.Walk.{Walk}
+use Rattle.editor.specs.Walk.{Walk}
 use Rattle.editor.specs.Walk.{cap, cursor_of, moved, State, state, fault_of, first_place, place_of, noted, advanced, stamped, low, entered}
 use Rattle.editor.specs.Walk.{field_entered, again, value_at, walked}
 use Rattle.editor.proofs.Entering.{cap_under, cap-most, cap_more, or-none, stamped-all}

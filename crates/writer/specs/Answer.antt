@@ -6,7 +6,7 @@ use Rattle.rules.specs.Field.{between, printable, printable_or_zero}
 use Rattle.rules.specs.Description.{byte, only, text, code, word_to, optional, counted, wrong_edition}
 use Rattle.rules.specs.Format.{width, column, row}
 use Rattle.rules.specs.Editor.{number_at}
-use Rattle.editor.specs.declared.walk.Walk.{Walk}
+use Rattle.editor.specs.Walk.{Walk}
 use Rattle.editor.specs.Walk.{cursor_of, State, walked}
 use Rattle.writer.specs.declared.Decided.{Decided}
 
