@@ -54,7 +54,7 @@ or-none zero = refl
 or-none (suc f) = refl
 
 -- a refusal has a number
-number_some : (r : Reason) → number_of r ≡ 0 → ⊥
+pub number_some : (r : Reason) → number_of r ≡ 0 → ⊥
 number_some Ended e = absurd (omega (arith, e))
 number_some TooLong e = absurd (omega (arith, e))
 number_some WrongEdition e = absurd (omega (arith, e))
