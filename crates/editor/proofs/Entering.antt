@@ -9,11 +9,20 @@ use borrow.Author.Tests.{le-leb, lt-leb}
 use Rattle.rules.specs.Text.{or_else}
 use Rattle.rules.specs.Description.{word, writes}
 use Rattle.rules.specs.Writer.{passes}
-use Rattle.rules.specs.declared.Step.{Step}
+use Rattle.rules.specs.Steps.{Step}
 use Rattle.buffer.specs.Put.{put_at}
 use Rattle.buffer.proofs.Laws.{put_one, put-put}
-use Rattle.editor.specs.declared.walk.Walk.{Walk}
-use Rattle.editor.specs.Walk.{cap, State, state, first_place, noted, advanced, stamped, low, entered}
+use Rattle.editor.specs.Walk.{Walk}
+use Rattle.editor.specs.declared.walk.Walk.{Walk as Going}
+use Rattle.rules.specs.Steps.{At, Refused, refused_as}
+use Rattle.rules.specs.Refusals.{number_of}
+use Rattle.rules.specs.declared.Refusal.{Refusal}
+use Rattle.rules.specs.declared.Reason.{Reason}
+use Rattle.rules.specs.declared.Reason.TheVariants.{Ended, TooLong, WrongEdition, UnknownCode, BeyondLimits, BadCharacter, TooManyCells, NotZero}
+use Rattle.rules.specs.declared.Reason.TheVariants.{LeftOver, PageOverBuffer, NoSuchLine, SheetOverBuffer}
+use Rattle.std.specs.Prelude.{Option, Some, None}
+use Rattle.std.specs.Option.{is_some}
+use Rattle.editor.specs.Walk.{cap, State, state, walk_of, first_place, noted, advanced, stamped, low, entered}
 
 -- ---- places
 
@@ -44,25 +53,63 @@ pub or-none : (f : ℕ) → f ≡ or_else f 0
 or-none zero = refl
 or-none (suc f) = refl
 
-pub noted_good : (b : Bool) (n p : ℕ) (w : Walk) → b ≡ true → w ≡ noted (passes b n p 0) w
-unfolding passes noted
-noted_good b n p w e = let f = or-none w.fault in rw (e, passes, ← f)
+-- a refusal has a number
+pub number_some : (r : Reason) → number_of r ≡ 0 → ⊥
+number_some Ended e = absurd (omega (arith, e))
+number_some TooLong e = absurd (omega (arith, e))
+number_some WrongEdition e = absurd (omega (arith, e))
+number_some UnknownCode e = absurd (omega (arith, e))
+number_some BeyondLimits e = absurd (omega (arith, e))
+number_some BadCharacter e = absurd (omega (arith, e))
+number_some TooManyCells e = absurd (omega (arith, e))
+number_some NotZero e = absurd (omega (arith, e))
+number_some LeftOver e = absurd (omega (arith, e))
+number_some PageOverBuffer e = absurd (omega (arith, e))
+number_some NoSuchLine e = absurd (omega (arith, e))
+number_some SheetOverBuffer e = absurd (omega (arith, e))
 
 first_kept : (f : ℕ) → (f ≡ 0 → ⊥) → (n a b : ℕ) → (f ≡ or_else f n) × (a ≡ first_place f a b)
 unfolding first_place
 first_kept zero h n a b = absurd (h refl)
 first_kept (suc f) h n a b = (refl, refl)
 
-pub noted_kept : (b : Bool) (n p : ℕ) (w : Walk) → b ≡ false → (w.fault ≡ 0 → ⊥) → w ≡ noted (passes b n p 0) w
-unfolding passes noted
-noted_kept b n p w e h =
-    let k = first_kept w.fault h n w.at (cap p) in
-    rw (e, passes, ← k.0, ← k.1)
+-- nothing to note
+pub noted_none : (w : Walk) (p : ℕ) → w ≡ noted (At p) w
+unfolding noted
+noted_none w p = let f = or-none w.fault in rw (← f)
 
-pub noted_bad : (b : Bool) (n p q : ℕ) (w : Walk) → b ≡ false → w.fault ≡ 0 → q ≡ cap (p + 0)
-    → record { numbers = w.numbers; text = w.text; missing = w.missing; place = w.place; fault = n; at = q } ≡ noted (passes b n p 0) w
-unfolding passes noted first_place
-noted_bad b n p q w e h k = let z : p + 0 ≡ p = omega arith in rw (e, passes, k, z, h)
+-- a judgement of one field
+pub fault_none : (b : Bool) (n p q : ℕ) → b ≡ true → At q ≡ passes b n p q
+unfolding passes
+fault_none b n p q e = rw e
+
+pub fault_some : (b : Bool) (n p q : ℕ) → b ≡ false → Refused n p ≡ passes b n p q
+unfolding passes
+fault_some b n p q e = rw e
+
+module _ (w : Going) (r : Refusal) where
+  pub noted_kept : is_some w.fault ≡ true → walk_of w ≡ noted (refused_as r) (walk_of w)
+  unfolding noted
+  noted_kept h = go w.fault refl
+    where
+      go : (f : Option Refusal) → w.fault ≡ f → walk_of w ≡ noted (refused_as r) (walk_of w)
+      go None e = let z : ◌≡◌ {A = Bool} true false = sym h ∙ ap is_some e in let y : ◌≡◌ {A = ℕ} 0 1 = cc in absurd (omega arith)
+      go (Some d) e =
+          let k = first_kept (number_of d.reason) (number_some d.reason) (number_of r.reason) d.place (cap r.place) in
+          rw e (unfold noted in rw (← k.0, ← k.1))
+
+  pub noted_first : is_some w.fault ≡ false → (q : ℕ) → q ≡ cap (r.place + 0)
+      → record { numbers = w.numbers; text = w.text; missing = false; place = w.place; fault = number_of r.reason; at = q } ≡ noted (refused_as r) (walk_of w)
+  unfolding noted first_place
+  noted_first h q k = go w.fault refl
+    where
+      z : r.place + 0 ≡ r.place
+      z = omega arith
+
+      go : (f : Option Refusal) → w.fault ≡ f
+          → record { numbers = w.numbers; text = w.text; missing = false; place = w.place; fault = number_of r.reason; at = q } ≡ noted (refused_as r) (walk_of w)
+      go None e = rw (e, k, z)
+      go (Some d) e = let z : ◌≡◌ {A = Bool} true false = sym (ap is_some e) ∙ h in let y : ◌≡◌ {A = ℕ} 0 1 = cc in absurd (omega arith)
 
 -- ---- bytes that are put
 
@@ -103,18 +150,18 @@ next_there d p v h = omega (arith, length-set d p v)
 
 -- ---- a field
 
-pub missing-entered : (y : Step) (l : List ℕ) (w : Walk) (d : List ℕ) → w.missing ≡ true → state w d ≡ entered y l (state w d)
+pub missing_entered : (y : Step) (l : List ℕ) (w : Walk) (d : List ℕ) → w.missing ≡ true → state w d ≡ entered y l (state w d)
 unfolding entered
-missing-entered y l w d m =
+missing_entered y l w d m =
     sym (ap (λ (b : Bool). elim b as (λ z. State) [
       | true ↦ state w d
       | false ↦ state (advanced (length l) (noted y w)) (stamped d w.place l)
     ]) m)
 
-pub there-entered : (y : Step) (l : List ℕ) (w r : Walk) (d e : List ℕ) → w.missing ≡ false → r ≡ advanced (length l) (noted y w)
+pub there_entered : (y : Step) (l : List ℕ) (w r : Walk) (d e : List ℕ) → w.missing ≡ false → r ≡ advanced (length l) (noted y w)
     → e ≡ stamped d w.place l → state r e ≡ entered y l (state w d)
 unfolding entered
-there-entered y l w r d e m f g = rw (m, entered, f, g)
+there_entered y l w r d e m f g = rw (m, entered, f, g)
 
 -- two judgements that are noted alike are entered alike
 pub noted-alike : (y z : Step) → ((w : Walk) → noted y w ≡ noted z w) → (l : List ℕ) (s : State) → entered y l s ≡ entered z l s

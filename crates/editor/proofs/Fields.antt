@@ -10,45 +10,54 @@ use Rattle.rules.specs.Field.{between, printable, printable_or_zero}
 use Rattle.rules.specs.Description.{Fault, number_of, byte, word, only, zero_word, word_to, writes}
 use Rattle.rules.specs.Format.{cell_count}
 use Rattle.rules.specs.Editor.{number_at, takes}
+use Rattle.rules.specs.Steps.{Step, At, Refused}
 use Rattle.rules.specs.Writer.{thence, passes, judges}
 use Rattle.rules.specs.Sheet.{most_columns}
-use Rattle.editor.specs.declared.walk.Walk.{Walk}
+use Rattle.editor.specs.Walk.{Walk}
 use Rattle.editor.specs.Walk.{cap, cursor_of, moved, State, state, low, noted, entered, field_entered, byte_entered, walked, unused_place, count_fault}
-use Rattle.editor.proofs.Entering.{cap_twice, noted-alike, passes-any}
-
-pub between_below : (low high v : ℕ) → v < low → false ≡ between low high v
-between_below low high v h = rw (lt-leb low v h)
-
-pub between_from : (low high v : ℕ) → low ≤ v → leb v high ≡ between low high v
-between_from low high v h = rw (le-leb low v h)
-
-pub zero-passes : (v : ℕ) → v ≡ 0 → true ≡ printable_or_zero v
-zero-passes v e = rw (eq-eqb v 0 e)
-
-pub others-printable : (v : ℕ) (b : Bool) → (v ≡ 0 → ⊥) → b ≡ printable v → b ≡ printable_or_zero v
-others-printable v b h e = e ∙ rw (ne_eqb v 0 h)
-
-pub most-fixed : (u : ℕ) → u ≡ 0 → ◌≡◌ {A = ℕ} 400 (cond (eqb u 0) 400 65535)
-most-fixed u e = rw (eq-eqb u 0 e)
-
-pub most-percent : (u : ℕ) → (u ≡ 0 → ⊥) → ◌≡◌ {A = ℕ} 65535 (cond (eqb u 0) 400 65535)
-most-percent u h = rw (ne_eqb u 0 h)
+use Rattle.editor.proofs.Entering.{cap_twice, noted-alike, passes-any, missing_entered}
 
 -- the place of an unused width's fault
 pub unused_next : (p v r : ℕ) → v % 256 ≡ 0 → r ≡ cap (p + 1) → r ≡ unused_place p v
 unused_next p v r h e = e ∙ sym (ap (λ (b : Bool). elim b as (λ x. ℕ) [ true ↦ cap (p + 1) | false ↦ p ]) (eq-eqb (v % 256) 0 h))
 
-pub unused-first : (p v : ℕ) → (v % 256 ≡ 0 → ⊥) → p ≡ unused_place p v
-unused-first p v h = sym (ap (λ (b : Bool). elim b as (λ x. ℕ) [ true ↦ cap (p + 1) | false ↦ p ]) (ne_eqb (v % 256) 0 h))
+pub unused_first : (p v : ℕ) → (v % 256 ≡ 0 → ⊥) → p ≡ unused_place p v
+unused_first p v h = sym (ap (λ (b : Bool). elim b as (λ x. ℕ) [ true ↦ cap (p + 1) | false ↦ p ]) (ne_eqb (v % 256) 0 h))
 
 -- ---- a field of one byte
 
+-- nothing is entered where the number was missing
+module _ (ns : List ℕ) (w r : Walk) (d : List ℕ) (taken : r ≡ moved (number_at ns (cursor_of w)).after w) (m : r.missing ≡ true) where
+  pub byte_lacking : (good : ℕ → Bool) (n : ℕ) → state r d ≡ byte_entered good n ns (state w d)
+  unfolding byte_entered
+  byte_lacking good n =
+      let v = (number_at ns (cursor_of w)).value in
+      missing_entered (passes (good v) n w.place 0) (low v ∷ []) r d m ∙ rw taken
+
+  pub word_lacking : (most : ℕ) → state r d ≡ walked (word_to most) ns [] (state w d)
+  unfolding walked field_entered takes
+  word_lacking most =
+      let v = (number_at ns (cursor_of w)).value in
+      missing_entered (judges (word_to most) v w.place) (map low (writes (word_to most) v)) r d m ∙ rw taken
+
+  pub zeros_lacking : state r d ≡ walked zero_word ns [] (state w d)
+  unfolding walked field_entered takes
+  zeros_lacking =
+      let v = (number_at ns (cursor_of w)).value in
+      missing_entered (judges zero_word v w.place) (map low (writes zero_word v)) r d m ∙ rw taken
+
+  pub count_lacking : (columns : ℕ) → state r d ≡ walked (cell_count columns) ns [] (state w d)
+  unfolding walked field_entered takes
+  count_lacking columns =
+      let v = (number_at ns (cursor_of w)).value in
+      missing_entered (judges (cell_count columns) v w.place) (map low (writes (cell_count columns) v)) r d m ∙ rw taken
+
 -- entered with the number that was taken
-pub byte-entered : (good : ℕ → Bool) (n : ℕ) (ns : List ℕ) (w r u : Walk) (d e : List ℕ) (v : ℕ) (b : Bool)
+pub byte_from : (good : ℕ → Bool) (n : ℕ) (ns : List ℕ) (w r u : Walk) (d e : List ℕ) (v : ℕ) (b : Bool)
     → v ≡ (number_at ns (cursor_of w)).value → r ≡ moved (number_at ns (cursor_of w)).after w → b ≡ good v
     → state u e ≡ entered (passes b n r.place 0) (v % 256 ∷ []) (state r d) → state u e ≡ byte_entered good n ns (state w d)
 unfolding byte_entered
-byte-entered good n ns w r u d e v b f g h k = k ∙ rw (h, g, f)
+byte_from good n ns w r u d e v b f g h k = k ∙ rw (h, g, f)
 
 -- what it comes to, whatever the test and the fault
 pub byte-walked : (good : ℕ → Bool) (fault : Fault) (ns ts : List ℕ) (s : State)
@@ -91,32 +100,55 @@ count-noted true true p q w = refl
 count-noted true false p q w = refl
 count-noted false b p q w = refl
 
+-- what the code finds of it
+module _ (v columns p : ℕ) where
+  abbrev judged : Step
+  judged = passes (between 0 most_columns v && between 0 columns v) (count_fault (between 0 most_columns v)) p 0
+
+  within : (high : ℕ) → v ≤ high → between 0 high v ≡ true
+  within high h = rw (le-leb 0 v (omega arith), le-leb v high h)
+
+  beyond : (high : ℕ) → high < v → between 0 high v ≡ false
+  beyond high h = rw (le-leb 0 v (omega arith), lt-leb v high h)
+
+  pub count_high : most_columns < v → Refused 5 p ≡ judged
+  unfolding passes
+  count_high h = rw (beyond most_columns h)
+
+  pub count_more : v ≤ most_columns → columns < v → Refused 7 p ≡ judged
+  unfolding passes
+  count_more h k = rw (within most_columns h, beyond columns k)
+
+  pub count_fine : v ≤ most_columns → v ≤ columns → At 0 ≡ judged
+  unfolding passes
+  count_fine h k = rw (within most_columns h, within columns k)
+
 -- what was taken and entered is what the description says, where it is noted as the code noted it
 module _ (ns : List ℕ) (w r u : Walk) (d e : List ℕ) (v : ℕ) (f : v ≡ (number_at ns (cursor_of w)).value) (g : r ≡ moved (number_at ns (cursor_of w)).after w) where
-  pub word-entered : (b : Bool) (most : ℕ) → b ≡ leb v most
+  pub word_entered : (b : Bool) (most : ℕ) → b ≡ leb v most
       → state u e ≡ entered (passes b 5 r.place 0) (map low (writes word v)) (state r d) → state u e ≡ walked (word_to most) ns [] (state w d)
   unfolding walked field_entered takes judges writes thence
-  word-entered b most h k =
+  word_entered b most h k =
       let p = w.place in
       let n = (number_at ns (cursor_of w)).value in
       k ∙ rw (h, g, f, le-leb 0 n (omega arith))
       (noted-alike (passes (leb n most) 5 p 0) (passes (leb n most) 5 p (p + 2)) (passes-any (leb n most) 5 p 0 (p + 2))
       (map low (writes word n)) (state (moved (number_at ns (cursor_of w)).after w) d))
 
-  pub zeros-entered : (b : Bool) (q : ℕ) → b ≡ eqb v 0 → q ≡ unused_place r.place v
+  pub zeros_entered : (b : Bool) (q : ℕ) → b ≡ eqb v 0 → q ≡ unused_place r.place v
       → state u e ≡ entered (passes b 8 q 0) (map low (writes word v)) (state r d) → state u e ≡ walked zero_word ns [] (state w d)
   unfolding walked field_entered takes judges writes
-  zeros-entered b q h i k =
+  zeros_entered b q h i k =
       let p = w.place in
       let n = (number_at ns (cursor_of w)).value in
       k ∙ rw (h, i, g, f)
       (noted-alike (passes (eqb n 0) 8 (unused_place p n) 0) (judges zero_word n p) (unused-noted n p)
       (map low (writes word n)) (state (moved (number_at ns (cursor_of w)).after w) d))
 
-  pub count-entered : (a b : Bool) (m columns : ℕ) → a ≡ between 0 most_columns v → b ≡ (a && between 0 columns v) → m ≡ count_fault a
+  pub count_entered : (a b : Bool) (m columns : ℕ) → a ≡ between 0 most_columns v → b ≡ (a && between 0 columns v) → m ≡ count_fault a
       → state u e ≡ entered (passes b m r.place 0) (v % 256 ∷ []) (state r d) → state u e ≡ walked (cell_count columns) ns [] (state w d)
   unfolding walked field_entered takes judges writes thence
-  count-entered a b m columns h i j k =
+  count_entered a b m columns h i j k =
       let p = w.place in
       let n = (number_at ns (cursor_of w)).value in
       let x = between 0 most_columns n in

@@ -2,3 +2,4 @@ pub mod Taking
 pub mod Entering
 pub mod Fields
 pub mod Texts
+pub mod Laws

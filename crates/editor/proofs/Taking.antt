@@ -7,7 +7,7 @@ use native.Mathlib.Omega.{arith}
 use lib.ListN.{length, get_or}
 use borrow.Author.Tests.{lt-ltb, le-ltb, le-leb, lt-leb}
 use Rattle.rules.specs.Editor.{Cursor, Taken, lacking, number_at, bytes_at}
-use Rattle.editor.specs.declared.walk.Walk.{Walk}
+use Rattle.editor.specs.Walk.{Walk}
 use Rattle.editor.specs.Walk.{cursor_of, moved}
 
 -- nothing more is taken where a test fails, whatever the other one says
@@ -17,48 +17,42 @@ and-false false = refl
 
 -- ---- a number
 
-abbrev pub Numbered : List ℕ → Walk → ℕ → Walk → Type 0
-Numbered ns w v r = (v ≡ (number_at ns (cursor_of w)).value) × (r ≡ moved (number_at ns (cursor_of w)).after w)
+abbrev pub behind : Walk → Cursor
+behind w = record { numbers = w.numbers + 1; text = w.text; missing = false }
 
-numbered : (ns : List ℕ) (w : Walk) (v : ℕ) (d : Cursor) (r : Walk) → number_at ns (cursor_of w) ≡ record { value = v; after = d } → r ≡ moved d w
-    → Numbered ns w v r
-numbered ns w v d r e f = (sym (ap (λ (g : Taken ℕ). g.value) e), f ∙ sym (ap (λ (g : Taken ℕ). moved g.after w) e))
-
-pub number_missing : (ns : List ℕ) (w r : Walk) → w.missing ≡ true → r ≡ moved (lacking (cursor_of w)) w → Numbered ns w 0 r
+there : (ns : List ℕ) (w : Walk) → w.missing ≡ false → w.numbers < length ns → number_at ns (cursor_of w) ≡ record { value = get_or ns w.numbers 0; after = behind w }
 unfolding number_at
-number_missing ns w r m f = numbered ns w 0 (lacking (cursor_of w)) r (rw (m, number_at)) f
+there ns w m h = rw (m, lt-ltb w.numbers (length ns) h, number_at)
 
-pub number_past : (ns : List ℕ) (w r : Walk) → length ns ≤ w.numbers → r ≡ moved (lacking (cursor_of w)) w → Numbered ns w 0 r
+none : (ns : List ℕ) (w : Walk) → length ns ≤ w.numbers → number_at ns (cursor_of w) ≡ record { value = 0; after = lacking (cursor_of w) }
 unfolding number_at
-number_past ns w r h f =
-    numbered ns w 0 (lacking (cursor_of w)) r (rw (le-ltb w.numbers (length ns) h, and-false (not w.missing), number_at)) f
+none ns w h = rw (le-ltb w.numbers (length ns) h, and-false (not w.missing), number_at)
 
-pub number_there : (ns : List ℕ) (w r : Walk) → w.missing ≡ false → w.numbers < length ns
-    → r ≡ moved (record { numbers = w.numbers + 1; text = w.text; missing = false }) w → Numbered ns w (get_or ns w.numbers 0) r
-unfolding number_at
-number_there ns w r m h f =
-    numbered ns w (get_or ns w.numbers 0) (record { numbers = w.numbers + 1; text = w.text; missing = false }) r
-    (rw (m, lt-ltb w.numbers (length ns) h, number_at)) f
+pub number_none : (ns : List ℕ) (w : Walk) → length ns ≤ w.numbers → moved (lacking (cursor_of w)) w ≡ moved (number_at ns (cursor_of w)).after w
+number_none ns w h = sym (ap (λ (g : Taken ℕ). moved g.after w) (none ns w h))
+
+pub number_value : (ns : List ℕ) (w : Walk) → w.missing ≡ false → w.numbers < length ns → get_or ns w.numbers 0 ≡ (number_at ns (cursor_of w)).value
+number_value ns w m h = sym (ap (λ (g : Taken ℕ). g.value) (there ns w m h))
+
+pub number_next : (ns : List ℕ) (w : Walk) → w.missing ≡ false → w.numbers < length ns → moved (behind w) w ≡ moved (number_at ns (cursor_of w)).after w
+number_next ns w m h = sym (ap (λ (g : Taken ℕ). moved g.after w) (there ns w m h))
 
 -- ---- bytes of the text
 
-abbrev pub Moved : ℕ → List ℕ → Walk → Walk → Type 0
-Moved n ts w r = r ≡ moved (bytes_at n ts (cursor_of w)).after w
+module _ (n : ℕ) (ts : List ℕ) (w : Walk) where
+  pub bytes_missing : w.missing ≡ true → w ≡ moved (bytes_at n ts (cursor_of w)).after w
+  unfolding bytes_at
+  bytes_missing m = rw (m, bytes_at)
 
-pub bytes-missing : (n : ℕ) (ts : List ℕ) (w r : Walk) → w.missing ≡ true → r ≡ moved (lacking (cursor_of w)) w → Moved n ts w r
-unfolding bytes_at
-bytes-missing n ts w r m f = f ∙ rw (m, bytes_at)
+  pub bytes_past : length ts < w.text → moved (lacking (cursor_of w)) w ≡ moved (bytes_at n ts (cursor_of w)).after w
+  unfolding bytes_at
+  bytes_past h = rw (lt-leb (w.text + n) (length ts) (omega arith), and-false (not w.missing), bytes_at)
 
-pub bytes_past : (n : ℕ) (ts : List ℕ) (w r : Walk) → length ts < w.text → r ≡ moved (lacking (cursor_of w)) w → Moved n ts w r
-unfolding bytes_at
-bytes_past n ts w r h f = f ∙ rw (lt-leb (w.text + n) (length ts) (omega arith), and-false (not w.missing), bytes_at)
+  pub bytes_short : w.text ≤ length ts → length ts - w.text < n → moved (lacking (cursor_of w)) w ≡ moved (bytes_at n ts (cursor_of w)).after w
+  unfolding bytes_at
+  bytes_short h k = rw (lt-leb (w.text + n) (length ts) (omega arith), and-false (not w.missing), bytes_at)
 
-pub bytes_short : (n : ℕ) (ts : List ℕ) (w r : Walk) → w.text ≤ length ts → length ts - w.text < n → r ≡ moved (lacking (cursor_of w)) w
-    → Moved n ts w r
-unfolding bytes_at
-bytes_short n ts w r h k f = f ∙ rw (lt-leb (w.text + n) (length ts) (omega arith), and-false (not w.missing), bytes_at)
-
-pub bytes_there : (n : ℕ) (ts : List ℕ) (w r : Walk) → w.missing ≡ false → w.text ≤ length ts → n ≤ length ts - w.text
-    → r ≡ moved (record { numbers = w.numbers; text = w.text + n; missing = false }) w → Moved n ts w r
-unfolding bytes_at
-bytes_there n ts w r m h k f = f ∙ rw (m, le-leb (w.text + n) (length ts) (omega arith), bytes_at)
+  pub bytes_there : w.missing ≡ false → w.text ≤ length ts → n ≤ length ts - w.text
+      → record { numbers = w.numbers; text = w.text + n; missing = false; place = w.place; fault = w.fault; at = w.at } ≡ moved (bytes_at n ts (cursor_of w)).after w
+  unfolding bytes_at
+  bytes_there m h k = rw (m, le-leb (w.text + n) (length ts) (omega arith), bytes_at)

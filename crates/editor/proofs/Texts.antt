@@ -19,24 +19,18 @@ use Rattle.rules.specs.Description.{writes}
 use Rattle.rules.specs.Format.{line}
 use Rattle.rules.specs.Editor.{Cursor, Taken, lacking, number_at, bytes_at, text_taken, takes}
 use Rattle.rules.specs.Writer.{thence, passes, in_turn, character_judged, characters_judged, judges}
-use Rattle.rules.specs.declared.Step.{Step}
-use Rattle.rules.specs.declared.Step.TheVariants.{At, Refused}
+use Rattle.rules.specs.Steps.{Step, At, Refused}
 use Rattle.sheet.specs.Steps.{printables}
 use Rattle.laws.proofs.Reading.{between_both}
-use Rattle.editor.specs.declared.walk.Walk.{Walk}
+use Rattle.editor.specs.Walk.{Walk}
 use Rattle.editor.specs.declared.text.Kind.{Kind}
 use Rattle.editor.specs.declared.text.Kind.TheVariants.{Indicator, Style, Line}
 use Rattle.editor.specs.Walk.{cap, cursor_of, moved, State, state, noted, advanced, stamped, low, entered, field_entered, walked}
 use Rattle.editor.specs.Walk.{letter, text_format, characters_of, CharacterIs, least, most}
-use Rattle.editor.proofs.Entering.{cap_more, cap_twice, stamped_short, stamped-all, missing-entered}
+use Rattle.editor.proofs.Entering.{cap_more, cap_twice, noted_none, stamped_short, stamped-all, missing_entered}
+use Rattle.editor.proofs.Taking.{bytes_missing}
 
 -- ---- characters
-
-pub letter-zero : (z b : Bool) (v w : ℕ) → z ≡ true → w ≡ v → b ≡ printable_or_zero w → b ≡ letter z v
-letter-zero z b v w h e k = k ∙ rw (h, e)
-
-pub letter-plain : (z b : Bool) (v w : ℕ) → z ≡ false → w ≡ v → b ≡ printable w → b ≡ letter z v
-letter-plain z b v w h e k = k ∙ rw (h, e)
 
 abbrev judged_from : Bool → List ℕ → ℕ → Step
 judged_from zeros l p = in_turn (character_judged (letter zeros)) l p
@@ -59,29 +53,19 @@ next-judged zeros b l i h e =
     ∙ ap (λ (x : Bool). thence (passes x 6 i (i + 1)) (judged_from zeros (drop (suc i) l))) e
     ∙ ap (λ k. thence (passes b 6 i (i + 1)) (judged_from zeros (drop k l))) z
 
--- the code tests whether a character doesn't pass
-not-true : (b : Bool) → not b ≡ true → b ≡ false
-not-true true e = sym e
-not-true false e = refl
-
-not-false : (b : Bool) → not b ≡ false → b ≡ true
-not-false true e = refl
-not-false false e = sym e
-
-pub passed-again : (zeros b : Bool) (l : List ℕ) (i : ℕ) → i < length l → b ≡ letter zeros (get_or l i 0) → not b ≡ false → Passed zeros l i
+pub passed_again : (zeros b : Bool) (l : List ℕ) (i : ℕ) → i < length l → b ≡ letter zeros (get_or l i 0) → b ≡ true → Passed zeros l i
     → Passed zeros l (i + 1)
 unfolding thence passes
-passed-again zeros b l i h e t p =
-    record { within = omega arith; rest = sym (next-judged zeros true l i h (sym e ∙ not-false b t)) ∙ p.rest }
+passed_again zeros b l i h e t p = record { within = omega arith; rest = sym (next-judged zeros true l i h (sym e ∙ t)) ∙ p.rest }
 
-pub passed_bad : (zeros b : Bool) (l : List ℕ) (i : ℕ) → i < length l → b ≡ letter zeros (get_or l i 0) → not b ≡ true → Passed zeros l i
+pub passed_bad : (zeros b : Bool) (l : List ℕ) (i : ℕ) → i < length l → b ≡ letter zeros (get_or l i 0) → b ≡ false → Passed zeros l i
     → Refused 6 i ≡ judged_from zeros l 0
 unfolding thence passes
-passed_bad zeros b l i h e t p = sym (next-judged zeros false l i h (sym e ∙ not-true b t)) ∙ p.rest
+passed_bad zeros b l i h e t p = sym (next-judged zeros false l i h (sym e ∙ t)) ∙ p.rest
 
-pub passed-all : (zeros : Bool) (l : List ℕ) (i : ℕ) → length l ≤ i → Passed zeros l i → At i ≡ judged_from zeros l 0
+pub passed_all : (zeros : Bool) (l : List ℕ) (i : ℕ) → length l ≤ i → Passed zeros l i → At i ≡ judged_from zeros l 0
 unfolding in_turn
-passed-all zeros l i h p = let d = drop_of_length-le l {i = i} h in rw d at p.rest
+passed_all zeros l i h p = let d = drop_of_length-le l {i = i} h in rw d at p.rest
 
 -- ---- characters of a line
 
@@ -121,17 +105,17 @@ module _ (l : List ℕ) (p : ℕ) where
   begins : p < length l → drop p l ≡ first ∷ drop (p + 1) l
   begins h = let z : suc p ≡ p + 1 = omega arith in drop-cons l p 0 h ∙ ap (λ k. first ∷ drop k l) z
 
-  pub character-plain : (b : Bool) → p < length l → b ≡ printable first → b ≡ true → CharacterIs l p (At (p + 1))
-  character-plain b h e t =
+  pub character_plain : (b : Bool) → p < length l → b ≡ printable first → b ≡ true → CharacterIs l p (At (p + 1))
+  character_plain b h e t =
       (omega arith, (omega arith, ap (λ m. characters_judged m p) (begins h) ∙ one-judged first p (drop (p + 1) l) (sym e ∙ t)))
 
-  pub character-other : (b : Bool) → p < length l → b ≡ printable first → b ≡ false → (first ≡ 194 → ⊥) → CharacterIs l p (Refused 6 p)
-  character-other b h e t k = other-judged first p (drop (p + 1) l) (sym e ∙ t) k ∙ ap (λ m. characters_judged m p) (sym (begins h))
+  pub character_other : (b : Bool) → p < length l → b ≡ printable first → b ≡ false → (first ≡ 194 → ⊥) → CharacterIs l p (Refused 6 p)
+  character_other b h e t k = other-judged first p (drop (p + 1) l) (sym e ∙ t) k ∙ ap (λ m. characters_judged m p) (sym (begins h))
 
   -- C2 as the last byte
-  pub character-last : (b : Bool) → p < length l → b ≡ printable first → b ≡ false → length l - p < 2 → CharacterIs l p (Refused 6 p)
+  pub character_last : (b : Bool) → p < length l → b ≡ printable first → b ≡ false → length l - p < 2 → CharacterIs l p (Refused 6 p)
   unfolding characters_judged passes
-  character-last b h e t k =
+  character_last b h e t k =
       let d : drop (p + 1) l ≡ [] = drop_of_length-le l {i = p + 1} (omega arith) in
       (rw (← e, t, passes)) ∙ ap (λ m. characters_judged (first ∷ m) p) (sym d) ∙ ap (λ m. characters_judged m p) (sym (begins h))
 
@@ -161,20 +145,15 @@ pub record Judged (l : List ℕ) (i : ℕ) : Type 0 where
 pub judged_begin : (l : List ℕ) → Judged l 0
 judged_begin l = record { within = omega arith; rest = refl }
 
-pub judged-again : (l : List ℕ) (i j : ℕ) (y : Step) → Judged l i → CharacterIs l i y → y ≡ At j → Judged l j
-judged-again l i j y p c e =
-    let d = subst (CharacterIs l i) e c in
-    record { within = d.1.0; rest = sym d.1.1 ∙ p.rest }
+pub judged_again : (l : List ℕ) (i j : ℕ) → Judged l i → CharacterIs l i (At j) → Judged l j
+judged_again l i j p d = record { within = d.1.0; rest = sym d.1.1 ∙ p.rest }
 
-pub judged-onward : (l : List ℕ) (i j : ℕ) (y : Step) → CharacterIs l i y → y ≡ At j → i < j
-judged-onward l i j y c e = (subst (CharacterIs l i) e c).0
+pub judged_bad : (l : List ℕ) (i n q : ℕ) → Judged l i → CharacterIs l i (Refused n q) → Refused n q ≡ characters_judged l 0
+judged_bad l i n q p c = c ∙ p.rest
 
-pub judged_bad : (l : List ℕ) (i n q : ℕ) (y : Step) → Judged l i → CharacterIs l i y → y ≡ Refused n q → y ≡ characters_judged l 0
-judged_bad l i n q y p c e = e ∙ subst (CharacterIs l i) e c ∙ p.rest
-
-pub judged-all : (l : List ℕ) (i : ℕ) → length l ≤ i → Judged l i → At i ≡ characters_judged l 0
+pub judged_all : (l : List ℕ) (i : ℕ) → length l ≤ i → Judged l i → At i ≡ characters_judged l 0
 unfolding characters_judged
-judged-all l i h p = let d = drop_of_length-le l {i = i} h in rw d at p.rest
+judged_all l i h p = let d = drop_of_length-le l {i = i} h in rw d at p.rest
 
 -- where every byte is printable
 below : (i n : ℕ) → i < suc n → (i ≡ n → ⊥) → i < n
@@ -199,11 +178,8 @@ plain-judged (b ∷ l) p h =
     let z : p + suc (length l) ≡ p + 1 + length l = omega arith in
     rw z (plain-judged l (p + 1) (λ i k. h (suc i) (omega arith)) ∙ sym (one-judged b p l (h 0 (omega arith))))
 
-pub printable-judged : (l : List ℕ) (b : Bool) → b ≡ printables l 0 (length l - 0) → b ≡ true → At (length l) ≡ characters_judged l 0
-printable-judged l b e t =
-    let z : length l - 0 ≡ length l = omega arith in
-    let y : 0 + length l ≡ length l = omega arith in
-    rw y at (plain-judged l 0 (each-printable l (length l) (sym (e ∙ ap (printables l 0) z) ∙ t)))
+pub printable_judged : (l : List ℕ) → printables l 0 (length l) ≡ true → At (length l) ≡ characters_judged l 0
+printable_judged l t = let y : 0 + length l ≡ length l = omega arith in rw y at (plain-judged l 0 (each-printable l (length l) t))
 
 -- which characters, by what the text is
 pub of_indicator : (k : Kind) (l : List ℕ) (y : Step) → k ≡ Indicator → y ≡ judged_from false l 0 → y ≡ characters_of k l 0
@@ -212,8 +188,8 @@ of_indicator k l y e f = f ∙ rw e
 pub of_style : (k : Kind) (l : List ℕ) (y : Step) → k ≡ Style → y ≡ judged_from true l 0 → y ≡ characters_of k l 0
 of_style k l y e f = f ∙ rw e
 
-pub of-line : (k : Kind) (l : List ℕ) (y : Step) → k ≡ Line → y ≡ characters_judged l 0 → y ≡ characters_of k l 0
-of-line k l y e f = f ∙ rw e
+pub of_line : (k : Kind) (l : List ℕ) (y : Step) → k ≡ Line → y ≡ characters_judged l 0 → y ≡ characters_of k l 0
+of_line k l y e f = f ∙ rw e
 
 -- ---- the first fault of a text
 
@@ -279,40 +255,33 @@ text-judges Style l p = refl
 text-judges Line l p = refl
 
 beyond-noted : (k : Kind) (l : List ℕ) (p : ℕ) (w : Walk) → between (least k) (most k) (length l) ≡ false
-    → noted (passes false 5 p 0) w ≡ noted (judges (text_format k) l p) w
+    → noted (Refused 5 p) w ≡ noted (judges (text_format k) l p) w
 unfolding thence passes
-beyond-noted k l p w e = sym (ap (λ y. noted y w) (text-judges k l p ∙ rw (e, passes, thence)))
+beyond-noted k l p w e = sym (ap (λ z. noted z w) (text-judges k l p ∙ rw (e, passes, thence)))
 
-pub short-noted : (k : Kind) (l : List ℕ) (w r : Walk) (low : ℕ) → low ≡ least k → length l < low → r ≡ noted (passes false 5 w.place 0) w
-    → r ≡ noted (judges (text_format k) l w.place) w
-short-noted k l w r low e h f = f ∙ beyond-noted k l w.place w (rw (lt-leb (least k) (length l) (omega (arith, e))))
+module _ (k : Kind) (l : List ℕ) (w : Walk) where
+  pub short_noted : length l < least k → noted (Refused 5 w.place) w ≡ noted (judges (text_format k) l w.place) w
+  short_noted h = beyond-noted k l w.place w (rw (lt-leb (least k) (length l) h))
 
-pub long-noted : (k : Kind) (l : List ℕ) (w r : Walk) (low high : ℕ) → low ≡ least k → high ≡ most k → low ≤ length l → high < length l
-    → r ≡ noted (passes false 5 w.place 0) w → r ≡ noted (judges (text_format k) l w.place) w
-long-noted k l w r low high e g h i f =
-    f ∙ beyond-noted k l w.place w (rw (le-leb (least k) (length l) (omega (arith, e)), lt-leb (length l) (most k) (omega (arith, g))))
+  pub long_noted : least k ≤ length l → most k < length l → noted (Refused 5 w.place) w ≡ noted (judges (text_format k) l w.place) w
+  long_noted h i = beyond-noted k l w.place w (rw (le-leb (least k) (length l) h, lt-leb (length l) (most k) i))
 
--- its length is within the limits: what its characters come to
-within-noted : (k : Kind) (l : List ℕ) (w : Walk) (y : Step) (low high : ℕ) → low ≡ least k → high ≡ most k → low ≤ length l → length l ≤ high
-    → y ≡ characters_of k l 0 → noted (shifted (w.place + 1) y) w ≡ noted (judges (text_format k) l w.place) w
-unfolding thence passes
-within-noted k l w y low high e g h i f =
-    let a = le-leb (least k) (length l) (omega (arith, e)) in
-    let b = le-leb (length l) (most k) (omega (arith, g)) in
-    sym (ap (λ z. noted z w) (text-judges k l w.place ∙ rw (a, b, passes, thence) (of-shifted k l (w.place + 1) ∙ ap (shifted (w.place + 1)) (sym f))))
+  -- its length is within the limits: what its characters come to
+  module _ (h : least k ≤ length l) (i : length l ≤ most k) where
+    within-noted : (y : Step) → y ≡ characters_of k l 0 → noted (shifted (w.place + 1) y) w ≡ noted (judges (text_format k) l w.place) w
+    unfolding thence passes
+    within-noted y f =
+        let a = le-leb (least k) (length l) h in
+        let b = le-leb (length l) (most k) i in
+        sym (ap (λ z. noted z w) (text-judges k l w.place ∙ rw (a, b, passes, thence) (of-shifted k l (w.place + 1) ∙ ap (shifted (w.place + 1)) (sym f))))
 
-pub fine-noted : (k : Kind) (l : List ℕ) (w r : Walk) (y : Step) (q low high : ℕ) → low ≡ least k → high ≡ most k → low ≤ length l → length l ≤ high
-    → y ≡ characters_of k l 0 → y ≡ At q → r ≡ noted (passes true 0 0 0) w → r ≡ noted (judges (text_format k) l w.place) w
-unfolding passes noted
-fine-noted k l w r y q low high e g h i f j n =
-    n ∙ ap (λ z. noted (shifted (w.place + 1) z) w) (sym j) ∙ within-noted k l w y low high e g h i f
+    pub fine_noted : (q : ℕ) → At q ≡ characters_of k l 0 → w ≡ noted (judges (text_format k) l w.place) w
+    fine_noted q f = noted_none w (w.place + 1 + q) ∙ within-noted (At q) f
 
-pub bad-noted : (k : Kind) (l : List ℕ) (w r : Walk) (y : Step) (n q low high a b : ℕ) → low ≡ least k → high ≡ most k → low ≤ length l
-    → length l ≤ high → y ≡ characters_of k l 0 → y ≡ Refused n q → a ≡ cap (w.place + 1) → b ≡ cap (a + q) → r ≡ noted (passes false n b 0) w
-    → r ≡ noted (judges (text_format k) l w.place) w
-unfolding passes noted
-bad-noted k l w r y n q low high a b e g h i f j u v m =
-    m ∙ rw (v, u, cap_twice (cap (w.place + 1) + q), cap_more (w.place + 1) q) (ap (λ z. noted (shifted (w.place + 1) z) w) (sym j) ∙ within-noted k l w y low high e g h i f)
+    pub bad_noted : (n q a b : ℕ) → Refused n q ≡ characters_of k l 0 → a ≡ cap (w.place + 1) → b ≡ cap (a + q)
+        → noted (Refused n b) w ≡ noted (judges (text_format k) l w.place) w
+    unfolding noted
+    bad_noted n q a b f u v = rw (v, u, cap_twice (cap (w.place + 1) + q), cap_more (w.place + 1) q) (within-noted (Refused n q) f)
 
 -- ---- its bytes
 
@@ -331,28 +300,28 @@ length-low l = length-map l low
 pub text_short : (d : List ℕ) (p n : ℕ) (l : List ℕ) → p < length d → length d - p ≤ length l → d ≡ stamped d p (n ∷ map low l)
 text_short d p n l h k = stamped_short d p n (map low l) h (omega (arith, length-low l))
 
-pub text-put : (d e l : List ℕ) (p : ℕ) → ((i : ℕ) → get_or l i 0 < 256) → length l < length d - p → p < length d
+pub text_put : (d e l : List ℕ) (p : ℕ) → ((i : ℕ) → get_or l i 0 < 256) → length l < length d - p → p < length d
     → e ≡ put_at (set d p (length l % 256)) (p + 1) l → e ≡ stamped d p (low (length l) ∷ map low l)
-text-put d e l p b h k f =
+text_put d e l p b h k f =
     let m = low_bytes l (all_bytes l b) in
     f ∙ ap (λ x. put_at x (p + 1) l) (put_one d p (length l % 256) k)
     ∙ put-put d p (length l % 256 ∷ []) l (p + 1) refl (omega arith)
     ∙ rw m (stamped-all d p (length l % 256 ∷ l) (omega arith))
 
-pub text-room : (d : List ℕ) (p v n : ℕ) → n < length d - p → p + 1 + n ≤ length (set d p v)
-text-room d p v n h = omega (arith, length-set d p v)
+pub text_room : (d : List ℕ) (p v n : ℕ) → n < length d - p → p + 1 + n ≤ length (set d p v)
+text_room d p v n h = omega (arith, length-set d p v)
 
-pub text-length : (d e l : List ℕ) (p v : ℕ) → length l < length d - p → e ≡ put_at (set d p v) (p + 1) l → length e ≡ length d
-text-length d e l p v h f =
+pub text_length : (d e l : List ℕ) (p v : ℕ) → length l < length d - p → e ≡ put_at (set d p v) (p + 1) l → length e ≡ length d
+text_length d e l p v h f =
     let s = length-set d p v in
     ap length f ∙ length-put (set d p v) (p + 1) l (omega arith) ∙ s
 
 -- ---- the whole text
 
-pub text-advanced : (w r u v : Walk) (y : Step) (l : List ℕ) → r ≡ noted y w → u ≡ advanced 1 r → v ≡ advanced (length l) u
+pub text_advanced : (w r u v : Walk) (y : Step) (l : List ℕ) → r ≡ noted y w → u ≡ advanced 1 r → v ≡ advanced (length l) u
     → v ≡ advanced (length (low (length l) ∷ map low l)) (noted y w)
 unfolding advanced
-text-advanced w r u v y l e f g =
+text_advanced w r u v y l e f g =
     let p = (noted y w).place in
     let n : p + 1 + length l ≡ p + suc (length (map low l)) = omega (arith, length-low l) in
     let c : cap (cap (p + 1) + length l) ≡ cap (p + suc (length (map low l))) = cap_more (p + 1) (length l) ∙ ap cap n in
@@ -401,7 +370,7 @@ module _ (k : Kind) (ns ts : List ℕ) (w b t : Walk) (n : ℕ) (f : n ≡ (numb
       let v = (text_taken ns ts (cursor_of w)).value in
       let y = judges (text_format k) v w.place in
       let l = map low (length v ∷ v) in
-      missing-entered y l t d m ∙ ap (λ x. entered y l (state x d)) taken_so ∙ text-walked k ns ts (state w d)
+      missing_entered y l t d m ∙ ap (λ x. entered y l (state x d)) taken_so ∙ text-walked k ns ts (state w d)
 
   pub text_there : (r : Walk) (d e l : List ℕ) → l ≡ (text_taken ns ts (cursor_of w)).value
       → state r e ≡ entered (judges (text_format k) l t.place) (map low (length l ∷ l)) (state t d)
@@ -414,12 +383,19 @@ module _ (k : Kind) (ns ts : List ℕ) (w b t : Walk) (n : ℕ) (f : n ≡ (numb
   taken_here : t.missing ≡ false → PartOf ts (cursor_of b) (bytes_at n ts (cursor_of b))
   taken_here m = bytes-part n ts (cursor_of b) (sym (ap (λ (x : Walk). x.missing) h) ∙ m)
 
-  pub taken-order : t.missing ≡ false → b.text ≤ t.text
-  taken-order m = rw h (taken_here m).order
+  pub taken_order : t.missing ≡ false → b.text ≤ t.text
+  taken_order m = rw h (taken_here m).order
 
   pub taken_inside : t.missing ≡ false → t.text ≤ length ts
   taken_inside m = rw h (taken_here m).inside
 
-  pub taken-part : t.missing ≡ false → take (t.text - b.text) (drop b.text ts) ≡ (text_taken ns ts (cursor_of w)).value
+  pub taken_part : t.missing ≡ false → take (t.text - b.text) (drop b.text ts) ≡ (text_taken ns ts (cursor_of w)).value
   unfolding text_taken
-  taken-part m = ap (λ (x : Walk). take (x.text - b.text) (drop b.text ts)) h ∙ (taken_here m).part ∙ rw (g, f)
+  taken_part m = ap (λ (x : Walk). take (x.text - b.text) (drop b.text ts)) h ∙ (taken_here m).part ∙ rw (g, f)
+
+-- not even its length was taken
+pub text_lacking : (k : Kind) (ns ts : List ℕ) (w b : Walk) (d : List ℕ) → b ≡ moved (number_at ns (cursor_of w)).after w → b.missing ≡ true
+    → state b d ≡ walked (text_format k) ns ts (state w d)
+text_lacking k ns ts w b d g m =
+    let n = (number_at ns (cursor_of w)).value in
+    text_missing k ns ts w b b n refl g (bytes_missing n ts b m) d m

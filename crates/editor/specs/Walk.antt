@@ -1,5 +1,5 @@
 -- A walk over the fields of the editor's table in the sheet's order: what the code's one walk finds, and what it puts where there is room. Assumes nothing.
-use Rattle.std.specs.Prelude.{ℕ, zero, suc, ◌+◌, ◌%◌, ◌≤◌, ◌<◌, min, ◌≡◌, List, [], ◌∷◌, map, Bool, true, false, length, drop, leb, eqb}
+use Rattle.std.specs.Prelude.{Option, Some, None, Result, Ok, Err, ℕ, zero, suc, ◌+◌, ◌%◌, ◌≤◌, ◌<◌, min, ◌≡◌, List, [], ◌∷◌, map, Bool, true, false, length, drop, leb, eqb}
 use Rattle.rules.specs.Text.{or_else}
 use Rattle.rules.specs.Style.{style_characters}
 use Rattle.rules.specs.Field.{printable, printable_or_zero}
@@ -7,16 +7,71 @@ use Rattle.rules.specs.Description.{Format, byte, word, only, zero_word, text, c
 use Rattle.rules.specs.Format.{line}
 use Rattle.rules.specs.Editor.{Cursor, number_at, takes}
 use Rattle.rules.specs.Writer.{passes, in_turn, character_judged, characters_judged, judges}
-use Rattle.rules.specs.declared.Step.{Step}
-use Rattle.rules.specs.declared.Step.TheVariants.{At, Refused}
+use Rattle.rules.specs.Steps.{Step, At, Refused}
 use Rattle.buffer.specs.Put.{put_at}
-use Rattle.editor.specs.declared.walk.Walk.{Walk}
+use Rattle.rules.specs.Refusals.{number_of}
+use Rattle.rules.specs.Steps.{refused_as}
+use Rattle.rules.specs.declared.Refusal.{Refusal}
+use Rattle.editor.specs.declared.walk.Walk.{Walk as Going}
+use Rattle.editor.specs.declared.walk.Missing.{Missing}
+use Rattle.editor.specs.declared.walk.Taken.{Taken}
+use Rattle.editor.specs.declared.field.Field.{Field}
 use Rattle.editor.specs.declared.text.Kind.{Kind}
 use Rattle.editor.specs.declared.text.Kind.TheVariants.{Indicator, Style, Line}
 
 -- places are exact up to the longest sheet, and one number stands for all above it
 unfoldable pub cap : ℕ → ℕ
 cap n = min n 32769
+
+-- a walk: how much of the slices it has taken, and whether something was missing; where the next field starts; the first fault's number, 0 for none, and place
+pub record Walk : Type 0 where
+  pub numbers : ℕ
+  pub text : ℕ
+  pub missing : Bool
+  pub place : ℕ
+  pub fault : ℕ
+  pub at : ℕ
+
+-- what the code tells of a fault, and of a walk on which nothing was missing
+abbrev pub number_in : Option Refusal → ℕ
+number_in None = 0
+number_in (Some r) = number_of r.reason
+
+abbrev pub place_in : Option Refusal → ℕ
+place_in None = 0
+place_in (Some r) = r.place
+
+abbrev pub walk_of : Going → Walk
+walk_of w = record { numbers = w.numbers; text = w.text; missing = false; place = w.place; fault = number_in w.fault; at = place_in w.fault }
+
+-- the same, where something was missing behind it
+abbrev pub lacking_of : Missing → Walk
+lacking_of m = record {
+  numbers = m.walk.numbers;
+  text = m.walk.text;
+  missing = true;
+  place = m.walk.place;
+  fault = number_in m.walk.fault;
+  at = place_in m.walk.fault;
+}
+
+-- what a function of the code comes to, whatever it gives beside the walk
+abbrev pub walked_to : Result Going Missing → Walk
+walked_to (Ok w) = walk_of w
+walked_to (Err m) = lacking_of m
+
+abbrev pub taken_to : Result Taken Missing → Walk
+taken_to (Ok t) = walk_of t.next
+taken_to (Err m) = lacking_of m
+
+abbrev pub field_to : Result Field Missing → Walk
+field_to (Ok f) = walk_of f.walk
+field_to (Err m) = lacking_of m
+
+-- a judgement as the code tells it; where a field without a fault ends isn't looked at
+abbrev pub judged_as : Option Refusal → Step
+judged_as None = At 0
+judged_as (Some r) = refused_as r
 
 -- how much of the slices a walk has taken; the same walk with another cursor
 abbrev pub cursor_of : Walk → Cursor

@@ -1,15 +1,20 @@
 // The fields of a sheet that are numbers: taken from the editor's numbers, judged, put where there is room.
-ghost use Rattle.std.specs.Prelude.{◌≡◌, []};
+#![tactic(auto, using(crate::proofs::Laws::numbers))]
+
+ghost use Rattle.std.specs.Prelude.{◌≡◌, [], ◌&&◌, IfOk};
 ghost use Rattle.rules.specs.Field as field;
 ghost use Rattle.rules.specs.Description as description;
 ghost use Rattle.rules.specs.Format as format;
 ghost use Rattle.rules.specs.Editor as slices;
-ghost use Rattle.editor.specs.Walk.{state, walked, byte_entered, cursor_of};
+ghost use Rattle.rules.specs.Sheet.{most_columns};
+ghost use Rattle.rules.specs.Writer as writer;
+ghost use Rattle.rules.specs.Refusals.{number_of};
+ghost use Rattle.editor.specs.Walk.{state, walked, byte_entered, cursor_of, walk_of, walked_to, field_to, judged_as};
 ghost use Rattle.editor.specs.Walk as definition;
 
 use super::walk;
-use super::walk::Walk;
-use rules::MOST_COLUMNS;
+use super::walk::{Missing, Walk};
+use rules::{MOST_COLUMNS, Reason, Refusal};
 
 // The most columns of a sheet as one of the editor's numbers.
 pub const MOST: u16 = MOST_COLUMNS as u16;
@@ -21,22 +26,16 @@ pub struct Field {
     pub walk: Walk,
 }
 
-pub fn between(value: u16, low: u16, high: u16) -> bool
+fn between(value: u16, low: u16, high: u16) -> bool
     ensures { result ≡ field.between low high value }
 {
-    if value < low {
-        return false;
-    }
-    value <= high
+    low <= value && value <= high
 }
 
-pub fn printable_or_zero(value: u16) -> bool
+fn printable_or_zero(value: u16) -> bool
     ensures { result ≡ field.printable_or_zero value }
 {
-    if value == 0 {
-        return true;
-    }
-    between(value, 32, 126)
+    value == 0 || between(value, 32, 126)
 }
 
 // One byte from low to high.
@@ -46,20 +45,19 @@ pub fn byte_between(
     from: Walk,
     low: u16,
     high: u16,
-    fault: u64,
-) -> Field
-    ensures sheet_after { state result.walk sheet.new
-        ≡ byte_entered (field.between low high) fault numbers.now (state from sheet.old) }
-    ensures value { result.value ≡ (slices.number_at numbers.now (cursor_of from)).value }
+    reason: Reason,
+) -> Result<Field, Missing>
+    ensures sheet_after { state (field_to result) sheet.new
+        ≡ byte_entered (field.between low high) (number_of reason) numbers.now (state (walk_of from) sheet.old) }
+    ensures value { IfOk result (λ f. f.value ≡ (slices.number_at numbers.now (cursor_of (walk_of from))).value) }
 {
-    let taken = walk::number(numbers, from);
-    let value = taken.value;
-    let next = taken.next;
-    let good = between(value, low, high);
-    Field {
-        value,
-        walk: walk::enter_byte(sheet, next, value, good, fault),
-    }
+    let taken = walk::number(numbers, from)?;
+    let good = between(taken.value, low, high);
+    let fault = walk::fault_unless(good, reason, taken.next.place);
+    Ok(Field {
+        value: taken.value,
+        walk: walk::enter_byte(sheet, taken.next, taken.value, fault),
+    })
 }
 
 // The same where only the walk matters.
@@ -69,35 +67,31 @@ pub fn within(
     from: Walk,
     low: u16,
     high: u16,
-    fault: u64,
-) -> Walk
-    ensures { state result sheet.new
-        ≡ byte_entered (field.between low high) fault numbers.now (state from sheet.old) }
+    reason: Reason,
+) -> Result<Walk, Missing>
+    ensures { state (walked_to result) sheet.new
+        ≡ byte_entered (field.between low high) (number_of reason) numbers.now (state (walk_of from) sheet.old) }
 {
-    let read = byte_between(numbers, sheet, from, low, high, fault);
-    read.walk
+    Ok(byte_between(numbers, sheet, from, low, high, reason)?.walk)
 }
 
 // A printable byte, or 0 for none.
-pub fn optional(numbers: &[u16], sheet: &mut [u8], from: Walk) -> Walk
-    ensures { state result sheet.new ≡ byte_entered field.printable_or_zero 6 numbers.now (state from sheet.old) }
+pub fn optional(numbers: &[u16], sheet: &mut [u8], from: Walk) -> Result<Walk, Missing>
+    ensures { state (walked_to result) sheet.new ≡ byte_entered field.printable_or_zero 6 numbers.now (state (walk_of from) sheet.old) }
 {
-    let taken = walk::number(numbers, from);
-    let value = taken.value;
-    let next = taken.next;
-    let good = printable_or_zero(value);
-    walk::enter_byte(sheet, next, value, good, 6)
+    let taken = walk::number(numbers, from)?;
+    let good = printable_or_zero(taken.value);
+    let fault = walk::fault_unless(good, Reason::BadCharacter, taken.next.place);
+    Ok(walk::enter_byte(sheet, taken.next, taken.value, fault))
 }
 
 // Two bytes, up to `most`.
-pub fn word_to(numbers: &[u16], sheet: &mut [u8], from: Walk, most: u16) -> Walk
-    ensures { state result sheet.new ≡ walked (description.word_to most) numbers.now [] (state from sheet.old) }
+pub fn word_to(numbers: &[u16], sheet: &mut [u8], from: Walk, most: u16) -> Result<Walk, Missing>
+    ensures { state (walked_to result) sheet.new ≡ walked (description.word_to most) numbers.now [] (state (walk_of from) sheet.old) }
 {
-    let taken = walk::number(numbers, from);
-    let value = taken.value;
-    let next = taken.next;
-    let place = next.place;
-    walk::enter_word(sheet, next, value, value <= most, 5, place)
+    let taken = walk::number(numbers, from)?;
+    let fault = walk::fault_unless(taken.value <= most, Reason::BeyondLimits, taken.next.place);
+    Ok(walk::enter_word(sheet, taken.next, taken.value, fault))
 }
 
 // Where an unused width that isn't 0 is refused: at its low byte, or at its high byte where the low one is 0.
@@ -111,39 +105,46 @@ fn unused_place(place: usize, value: u16) -> usize
 }
 
 // Two bytes of an unused width.
-pub fn zero_word(numbers: &[u16], sheet: &mut [u8], from: Walk) -> Walk
-    ensures { state result sheet.new ≡ walked description.zero_word numbers.now [] (state from sheet.old) }
+pub fn zero_word(numbers: &[u16], sheet: &mut [u8], from: Walk) -> Result<Walk, Missing>
+    ensures { state (walked_to result) sheet.new ≡ walked description.zero_word numbers.now [] (state (walk_of from) sheet.old) }
 {
-    let taken = walk::number(numbers, from);
-    let value = taken.value;
-    let next = taken.next;
-    let place = unused_place(next.place, value);
-    walk::enter_word(sheet, next, value, value == 0, 8, place)
+    let taken = walk::number(numbers, from)?;
+    let place = unused_place(taken.next.place, taken.value);
+    let fault = walk::fault_unless(taken.value == 0, Reason::NotZero, place);
+    Ok(walk::enter_word(sheet, taken.next, taken.value, fault))
 }
 
-// Beyond the limit it is 5, and 7 only where the limit is kept and the columns are fewer.
-fn count_fault(limited: bool) -> u64
-    ensures { result ≡ definition.count_fault limited }
+// Beyond the limit it is `BeyondLimits`, and `TooManyCells` only where the limit is kept and the columns are fewer.
+fn count_fault(value: u16, columns: u16, place: usize) -> Option<Refusal>
+    ensures { judged_as result ≡ writer.passes (field.between 0 most_columns value && field.between 0 columns value)
+        (definition.count_fault (field.between 0 most_columns value)) place 0 }
 {
-    if limited {
-        return 7;
+    if MOST < value {
+        let reason = Reason::BeyondLimits;
+        return Some(Refusal { reason, place });
     }
-    5
+    if columns < value {
+        let reason = Reason::TooManyCells;
+        return Some(Refusal { reason, place });
+    }
+    None
 }
 
 // A cell count.
-pub fn cell_count(numbers: &[u16], sheet: &mut [u8], from: Walk, columns: u16) -> Field
-    ensures sheet_after { state result.walk sheet.new
-        ≡ walked (format.cell_count columns) numbers.now [] (state from sheet.old) }
-    ensures value { result.value ≡ (slices.number_at numbers.now (cursor_of from)).value }
+pub fn cell_count(
+    numbers: &[u16],
+    sheet: &mut [u8],
+    from: Walk,
+    columns: u16,
+) -> Result<Field, Missing>
+    ensures sheet_after { state (field_to result) sheet.new
+        ≡ walked (format.cell_count columns) numbers.now [] (state (walk_of from) sheet.old) }
+    ensures value { IfOk result (λ f. f.value ≡ (slices.number_at numbers.now (cursor_of (walk_of from))).value) }
 {
-    let taken = walk::number(numbers, from);
-    let value = taken.value;
-    let next = taken.next;
-    let limited = between(value, 0, MOST);
-    let good = numbers::both(limited, between(value, 0, columns));
-    Field {
-        value,
-        walk: walk::enter_byte(sheet, next, value, good, count_fault(limited)),
-    }
+    let taken = walk::number(numbers, from)?;
+    let fault = count_fault(taken.value, columns, taken.next.place);
+    Ok(Field {
+        value: taken.value,
+        walk: walk::enter_byte(sheet, taken.next, taken.value, fault),
+    })
 }

@@ -1,13 +1,16 @@
 // The texts of the editor's table: a length from the numbers, the bytes from the other slice.
+#![tactic(auto, using(crate::proofs::Laws::texts))]
+
 ghost use Rattle.std.specs.Prelude.{◌≡◌, ◌∷◌, map, ◌<◌, length};
 ghost use Rattle.rules.specs.Editor as slices;
+ghost use Rattle.rules.specs.Steps.{read_to};
 ghost use Rattle.rules.specs.Writer as writer;
-ghost use Rattle.editor.specs.Walk.{state, walked, entered, cursor_of, moved, noted, stamped};
+ghost use Rattle.editor.specs.Walk.{state, walked, entered, cursor_of, moved, noted, stamped, walk_of, walked_to};
 ghost use Rattle.editor.specs.Walk as definition;
 
-use super::walk::Walk;
-use super::{field, walk};
-use rules::{STYLE_CHARACTERS, Step};
+use super::walk;
+use super::walk::{Missing, Walk};
+use rules::{Reason, Refusal, STYLE_CHARACTERS};
 
 // What a text is: the indicator, the style, or a line of a cell.
 #[derive(Clone, Copy)]
@@ -18,114 +21,80 @@ pub enum Kind {
 }
 
 // The next n bytes of the text.
-fn bytes(text: &[u8], from: Walk, n: u16) -> Walk
-    ensures { result ≡ moved (slices.bytes_at n text.now (cursor_of from)).after from }
+fn bytes(text: &[u8], from: Walk, n: u16) -> Result<Walk, Missing>
+    ensures { walked_to result ≡ moved (slices.bytes_at n text.now (cursor_of (walk_of from))).after (walk_of from) }
 {
-    let start = from.text;
-    let size = n as usize;
-    if from.missing {
-        return walk::lacking(from);
+    let size = usize::from(n);
+    if text.len() < from.text || text.len() - from.text < size {
+        return Err(Missing { walk: from });
     }
-    if text.len() < start {
-        return walk::lacking(from);
-    }
-    if text.len() - start < size {
-        return walk::lacking(from);
-    }
-    Walk {
-        numbers: from.numbers,
-        text: start + size,
-        missing: false,
-        place: from.place,
-        fault: from.fault,
-        at: from.at,
-    }
+    Ok(Walk {
+        text: from.text + size,
+        ..from
+    })
 }
 
 fn letter(value: u8, zero: bool) -> bool
     ensures { result ≡ definition.letter zero value }
 {
-    let wide = numbers::wide(value);
-    if zero {
-        return field::printable_or_zero(wide);
-    }
-    field::between(wide, 32, 126)
+    zero && value == 0 || sheet::text::is_printable(value)
 }
 
 // The first character that is refused, or the end.
-fn characters(part: &[u8], zero: bool) -> Step
-    ensures { result ≡ writer.in_turn (writer.character_judged (definition.letter zero)) part.now 0 }
+fn characters(part: &[u8], zero: bool) -> Result<usize, Refusal>
+    ensures { read_to result ≡ writer.in_turn (writer.character_judged (definition.letter zero)) part.now 0 }
 {
-    let mut i = 0;
-    while i < part.len() {
+    for i in 0..part.len() {
         if !letter(part[i], zero) {
-            return Step::Refused {
-                number: 6,
+            return Err(Refusal {
+                reason: Reason::BadCharacter,
                 place: i,
-            };
+            });
         }
-        i += 1;
     }
-    Step::At(i)
+    Ok(part.len())
 }
 
 // What the character at `at` of a line comes to. C2 begins a pair, unless it is the last byte: no B0 can follow it there.
-fn character(part: &[u8], at: usize) -> Step
+fn character(part: &[u8], at: usize) -> Result<usize, Refusal>
     requires { at < length part.now }
-    ensures { definition.CharacterIs part.now at result }
+    ensures { definition.CharacterIs part.now at (read_to result) }
 {
-    let value = part[at];
-    if letter(value, false) {
-        return Step::At(at + 1);
+    if sheet::text::is_printable(part[at]) {
+        return Ok(at + 1);
     }
-    if value != 194 {
-        return Step::Refused {
-            number: 6,
-            place: at,
-        };
+    if part[at] == 0xC2 && part.len() - at >= 2 && part[at + 1] == 0xB0 {
+        return Ok(at + 2);
     }
-    if part.len() - at < 2 {
-        return Step::Refused {
-            number: 6,
-            place: at,
-        };
-    }
-    if part[at + 1] != 176 {
-        return Step::Refused {
-            number: 6,
-            place: at,
-        };
-    }
-    Step::At(at + 2)
+    Err(Refusal {
+        reason: Reason::BadCharacter,
+        place: at,
+    })
 }
 
 // The first character of a line that is refused, or the end.
-fn pairs(part: &[u8]) -> Step
-    ensures { result ≡ writer.characters_judged part.now 0 }
+fn pairs(part: &[u8]) -> Result<usize, Refusal>
+    ensures { read_to result ≡ writer.characters_judged part.now 0 }
 {
     let mut i = 0;
     while i < part.len() {
-        let step = character(part, i);
-        let Step::At(next) = step else {
-            return step;
-        };
-        i = next;
+        i = character(part, i)?;
     }
-    Step::At(i)
+    Ok(i)
 }
 
 // The same. Most lines have no pair: all bytes are tested first, many at a time.
-fn line_characters(part: &[u8]) -> Step
-    ensures { result ≡ writer.characters_judged part.now 0 }
+fn line_characters(part: &[u8]) -> Result<usize, Refusal>
+    ensures { read_to result ≡ writer.characters_judged part.now 0 }
 {
-    if sheet::text::all_printable(part, 0, part.len()) {
-        return Step::At(part.len());
+    if sheet::text::all_printable(part) {
+        return Ok(part.len());
     }
     pairs(part)
 }
 
-fn characters_of(part: &[u8], kind: Kind) -> Step
-    ensures { result ≡ definition.characters_of kind part.now 0 }
+fn characters_of(part: &[u8], kind: Kind) -> Result<usize, Refusal>
+    ensures { read_to result ≡ definition.characters_of kind part.now 0 }
 {
     match kind {
         Kind::Indicator => characters(part, false),
@@ -138,9 +107,8 @@ fn least(kind: Kind) -> usize
     ensures { result ≡ definition.least kind }
 {
     match kind {
-        Kind::Indicator => 0,
+        Kind::Indicator | Kind::Line => 0,
         Kind::Style => STYLE_CHARACTERS,
-        Kind::Line => 0,
     }
 }
 
@@ -156,24 +124,26 @@ fn most(kind: Kind) -> usize
 
 // The first fault of a text: its length's, or a character's, which stands behind the length.
 fn judge(part: &[u8], from: Walk, kind: Kind) -> Walk
-    ensures { result ≡ noted (writer.judges (definition.text_format kind) part.now from.place) from }
+    ensures { walk_of result ≡ noted (writer.judges (definition.text_format kind) part.now from.place) (walk_of from) }
 {
-    let place = from.place;
     let n = part.len();
-    if n < least(kind) {
-        return walk::note(from, false, 5, place);
+    if n < least(kind) || most(kind) < n {
+        let fault = Refusal {
+            reason: Reason::BeyondLimits,
+            place: from.place,
+        };
+        return walk::note(from, Some(fault));
     }
-    if most(kind) < n {
-        return walk::note(from, false, 5, place);
-    }
-    let Step::Refused { number, place: k } = characters_of(part, kind) else {
-        return walk::note(from, true, 0, 0);
+    let Err(fault) = characters_of(part, kind) else {
+        return from;
     };
+    let place = walk::further(walk::further(from.place, 1), fault.place);
     walk::note(
         from,
-        false,
-        number,
-        walk::further(walk::further(place, 1), k),
+        Some(Refusal {
+            reason: fault.reason,
+            place,
+        }),
     )
 }
 
@@ -193,13 +163,10 @@ fn put(sheet: &mut [u8], at: usize, part: &[u8])
 
 // A text that was taken.
 fn enter(sheet: &mut [u8], part: &[u8], from: Walk, kind: Kind) -> Walk
-    ensures { state result sheet.new
+    ensures { state (walk_of result) sheet.new
         ≡ entered (writer.judges (definition.text_format kind) part.now from.place)
-        (map definition.low (length part.now ∷ part.now)) (state from sheet.old) }
+        (map definition.low (length part.now ∷ part.now)) (state (walk_of from) sheet.old) }
 {
-    if from.missing {
-        return from;
-    }
     put(sheet, from.place, part);
     let judged = judge(part, from, kind);
     let first = walk::advance(judged, 1);
@@ -207,17 +174,18 @@ fn enter(sheet: &mut [u8], part: &[u8], from: Walk, kind: Kind) -> Walk
 }
 
 // A text: its length, and as many bytes.
-pub fn text(numbers: &[u16], text: &[u8], sheet: &mut [u8], from: Walk, kind: Kind) -> Walk
-    ensures { state result sheet.new
-        ≡ walked (definition.text_format kind) numbers.now text.now (state from sheet.old) }
+pub fn text(
+    numbers: &[u16],
+    text: &[u8],
+    sheet: &mut [u8],
+    from: Walk,
+    kind: Kind,
+) -> Result<Walk, Missing>
+    ensures { state (walked_to result) sheet.new
+        ≡ walked (definition.text_format kind) numbers.now text.now (state (walk_of from) sheet.old) }
 {
-    let length = walk::number(numbers, from);
-    let before = length.next;
-    let taken = bytes(text, before, length.value);
-    if taken.missing {
-        return taken;
-    }
-    let start = before.text;
-    let end = taken.text;
-    enter(sheet, &text[start..end], taken, kind)
+    let length = walk::number(numbers, from)?;
+    let start = length.next.text;
+    let taken = bytes(text, length.next, length.value)?;
+    Ok(enter(sheet, &text[start..taken.text], taken, kind))
 }

@@ -1,129 +1,112 @@
 // A walk over the fields of the editor's table: what is taken of the slices, where the next field of the sheet starts, the first fault.
 // The same walk judges and writes. It puts bytes only where the buffer that it is lent has room, so that the first run is lent none.
-ghost use Rattle.std.specs.Prelude.{◌≡◌, cond, [], ◌∷◌, map, ◌+◌, ◌%◌};
+#![tactic(auto, using(crate::proofs::Laws::walks))]
+
+ghost use Rattle.std.specs.Prelude.{◌≡◌, [], ◌∷◌, map, ◌+◌, ◌%◌, IfOk};
 ghost use Rattle.rules.specs.Description as description;
 ghost use Rattle.rules.specs.Editor as slices;
+ghost use Rattle.rules.specs.Refusals.{number_of};
 ghost use Rattle.rules.specs.Writer as writer;
-ghost use Rattle.editor.specs.Walk.{state, entered, cursor_of, moved, noted, advanced, stamped};
+ghost use Rattle.rules.specs.declared.Reason.TheVariants.{Ended};
+ghost use Rattle.editor.specs.Walk.{state, entered, cursor_of, moved, noted, advanced, stamped, walk_of, taken_to, judged_as};
 ghost use Rattle.editor.specs.Walk as definition;
 
-// `missing`: a number or text was missing, and nothing is taken any more. `fault`: the first fault's number, 0 for none; `at`: its place.
+use rules::{Reason, Refusal};
+
 #[derive(Clone, Copy)]
 pub struct Walk {
     pub numbers: usize,
     pub text: usize,
-    pub missing: bool,
     pub place: usize,
-    pub fault: u64,
-    pub at: usize,
+    pub fault: Option<Refusal>,
 }
 
-// A number that was taken; 0 where it was missing.
+// A number or a text is missing: what was walked before it.
+#[derive(Clone, Copy)]
+pub struct Missing {
+    pub walk: Walk,
+}
+
+impl From<Missing> for Refusal {
+    ghost from_gives = { λ m r. (r.reason ≡ Ended) × (r.place ≡ m.walk.numbers) };
+
+    fn from(missing: Missing) -> Refusal {
+        Refusal {
+            reason: Reason::Ended,
+            place: missing.walk.numbers,
+        }
+    }
+}
+
+// A number that was taken.
 #[derive(Clone, Copy)]
 pub struct Taken {
     pub value: u16,
     pub next: Walk,
 }
 
-// Where something was missing.
-pub fn lacking(from: Walk) -> Walk
-    ensures { result ≡ moved (slices.lacking (cursor_of from)) from }
-{
-    Walk {
-        numbers: from.numbers,
-        text: from.text,
-        missing: true,
-        place: from.place,
-        fault: from.fault,
-        at: from.at,
-    }
-}
-
 // The next number.
-pub fn number(numbers: &[u16], from: Walk) -> Taken
-    ensures value { result.value ≡ (slices.number_at numbers.now (cursor_of from)).value }
-    ensures next { result.next ≡ moved (slices.number_at numbers.now (cursor_of from)).after from }
+pub fn number(numbers: &[u16], from: Walk) -> Result<Taken, Missing>
+    ensures value { IfOk result (λ t. t.value ≡ (slices.number_at numbers.now (cursor_of (walk_of from))).value) }
+    ensures next { taken_to result ≡ moved (slices.number_at numbers.now (cursor_of (walk_of from))).after (walk_of from) }
 {
-    if from.missing {
-        return Taken {
-            value: 0,
-            next: lacking(from),
-        };
-    }
-    let k = from.numbers;
-    if numbers.len() <= k {
-        return Taken {
-            value: 0,
-            next: lacking(from),
-        };
-    }
-    Taken {
-        value: numbers[k],
+    let Some(&value) = numbers.get(from.numbers) else {
+        return Err(Missing { walk: from });
+    };
+    Ok(Taken {
+        value,
         next: Walk {
-            numbers: k + 1,
-            text: from.text,
-            missing: false,
-            place: from.place,
-            fault: from.fault,
-            at: from.at,
+            numbers: from.numbers + 1,
+            ..from
         },
-    }
+    })
 }
 
 // A place further on, exact up to the longest sheet.
 pub fn further(place: usize, more: usize) -> usize
     ensures { result ≡ definition.cap (place + more) }
 {
-    if 32768 < place {
-        return 32769;
-    }
-    if 32768 - place < more {
-        return 32769;
-    }
-    place + more
+    place.saturating_add(more).min(32769)
 }
 
-// How many items are left to walk: none where something was missing.
-pub fn still(from: Walk, left: u16) -> u16
-    ensures { result ≡ cond from.missing 0 left }
+// The fault of a field that starts at `place`, unless its value is good.
+pub fn fault_unless(good: bool, reason: Reason, place: usize) -> Option<Refusal>
+    ensures { judged_as result ≡ writer.passes good (number_of reason) place 0 }
 {
-    if from.missing {
-        return 0;
+    if good {
+        None
+    } else {
+        Some(Refusal { reason, place })
     }
-    left
 }
 
 // The first fault is kept.
-pub fn note(from: Walk, good: bool, fault: u64, place: usize) -> Walk
-    ensures { result ≡ noted (writer.passes good fault place 0) from }
+pub fn note(from: Walk, fault: Option<Refusal>) -> Walk
+    ensures { walk_of result ≡ noted (judged_as fault) (walk_of from) }
 {
-    if good {
+    let Some(first) = fault else {
+        return from;
+    };
+    if from.fault.is_some() {
         return from;
     }
-    if from.fault != 0 {
-        return from;
-    }
+    let fault = Refusal {
+        reason: first.reason,
+        place: further(first.place, 0),
+    };
     Walk {
-        numbers: from.numbers,
-        text: from.text,
-        missing: from.missing,
-        place: from.place,
-        fault,
-        at: further(place, 0),
+        fault: Some(fault),
+        ..from
     }
 }
 
 // The next field starts so many bytes further on.
 pub fn advance(from: Walk, size: usize) -> Walk
-    ensures { result ≡ advanced size from }
+    ensures { walk_of result ≡ advanced size (walk_of from) }
 {
     Walk {
-        numbers: from.numbers,
-        text: from.text,
-        missing: from.missing,
         place: further(from.place, size),
-        fault: from.fault,
-        at: from.at,
+        ..from
     }
 }
 
@@ -151,35 +134,18 @@ pub fn put_word(sheet: &mut [u8], at: usize, value: u16)
 }
 
 // A field of one byte that was taken.
-pub fn enter_byte(sheet: &mut [u8], from: Walk, value: u16, good: bool, fault: u64) -> Walk
-    ensures { state result sheet.new
-        ≡ entered (writer.passes good fault from.place 0) (value % 256 ∷ []) (state from sheet.old) }
+pub fn enter_byte(sheet: &mut [u8], from: Walk, value: u16, fault: Option<Refusal>) -> Walk
+    ensures { state (walk_of result) sheet.new ≡ entered (judged_as fault) (value % 256 ∷ []) (state (walk_of from) sheet.old) }
 {
-    if from.missing {
-        return from;
-    }
-    let place = from.place;
-    put_byte(sheet, place, value);
-    let noted = note(from, good, fault, place);
-    advance(noted, 1)
+    put_byte(sheet, from.place, value);
+    advance(note(from, fault), 1)
 }
 
-// A field of two bytes that was taken; a fault has the place `at`.
-pub fn enter_word(
-    sheet: &mut [u8],
-    from: Walk,
-    value: u16,
-    good: bool,
-    fault: u64,
-    at: usize,
-) -> Walk
-    ensures { state result sheet.new
-        ≡ entered (writer.passes good fault at 0) (map definition.low (description.writes description.word value)) (state from sheet.old) }
+// A field of two bytes that was taken.
+pub fn enter_word(sheet: &mut [u8], from: Walk, value: u16, fault: Option<Refusal>) -> Walk
+    ensures { state (walk_of result) sheet.new
+        ≡ entered (judged_as fault) (map definition.low (description.writes description.word value)) (state (walk_of from) sheet.old) }
 {
-    if from.missing {
-        return from;
-    }
     put_word(sheet, from.place, value);
-    let noted = note(from, good, fault, at);
-    advance(noted, 2)
+    advance(note(from, fault), 2)
 }

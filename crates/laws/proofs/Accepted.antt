@@ -16,8 +16,7 @@ use Rattle.rules.specs.Description.{Format, Faithful, reads}
 use Rattle.rules.specs.Format.{width, column, line, cell_by, cell, row_by, row, table_by, table, sheet_by, sheet}
 use Rattle.rules.specs.Places.{table_here, end_place}
 use Rattle.rules.specs.Steps.{step_of, read_from, after}
-use Rattle.rules.specs.declared.Step.{Step}
-use Rattle.rules.specs.declared.Step.TheVariants.{At, Refused}
+use Rattle.rules.specs.Steps.{Step, At, Refused}
 use Rattle.rules.specs.Limits.{Printable, Optional, WidthLimits, ColumnLimits, LineLimits, CellLimits, RowLimits, TableLimits}
 use Rattle.rules.specs.Calls.{check, check_of}
 use Rattle.laws.proofs.Lists.{all_imp}

@@ -14,8 +14,7 @@ use Rattle.rules.specs.Field.{between, printable, printable_or_zero}
 use Rattle.rules.specs.Description.{Fault, wrong_edition, unknown_code, beyond_limits, not_zero, number_of}
 use Rattle.rules.specs.Description.{Format, byte, word, only, zero_word, text, cell_text, listed, give, next, within, optional, writes}
 use Rattle.rules.specs.Format.{width, column, line, cell_by, cell, row_by, row, table_by, table}
-use Rattle.rules.specs.declared.Step.{Step}
-use Rattle.rules.specs.declared.Step.TheVariants.{At, Refused}
+use Rattle.rules.specs.Steps.{Step, At, Refused}
 use Rattle.rules.specs.Limits.{IsByte, IsText, nothing, plain, degree, Printable, Optional}
 use Rattle.rules.specs.Writer.{thence, passes, in_turn, character_judged, characters_judged, judges}
 use Rattle.rules.proofs.Parts.{part}

@@ -18,8 +18,7 @@ use Rattle.rules.specs.Description as description
 use Rattle.rules.specs.Limits.{IsText, nothing, plain, degree}
 use Rattle.rules.specs.Description.{past, parts, text_at, line_stop, Extent, stands, here, stop}
 use Rattle.rules.specs.Steps.{step_of, read_from, here_of, byte_of, times, after}
-use Rattle.rules.specs.declared.Step.{Step}
-use Rattle.rules.specs.declared.Step.TheVariants.{At, Refused}
+use Rattle.rules.specs.Steps.{Step, At, Refused}
 
 -- every refusal from the input is numbered 1 to 9
 abbrev pub Number : ℕ → Type 0

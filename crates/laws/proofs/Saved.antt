@@ -14,8 +14,7 @@ use Rattle.rules.specs.Field.{got}
 use Rattle.rules.specs.Description.{writes}
 use Rattle.rules.specs.Format.{table, sheet, written}
 use Rattle.rules.specs.Limits.{IsByte}
-use Rattle.rules.specs.declared.Step.{Step}
-use Rattle.rules.specs.declared.Step.TheVariants.{At, Refused}
+use Rattle.rules.specs.Steps.{Step, At, Refused}
 use Rattle.rules.specs.Writer.{judges, judged, save_of, save, save_taken, write_sheet}
 use Rattle.rules.specs.Calls.{Written, not_printed, over, put_or}
 use Rattle.rules.specs.Editor.{Taken, start, takes, numbers_of, text_of}

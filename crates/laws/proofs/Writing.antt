@@ -21,8 +21,7 @@ use Rattle.rules.specs.Description as description
 use Rattle.rules.specs.Limits.{IsByte}
 use Rattle.rules.specs.Format.{width, column, line, cell_by, cell, row_by, row, table_by, table, sheet_by, sheet, written}
 use Rattle.rules.specs.Places.{table_here, end_place}
-use Rattle.rules.specs.declared.Step.{Step}
-use Rattle.rules.specs.declared.Step.TheVariants.{At, Refused}
+use Rattle.rules.specs.Steps.{Step, At, Refused}
 use Rattle.rules.specs.Writer.{thence, passes, in_turn, length_judged, character_judged, characters_judged, judges, judged}
 use Rattle.rules.proofs.Parts.{Whole, table_whole}
 use Rattle.laws.proofs.Lists.{all_of, all_imp, all_get_d}

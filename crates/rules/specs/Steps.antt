@@ -1,10 +1,23 @@
 -- Where a reading leaves off, without its values: what code that goes by positions computes. Assumes nothing.
-use Rattle.std.specs.Prelude.{ℕ, zero, suc, List, []}
+use Rattle.std.specs.Prelude.{ℕ, zero, suc, List, [], Result, Ok, Err}
 use Rattle.rules.specs.Field.{Read, got, refused, Reader, byte_at}
 use Rattle.rules.specs.Description.{Format, byte, word, only, zero_word, text, cell_text, listed, give, next, text_length, character, characters, reads, here}
--- the next field's position, or the refusal, as src/lib.rt declares it
-pub use Rattle.rules.specs.declared.Step.{Step}
-pub use Rattle.rules.specs.declared.Step.TheVariants.{At, Refused}
+use Rattle.rules.specs.Refusals.{number_of}
+use Rattle.rules.specs.declared.Refusal.{Refusal}
+
+-- the next field's position; or a refusal's number and place
+pub data Step : Type 0 where
+  At : ℕ → Step
+  Refused : ℕ → ℕ → Step
+
+-- a refusal as the code tells it
+abbrev pub refused_as : Refusal → Step
+refused_as r = Refused (number_of r.reason) r.place
+
+-- what the code's reading comes to: where it ended, or its refusal
+abbrev pub read_to : Result ℕ Refusal → Step
+read_to (Ok p) = At p
+read_to (Err r) = refused_as r
 
 abbrev pub step_of : {A : Type 0} → Read A → Step
 step_of (got a p) = At p

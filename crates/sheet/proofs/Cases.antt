@@ -1,43 +1,34 @@
--- The small functions that go by cases, one law for each way out. Assumes nothing.
-use Prim.Native.Nat.{ℕ, ◌≤◌}
-use mathlib.Core.Path.{◌≡◌}
-use mathlib.Core.Bool.{false, cond}
+-- Whether a reading stopped at a C2. Assumes nothing.
+use mathlib.Core.Path.{◌≡◌, refl}
 use mathlib.Core.List.{List}
-use lib.ListN.{length, get_or, get_or-eq_default}
+use mathlib.Core.Bool.{Bool, ◌&&◌}
+use Prim.Native.Nat.{ℕ}
 use lib.Dec.{eqb}
-use borrow.Author.Tests.{eq-eqb, ne_eqb}
-use Rattle.sheet.specs.Steps.{answer_of, at_first}
-use Rattle.rules.specs.declared.Step.{Step}
-use Rattle.rules.specs.declared.Step.TheVariants.{At, Refused}
+use lib.ListN.{get_or}
+use denote.Enum.Bare.{sameb}
+use Rattle.rules.specs.contracts.Reason.{the_type}
+use Rattle.rules.specs.declared.Reason.{Reason}
+use Rattle.rules.specs.declared.Reason.TheVariants.{Ended, TooLong, WrongEdition, UnknownCode, BeyondLimits, BadCharacter, TooManyCells, NotZero}
+use Rattle.rules.specs.declared.Reason.TheVariants.{LeftOver, PageOverBuffer, NoSuchLine, SheetOverBuffer}
+use Rattle.rules.specs.declared.Refusal.{Refusal}
+use Rattle.rules.specs.Refusals.{number_of}
+use Rattle.rules.specs.Steps.{refused_as}
+use Rattle.sheet.specs.Steps.{at_first}
 
-pub most-fixed : (u : ℕ) → u ≡ 0 → ◌≡◌ {A = ℕ} 400 (cond (eqb u 0) 400 65535)
-most-fixed u e = rw (eq-eqb u 0 e)
+pub is_character : (r : Reason) → sameb the_type r BadCharacter ≡ eqb (number_of r) 6
+is_character Ended = refl
+is_character TooLong = refl
+is_character WrongEdition = refl
+is_character UnknownCode = refl
+is_character BeyondLimits = refl
+is_character BadCharacter = refl
+is_character TooManyCells = refl
+is_character NotZero = refl
+is_character LeftOver = refl
+is_character PageOverBuffer = refl
+is_character NoSuchLine = refl
+is_character SheetOverBuffer = refl
 
-pub most-percent : (u : ℕ) → (u ≡ 0 → ⊥) → ◌≡◌ {A = ℕ} 65535 (cond (eqb u 0) 400 65535)
-most-percent u h = rw (ne_eqb u 0 h)
-
-pub answer_accepted : (x : Step) (p : ℕ) → x ≡ At p → record { number = 0; place = 0 } ≡ answer_of x
-answer_accepted x p e = rw e
-
-pub answer_refused : (x : Step) (n p : ℕ) → x ≡ Refused n p → record { number = n; place = p } ≡ answer_of x
-answer_refused x n p e = rw e
-
--- a reading that stopped at a C2
-pub first_on : (s : List ℕ) (x : Step) (p : ℕ) → x ≡ At p → false ≡ at_first s x
+pub first_there : (s : List ℕ) (r : Refusal) → at_first s (refused_as r) ≡ (eqb (number_of r.reason) 6 && eqb (get_or s r.place 0) 194)
 unfolding at_first
-first_on s x p e = rw e
-
-module _ (s : List ℕ) (x : Step) (n p : ℕ) (e : x ≡ Refused n p) where
-  pub first-other : (n ≡ 6 → ⊥) → false ≡ at_first s x
-  unfolding at_first
-  first-other h = rw (e, ne_eqb n 6 h)
-
-  pub first_past : n ≡ 6 → length s ≤ p → false ≡ at_first s x
-  unfolding at_first
-  first_past h k = rw (e, h, get_or-eq_default s 0 k)
-
-  pub first_there : n ≡ 6 → eqb (get_or s p 0) 194 ≡ at_first s x
-  unfolding at_first
-  first_there h = rw (e, h)
-
-pub ruleset cases = (most-fixed, most-percent, answer_accepted, answer_refused)
+first_there s r = refl

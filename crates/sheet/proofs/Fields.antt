@@ -1,240 +1,152 @@
--- What each reader of one field comes to, one law for each way out of the code: a premise stands as the code tests it. Assumes nothing.
+-- What each reader of one field comes to, one law for each way out of the code. Assumes nothing.
 use Prim.Native.Nat.{ℕ, ◌+◌, ◌-◌, ◌*◌, ◌%◌, ◌<◌, ◌≤◌}
 use mathlib.Core.Path.{◌≡◌, refl, sym, ◌∙◌}
 use mathlib.Core.Bool.{Bool, true, false}
 use mathlib.Core.List.{List}
 use native.Mathlib.Omega.{arith}
-use lib.ListN.{length, get_or, get_or-eq_default}
-use borrow.Author.Tests.{le-ltb, lt-ltb, le-leb, lt-leb, eq-eqb, ne_eqb}
+use lib.ListN.{length, get_or, take, drop}
+use Rattle.std.proofs.lemmas.List.{get_or-drop, get_or-take}
+use lib.Dec.{leb, ltb}
+use borrow.Author.Tests.{le-ltb, lt-ltb, ltb-true, ltb-false, le-leb, lt-leb, eq-eqb, ne_eqb}
 use Rattle.rules.specs.Field as field
-use Rattle.rules.specs.Field.{Read, got, refused, Reader, between, onward, byte, word, only}
-use Rattle.rules.specs.Description.{Format, reads, word_to, optional, zero_word}
+use Rattle.rules.specs.Field.{Read, got, refused, Reader, between, onward, byte, word, word_at, only, printable_or_zero}
+use Rattle.rules.specs.Description.{reads, word_to, optional, zero_word}
 use Rattle.rules.specs.Format.{cell_count}
-use Rattle.rules.specs.Steps.{step_of, read_from, byte_of, after}
-use Rattle.rules.specs.declared.Step.{Step}
-use Rattle.rules.specs.declared.Step.TheVariants.{At, Refused}
-use Rattle.laws.proofs.Reading.{after_off, tested}
+use Rattle.rules.specs.Steps.{Step, At, Refused, step_of, read_from, after}
+use Rattle.laws.proofs.Reading.{tested}
 use Rattle.sheet.specs.Steps.{byte_between}
 use Rattle.rules.specs.Sheet.{most_columns}
 
--- a refusal is handed on, and no byte stands there
-pub after_stopped : {A : Type 0} (f : Format A) (s : List ℕ) (x : Step) (n q : ℕ) → x ≡ Refused n q → x ≡ after f s x
-after_stopped f s x n q e = rw e (sym (after_off f s n q))
-
-pub read_stopped : {A : Type 0} (f : Reader A) (s : List ℕ) (x : Step) (n q : ℕ) → x ≡ Refused n q → x ≡ read_from f s x
-unfolding read_from
-read_stopped f s x n q e = rw e
-
-pub byte_stopped : (s : List ℕ) (x : Step) (n q : ℕ) → x ≡ Refused n q → 0 ≡ byte_of s x
-unfolding byte_of
-byte_stopped s x n q e = rw e
-
-module _ (s : List ℕ) (x : Step) (p : ℕ) (e : x ≡ At p) where
-  pub byte_there : p < length s → get_or s p 0 ≡ byte_of s x
-  unfolding byte_of
-  byte_there h = rw e
-
-  pub byte_past : length s ≤ p → 0 ≡ byte_of s x
-  unfolding byte_of
-  byte_past h = rw (e, get_or-eq_default s 0 h)
-
-module _ (low high number : ℕ) (s : List ℕ) (x : Step) (p : ℕ) (e : x ≡ At p) where
-  pub between-ended : length s ≤ p → Refused 1 (length s) ≡ read_from (byte_between low high number) s x
+-- a byte that has to pass a test
+module _ (good : ℕ → Bool) (n : ℕ) (s : List ℕ) (p : ℕ) where
+  pub only_ended : length s ≤ p → Refused 1 (length s) ≡ read_from (only good n byte) s (At p)
   unfolding read_from only byte onward
-  between-ended h = rw (e, le-ltb p (length s) h, byte)
+  only_ended h = rw (le-ltb p (length s) h, byte)
 
-  pub between-low : p < length s → get_or s p 0 < low → Refused number p ≡ read_from (byte_between low high number) s x
+  pub only_bad : p < length s → good (get_or s p 0) ≡ false → Refused n p ≡ read_from (only good n byte) s (At p)
   unfolding read_from only byte onward
-  between-low h k = rw (e, lt-ltb p (length s) h, byte, lt-leb low (get_or s p 0) k, onward)
+  only_bad h b = rw (lt-ltb p (length s) h, byte, b, onward)
 
-  pub between_high : p < length s → low ≤ get_or s p 0 → high < get_or s p 0 → Refused number p ≡ read_from (byte_between low high number) s x
+  pub only_good : p < length s → good (get_or s p 0) ≡ true → At (p + 1) ≡ read_from (only good n byte) s (At p)
   unfolding read_from only byte onward
-  between_high h k l = rw (e, lt-ltb p (length s) h, byte, le-leb low (get_or s p 0) k, lt-leb (get_or s p 0) high l, onward)
+  only_good h b = rw (lt-ltb p (length s) h, byte, b, onward)
 
-  pub between_good : p < length s → low ≤ get_or s p 0 → get_or s p 0 ≤ high → At (p + 1) ≡ read_from (byte_between low high number) s x
-  unfolding read_from only byte onward
-  between_good h k l = rw (e, lt-ltb p (length s) h, byte, le-leb low (get_or s p 0) k, le-leb (get_or s p 0) high l, onward)
+pub optional_steps : (s : List ℕ) (x : Step) → after optional s x ≡ read_from (only printable_or_zero 6 byte) s x
+unfolding after reads
+optional_steps s x = refl
 
-module _ (s : List ℕ) (x : Step) (p : ℕ) (e : x ≡ At p) where
-  pub optional-ended : length s ≤ p → Refused 1 (length s) ≡ after optional s x
-  unfolding after read_from reads only byte onward
-  optional-ended h = rw (e, le-ltb p (length s) h, byte)
+-- two bytes
+pub word_ended : (s : List ℕ) (p : ℕ) → length s ≤ p + 1 → refused 1 (length s) ≡ word s p
+unfolding word
+word_ended s p h = rw (le-ltb (p + 1) (length s) h, word)
 
-  pub optional-zero : p < length s → get_or s p 0 ≡ 0 → At (p + 1) ≡ after optional s x
-  unfolding after read_from reads only byte onward
-  optional-zero h k = rw (e, lt-ltb p (length s) h, byte, eq-eqb (get_or s p 0) 0 k, onward)
+pub word_whole : (s : List ℕ) (p : ℕ) → p + 1 < length s → got (word_at s p) (p + 2) ≡ word s p
+unfolding word
+word_whole s p h = rw (lt-ltb (p + 1) (length s) h, word)
 
-  pub optional-low : p < length s → (get_or s p 0 ≡ 0 → ⊥) → get_or s p 0 < 32 → Refused 6 p ≡ after optional s x
-  unfolding after read_from reads only byte onward
-  optional-low h z k = rw (e, lt-ltb p (length s) h, byte, ne_eqb (get_or s p 0) 0 z, lt-leb 32 (get_or s p 0) k, onward)
-
-  pub optional_high : p < length s → (get_or s p 0 ≡ 0 → ⊥) → 32 ≤ get_or s p 0 → 126 < get_or s p 0 → Refused 6 p ≡ after optional s x
-  unfolding after read_from reads only byte onward
-  optional_high h z k l = rw (e, lt-ltb p (length s) h, byte, ne_eqb (get_or s p 0) 0 z, le-leb 32 (get_or s p 0) k, lt-leb (get_or s p 0) 126 l, onward)
-
-  pub optional_good : p < length s → (get_or s p 0 ≡ 0 → ⊥) → 32 ≤ get_or s p 0 → get_or s p 0 ≤ 126 → At (p + 1) ≡ after optional s x
-  unfolding after read_from reads only byte onward
-  optional_good h z k l = rw (e, lt-ltb p (length s) h, byte, ne_eqb (get_or s p 0) 0 z, le-leb 32 (get_or s p 0) k, le-leb (get_or s p 0) 126 l, onward)
-
-module _ (most : ℕ) (s : List ℕ) (x : Step) (p : ℕ) (e : x ≡ At p) where
-  pub word-ended : length s ≤ p → Refused 1 (length s) ≡ after (word_to most) s x
-  unfolding after read_from reads only word onward
-  word-ended h = rw (e, le-ltb (p + 1) (length s) (omega arith), word)
-
-  pub word_cut : p < length s → length s - p < 2 → Refused 1 (length s) ≡ after (word_to most) s x
-  unfolding after read_from reads only word onward
-  word_cut h k = rw (e, le-ltb (p + 1) (length s) (omega arith), word)
-
-  pub word_high : (l h : ℕ) → l ≡ get_or s p 0 → h ≡ get_or s (p + 1) 0 → p < length s → 2 ≤ length s - p → most < l + h * 256 → Refused 5 p ≡ after
-      (word_to most) s x
-  unfolding after read_from reads only word onward
-  word_high l h i j a b m =
-      let k : p + 1 < length s = omega arith in
-      let n = rw (i, j) at m in
-      rw (
-        e,
-        lt-ltb (p + 1) (length s) k,
-        word,
-        le-leb 0 (get_or s p 0 + get_or s (p + 1) 0 * 256) (omega arith),
-        lt-leb
-            (get_or s p 0 + get_or s (p + 1) 0 * 256) most n,
-        onward,
-      )
-
-  pub word_good : (l h : ℕ) → l ≡ get_or s p 0 → h ≡ get_or s (p + 1) 0 → p < length s → 2 ≤ length s - p → l + h * 256 ≤ most → At (p + 2) ≡ after
-      (word_to most) s x
-  unfolding after read_from reads only word onward
-  word_good l h i j a b m =
-      let k : p + 1 < length s = omega arith in
-      let n = rw (i, j) at m in
-      rw (
-        e,
-        lt-ltb (p + 1) (length s) k,
-        word,
-        le-leb 0 (get_or s p 0 + get_or s (p + 1) 0 * 256) (omega arith),
-        le-leb
-            (get_or s p 0 + get_or s (p + 1) 0 * 256) most n,
-        onward,
-      )
-
-module _ (s : List ℕ) (x : Step) (p : ℕ) (e : x ≡ At p) where
-  pub zeros-ended : length s ≤ p → Refused 1 (length s) ≡ after zero_word s x
-  unfolding after read_from reads field.zero_word word onward
-  zeros-ended h = rw (e, le-ltb (p + 1) (length s) (omega arith), word)
-
-  pub zeros-cut : p < length s → length s - p < 2 → Refused 1 (length s) ≡ after zero_word s x
-  unfolding after read_from reads field.zero_word word onward
-  zeros-cut h k = rw (e, le-ltb (p + 1) (length s) (omega arith), word)
-
-  pub zeros-low : p < length s → 2 ≤ length s - p → (get_or s p 0 ≡ 0 → ⊥) → get_or s p 0 < 256 → Refused 8 p ≡ after zero_word s x
-  unfolding after read_from reads field.zero_word word onward
-  zeros-low i j z k =
-      let h : p + 1 < length s = omega arith in
-      let v : get_or s p 0 + get_or s (p + 1) 0 * 256 ≡ 0 → ⊥ = λ i. z (omega arith) in
-      let w : (get_or s p 0 + get_or s (p + 1) 0 * 256) % 256 ≡ get_or s p 0 = omega arith in
-      rw (e, lt-ltb (p + 1) (length s) h, word, ne_eqb (get_or s p 0 + get_or s (p + 1) 0 * 256) 0 v, w, ne_eqb (get_or s p 0) 0 z, onward)
-
-  pub zeros_high : p < length s → 2 ≤ length s - p → get_or s p 0 ≡ 0 → (get_or s (p + 1) 0 ≡ 0 → ⊥) → Refused 8 (p + 1) ≡ after zero_word s x
-  unfolding after read_from reads field.zero_word word onward
-  zeros_high i j z k =
-      let h : p + 1 < length s = omega arith in
-      let v : get_or s p 0 + get_or s (p + 1) 0 * 256 ≡ 0 → ⊥ = λ i. k (omega arith) in
-      let w : (get_or s p 0 + get_or s (p + 1) 0 * 256) % 256 ≡ 0 = omega arith in
-      rw (
-        e,
-        lt-ltb (p + 1) (length s) h,
-        word,
-        ne_eqb (get_or s p 0 + get_or s (p + 1) 0 * 256) 0 v,
-        eq-eqb ((get_or s p 0 + get_or s (p + 1) 0 * 256) % 256)
-            0 w,
-        onward,
-      )
-
-  pub zeros_good : p < length s → 2 ≤ length s - p → get_or s p 0 ≡ 0 → get_or s (p + 1) 0 ≡ 0 → At (p + 2) ≡ after zero_word s x
-  unfolding after read_from reads field.zero_word word onward
-  zeros_good i j z k =
-      let h : p + 1 < length s = omega arith in
-      let v : get_or s p 0 + get_or s (p + 1) 0 * 256 ≡ 0 = omega arith in
-      rw (e, lt-ltb (p + 1) (length s) h, word, eq-eqb (get_or s p 0 + get_or s (p + 1) 0 * 256) 0 v, onward)
-
--- a second test of a field that passed its first
-only_off : (good : ℕ → Bool) (n : ℕ) (f : Reader ℕ) (s : List ℕ) (p m q : ℕ) → f s p ≡ refused m q → only good n f s p ≡ refused m q
-unfolding only onward
-only_off good n f s p m q e = rw e
-
-only_good : (good : ℕ → Bool) (n : ℕ) (f : Reader ℕ) (s : List ℕ) (p v q : ℕ) → f s p ≡ got v q → good v ≡ true → only good n f s p ≡ got v q
-unfolding only onward
-only_good good n f s p v q e h = rw (e, h, onward)
-
-only_bad : (good : ℕ → Bool) (n : ℕ) (f : Reader ℕ) (s : List ℕ) (p v q : ℕ) → f s p ≡ got v q → good v ≡ false → only good n f s p ≡ refused n p
-unfolding only onward
-only_bad good n f s p v q e h = rw (e, h, onward)
-
--- a cell count, from the step y after it and its value v: 5 above the limit, else 7 above the columns
-pub count_few : (columns : ℕ) (s : List ℕ) (x y : Step) (v : ℕ) → y ≡ read_from (byte_between 0 most_columns 5) s x → v ≡ byte_of s x → v ≤ columns → y ≡
-    after (cell_count columns) s x
-unfolding after read_from reads byte_of
-count_few columns s (At p) y v few value l = few ∙ go (byte_between 0 most_columns 5 s p) refl
+pub word_there : (s : List ℕ) (p v q : ℕ) → got v q ≡ word s p → p + 1 < length s
+unfolding word
+word_there s p v q e = go (ltb (p + 1) (length s)) refl
   where
-    go : (r : Read ℕ) → byte_between 0 most_columns 5 s p ≡ r → step_of (byte_between 0 most_columns 5 s p) ≡ step_of
-        (only (between 0 columns) 7 (byte_between 0 most_columns 5) s p)
-    go (got w q) i =
-        let k = (tested (between 0 most_columns) 5 s p w q i).value in
-        let b : between 0 columns w ≡ true = rw (le-leb 0 w (omega arith), le-leb w columns (omega arith)) in
-        rw (i, only_good (between 0 columns) 7 (byte_between 0 most_columns 5) s p w q i b)
-    go (refused n q) i = rw (i, only_off (between 0 columns) 7 (byte_between 0 most_columns 5) s p n q i)
-count_few columns s (Refused n p) y v few value l = few
+    go : (b : Bool) → ltb (p + 1) (length s) ≡ b → p + 1 < length s
+    go true h = ltb-true (p + 1) (length s) h
+    go false h =
+        let k = e ∙ sym (word_ended s p (ltb-false (p + 1) (length s) h)) in
+        let z : ◌≡◌ {A = ℕ} 0 1 = cc in
+        absurd (omega arith)
 
-pub count_stopped : (columns : ℕ) (s : List ℕ) (x y : Step) (m r : ℕ) → y ≡ read_from (byte_between 0 most_columns 5) s x → y ≡ Refused m r → y ≡ after
-    (cell_count columns) s x
-unfolding after read_from reads
-count_stopped columns s (At p) y m r few e = go (byte_between 0 most_columns 5 s p) refl
-  where
-    go : (r : Read ℕ) → byte_between 0 most_columns 5 s p ≡ r → y ≡ step_of (only (between 0 columns) 7 (byte_between 0 most_columns 5) s p)
-    go (got w q) i = let j = rw i at few in let z : ◌≡◌ {A = ℕ} 0 1 = cc in absurd (omega arith)
-    go (refused n q) i = few ∙ rw (i, only_off (between 0 columns) 7 (byte_between 0 most_columns 5) s p n q i)
-count_stopped columns s (Refused n p) y m r few e = few
+-- the two bytes at the beginning of the rest of a sheet
+pub part_at : (s : List ℕ) (p n i : ℕ) → i < n → get_or (take n (drop p s)) i 0 ≡ get_or s (p + i) 0
+part_at s p n i h = get_or-take n (drop p s) i 0 h ∙ get_or-drop p s i 0
 
--- the step after a count that was read stands one byte past it
-pub count-over : (columns : ℕ) (s : List ℕ) (x y : Step) (v q : ℕ) → y ≡ read_from (byte_between 0 most_columns 5) s x → v ≡ byte_of s x → y ≡ At q →
-    columns < v → (Refused 7 (q - 1) ≡ after (cell_count columns) s x) × (1 ≤ q)
-unfolding after read_from reads byte_of
-count-over columns s (At p) y v q few value e l = go (byte_between 0 most_columns 5 s p) refl
-  where
-    go : (r : Read ℕ) → byte_between 0 most_columns 5 s p ≡ r → (Refused 7 (q - 1) ≡ step_of
-        (only (between 0 columns) 7 (byte_between 0 most_columns 5) s p)) × (1 ≤ q)
-    go (got w o) i =
-        let j = rw i at few in
-        let k = tested (between 0 most_columns) 5 s p w o i in
-        let m : q ≡ o = cc in
-        let z : q - 1 ≡ p = omega (arith, k.end) in
-        let b : between 0 columns w ≡ false = rw (le-leb 0 w (omega arith), lt-leb w columns (omega (arith, k.value))) in
-        (rw (z, only_bad (between 0 columns) 7 (byte_between 0 most_columns 5) s p w o i b), omega (arith, k.end))
-    go (refused n o) i = let j = rw i at few in let z : ◌≡◌ {A = ℕ} 0 1 = cc in absurd (omega arith)
-count-over columns s (Refused n p) y v q few value e l = let z : ◌≡◌ {A = ℕ} 0 1 = cc in absurd (omega arith)
+pub two_there : (s t : List ℕ) (p : ℕ) → t ≡ take (length s - p) (drop p s) → length t + p ≡ length s → 2 ≤ length t
+    → got (get_or t 0 0 + get_or t 1 0 * 256) (p + 2) ≡ word s p
+two_there s t p e l h =
+    let a = part_at s p (length s - p) 0 (omega arith) in
+    let b = part_at s p (length s - p) 1 (omega arith) in
+    let z : p + 0 ≡ p = omega arith in
+    rw (e, a, b, z) (word_whole s p (omega arith))
 
-pub ruleset fields = (
-  after_stopped,
-  read_stopped,
-  byte_stopped,
-  byte_there,
-  byte_past,
-  between-ended,
-  between-low,
-  between_high,
-  between_good,
-  optional-ended,
-  optional-zero,
-  optional-low,
-  optional_high,
-  optional_good,
-  word-ended,
-  word_cut,
-  word_high,
-  word_good,
-  zeros-ended,
-  zeros-cut,
-  zeros-low,
-  zeros_high,
-  zeros_good,
-)
+-- a number of two bytes
+module _ (most : ℕ) (s : List ℕ) (p : ℕ) where
+  pub word_stopped : (n q : ℕ) → refused n q ≡ word s p → Refused n q ≡ after (word_to most) s (At p)
+  unfolding after read_from reads only onward
+  word_stopped n q e = rw (← e)
+
+  pub word_high : (v q : ℕ) → got v q ≡ word s p → most < v → Refused 5 p ≡ after (word_to most) s (At p)
+  unfolding after read_from reads only onward
+  word_high v q e h = rw (← e, le-leb 0 v (omega arith), lt-leb v most h, onward)
+
+  pub word_good : (v q : ℕ) → got v q ≡ word s p → v ≤ most → At q ≡ after (word_to most) s (At p)
+  unfolding after read_from reads only onward
+  word_good v q e h = rw (← e, le-leb 0 v (omega arith), le-leb v most h, onward)
+
+-- an unused width's two bytes
+module _ (s : List ℕ) (p : ℕ) where
+  pub zeros_stopped : (n q : ℕ) → refused n q ≡ word s p → Refused n q ≡ after zero_word s (At p)
+  unfolding after read_from reads field.zero_word onward
+  zeros_stopped n q e = rw (← e)
+
+  module _ (low high q : ℕ) (e : got (low + high * 256) q ≡ word s p) where
+    pub zeros_good : low ≡ 0 → high ≡ 0 → At q ≡ after zero_word s (At p)
+    unfolding after read_from reads field.zero_word onward
+    zeros_good h k = rw (← e, eq-eqb (low + high * 256) 0 (omega arith), onward)
+
+    pub zeros_high : low ≡ 0 → (high ≡ 0 → ⊥) → Refused 8 (p + 1) ≡ after zero_word s (At p)
+    unfolding after read_from reads field.zero_word onward
+    zeros_high h k =
+        rw (
+          ← e,
+          ne_eqb (low + high * 256) 0 (λ i. k (omega arith)),
+          eq-eqb ((low + high * 256) % 256) 0 (omega arith),
+          onward,
+        )
+
+    pub zeros_low : (low ≡ 0 → ⊥) → low < 256 → Refused 8 p ≡ after zero_word s (At p)
+    unfolding after read_from reads field.zero_word onward
+    zeros_low h l =
+        let w : (low + high * 256) % 256 ≡ low = omega arith in
+        rw (← e, ne_eqb (low + high * 256) 0 (λ i. h (omega arith)), w, ne_eqb low 0 h, onward)
+
+second : (good : ℕ → Bool) (n : ℕ) (f : Reader ℕ) (s : List ℕ) (p v o : ℕ) → f s p ≡ got v o
+    → only good n f s p ≡ elim (good v) as (λ z. Read ℕ) [ true ↦ got v o | false ↦ refused n p ]
+unfolding only onward
+second good n f s p v o e = rw e
+
+-- a cell count, which is tested twice: 5 above the limit, else 7 above the columns
+module _ (columns : ℕ) (s : List ℕ) (p : ℕ) where
+  pub count_stopped : (n q : ℕ) → Refused n q ≡ read_from (byte_between 0 most_columns 5) s (At p) → Refused n q ≡ after (cell_count columns) s (At p)
+  unfolding after read_from reads
+  count_stopped n q e = go (byte_between 0 most_columns 5 s p) refl e
+    where
+      go : (r : Read ℕ) → byte_between 0 most_columns 5 s p ≡ r → Refused n q ≡ step_of r
+          → Refused n q ≡ step_of (only (between 0 columns) 7 (byte_between 0 most_columns 5) s p)
+      go (got v o) i f = let z : ◌≡◌ {A = ℕ} 0 1 = cc in absurd (omega arith)
+      go (refused m o) i f = f ∙ (unfold only onward in rw i)
+
+  told : (b : Bool) (v o q : ℕ) → q ≡ o
+      → elim b as (λ z. Step) [ true ↦ At q | false ↦ Refused 7 p ] ≡ step_of (elim b as (λ z. Read ℕ) [ true ↦ got v o | false ↦ refused 7 p ])
+  told true v o q e = rw e
+  told false v o q e = refl
+
+  -- a count that passed the first test, and what the second says of it
+  counted : (b : Bool) (q : ℕ) → At q ≡ read_from (byte_between 0 most_columns 5) s (At p) → leb (get_or s p 0) columns ≡ b
+      → elim b as (λ z. Step) [ true ↦ At q | false ↦ Refused 7 p ] ≡ after (cell_count columns) s (At p)
+  unfolding after read_from reads
+  counted b q e h = go (byte_between 0 most_columns 5 s p) refl e
+    where
+      go : (r : Read ℕ) → byte_between 0 most_columns 5 s p ≡ r → At q ≡ step_of r
+          → elim b as (λ z. Step) [ true ↦ At q | false ↦ Refused 7 p ] ≡ step_of (only (between 0 columns) 7 (byte_between 0 most_columns 5) s p)
+      go (got v o) i f =
+          let k = (tested (between 0 most_columns) 5 s p v o i).value in
+          let t : between 0 columns v ≡ b = rw (k, le-leb 0 (get_or s p 0) (omega arith)) h in
+          let z : q ≡ o = cc in
+          rw (second (between 0 columns) 7 (byte_between 0 most_columns 5) s p v o i, t) (told b v o q z)
+      go (refused m o) i f = let z : ◌≡◌ {A = ℕ} 0 1 = cc in absurd (omega arith)
+
+  pub count_few : (q : ℕ) → At q ≡ read_from (byte_between 0 most_columns 5) s (At p) → get_or s p 0 ≤ columns → At q ≡ after (cell_count columns) s (At p)
+  count_few q e h = counted true q e (le-leb (get_or s p 0) columns h)
+
+  pub count_over : (q : ℕ) → At q ≡ read_from (byte_between 0 most_columns 5) s (At p) → columns < get_or s p 0
+      → Refused 7 p ≡ after (cell_count columns) s (At p)
+  count_over q e h = counted false q e (lt-leb (get_or s p 0) columns h)

@@ -3,3 +3,4 @@ pub mod Loops
 pub mod Sections
 pub mod Pairs
 pub mod Cases
+pub mod Laws

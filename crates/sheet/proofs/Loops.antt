@@ -1,16 +1,16 @@
 -- A loop that reads n items: what is left to read from here is what there was to read from its start. Assumes nothing.
-use Prim.Native.Nat.{ℕ, suc, ◌+◌, ◌-◌, ◌<◌, ◌≤◌}
-use mathlib.Core.Bool.{Bool, true, false, ◌&&◌, cond}
+use Prim.Native.Nat.{ℕ, zero, suc, ◌+◌, ◌-◌, ◌<◌, ◌≤◌}
+use mathlib.Core.Bool.{true, ◌&&◌}
 use mathlib.Core.Path.{◌≡◌, refl, sym, ◌∙◌}
 use mathlib.Core.List.{List}
 use native.Mathlib.Omega.{arith}
-use lib.ListN.{get_or}
-use lib.Dec.{leb}
-use borrow.Author.Tests.{le-leb, lt-leb}
+use lib.ListN.{get_or, take, drop}
 use Rattle.rules.specs.Field.{printable}
 use Rattle.rules.specs.Steps.{times}
-use Rattle.rules.specs.declared.Step.{Step}
+use Rattle.rules.specs.Steps.{Step, Refused}
+use Rattle.laws.proofs.Reading.{times_off}
 use Rattle.sheet.specs.Steps.{printables}
+use Rattle.sheet.proofs.Fields.{part_at}
 
 next : (f : Step → Step) (m : ℕ) (x : Step) → times (suc m) f x ≡ times m f (f x)
 unfolding times
@@ -32,37 +32,37 @@ pub items_done : (f : Step → Step) (n i : ℕ) (x w : Step) → n ≤ i → It
 unfolding times
 items_done f n i x w h e = let z : n - i ≡ 0 = omega arith in rw z at e.rest
 
--- ---- printable characters passed at once
+pub items_stopped : (f : Step → Step) → ((k q : ℕ) → f (Refused k q) ≡ Refused k q) → (n i : ℕ) (x w : Step) (k q : ℕ) → i < n → Items f n i x w
+    → Refused k q ≡ f x → Refused k q ≡ w
+items_stopped f off n i x w k q h e g =
+    let z : n - i ≡ suc (n - (i + 1)) = omega arith in
+    sym (times_off (n - (i + 1)) f off k q) ∙ rw g (sym (next f (n - (i + 1)) x) ∙ rw (← z) e.rest)
 
--- a byte's tests, exit by exit
-pub low-not : (v : ℕ) → v < 32 → false ≡ printable v
-low-not v h = rw (lt-leb 32 v h)
+-- ---- bytes tested at once
 
-pub high_tells : (v : ℕ) → 32 ≤ v → leb v 126 ≡ printable v
-high_tells v h = rw (le-leb 32 v h)
-
-pub still_so : (all b p : Bool) → b ≡ p → b ≡ true → all ≡ (all && p)
-still_so true b p e f = sym f ∙ e
-still_so false b p e f = refl
-
-pub no_more : (all b p : Bool) → b ≡ p → b ≡ false → false ≡ (all && p)
-no_more true b p e f = sym f ∙ e
-no_more false b p e f = refl
-
-pub printables-none : (s : List ℕ) (start i : ℕ) → i ≤ start → true ≡ printables s start (i - start)
+pub printables_none : (s : List ℕ) (start : ℕ) → true ≡ printables s start 0
 unfolding printables
-printables-none s start i h = let z : i - start ≡ 0 = omega arith in rw z
+printables_none s start = refl
 
-pub printables-on : (s : List ℕ) (start i : ℕ) (a b : Bool) → start ≤ i → a ≡ printables s start (i - start) → b ≡ (a && printable (get_or s i 0)) → b ≡
-    printables s start (i + 1 - start)
+pub printables_more : (s : List ℕ) (start n : ℕ) → printables s start (n + 1) ≡ (printables s start n && printable (get_or s (start + n) 0))
 unfolding printables
-printables-on s start i a b h e f =
-    let z : i + 1 - start ≡ suc (i - start) = omega arith in
+printables_more s start n = let z : n + 1 ≡ suc n = omega arith in rw z
+
+pub printables_next : (s : List ℕ) (start i : ℕ) → start ≤ i → printables s start (i - start) ≡ true → printable (get_or s i 0) ≡ true
+    → printables s start (i + 1 - start) ≡ true
+printables_next s start i h p q =
+    let z : i + 1 - start ≡ i - start + 1 = omega arith in
     let y : start + (i - start) ≡ i = omega arith in
-    f ∙ rw (z, y, e)
+    rw (z, printables_more s start (i - start), y, p, q)
 
-pub past_all : (b p : Bool) (x y : ℕ) → b ≡ p → b ≡ true → x ≡ cond p x y
-past_all b p x y e f = rw (← e, f)
+-- of a part of the sheet
+part_printables : (s : List ℕ) (start n m : ℕ) → m ≤ n → printables (take n (drop start s)) 0 m ≡ printables s start m
+unfolding printables
+part_printables s start n zero h = refl
+part_printables s start n (suc m) h =
+    let z : get_or (take n (drop start s)) (0 + m) 0 ≡ get_or s (start + m) 0 = let y : 0 + m ≡ m = omega arith in rw y (part_at s start n m (omega arith)) in
+    rw (part_printables s start n m (omega arith), z)
 
-pub past-none : (b p : Bool) (x y : ℕ) → b ≡ p → b ≡ false → y ≡ cond p x y
-past-none b p x y e f = rw (← e, f)
+pub printables_part : (s : List ℕ) (start end : ℕ)
+    → printables (take (end - start) (drop start s)) 0 (end - start) ≡ printables s start (end - start)
+printables_part s start end = part_printables s start (end - start) (end - start) (omega arith)

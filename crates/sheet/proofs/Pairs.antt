@@ -13,12 +13,11 @@ use Rattle.rules.specs.Description as description
 use Rattle.rules.specs.Description.{text, character, characters}
 use Rattle.rules.specs.Format.{line}
 use Rattle.rules.specs.Steps.{step_of, read_from, byte_of, times, after}
-use Rattle.rules.specs.declared.Step.{Step}
-use Rattle.rules.specs.declared.Step.TheVariants.{At, Refused}
+use Rattle.rules.specs.Steps.{Step, At, Refused}
 use Rattle.laws.proofs.Reading.{between_both, times_off, read_from_off, several_steps}
 use Rattle.sheet.specs.Steps.{byte_between, printables, BadIs, line_of, line_bytes, bytes_from, CharacterIs}
-use Rattle.sheet.proofs.Fields.{between-ended, between_good}
-use Rattle.sheet.proofs.Loops.{low-not, high_tells, printables-none, printables-on}
+use Rattle.sheet.proofs.Fields.{only_ended, only_good}
+use Rattle.sheet.proofs.Loops.{printables_none, printables_next}
 use Rattle.sheet.proofs.Sections.{after_inside}
 
 -- ---- a character, and the bytes after it
@@ -91,7 +90,7 @@ module _ (pairs : Bool) (s : List ℕ) (end p : ℕ) (some : p < end) where
   pub one_ended : length s ≤ p → Refused 1 (length s) ≡ bytes_from pairs s end p
   one_ended h =
       let z : byte_at s p ≡ 0 = get_or-eq_default s 0 h in
-      one_off 1 (length s) (inr (inl (λ e. omega arith))) (between-ended 32 126 6 s (At p) p refl h)
+      one_off 1 (length s) (inr (inl (λ e. omega arith))) (only_ended printable 6 s p h)
 
   module _ (there : p < length s) (bad : printable (get_or s p 0) ≡ false) where
     refused-here : Refused 6 p ≡ read_from (character printable) s (At p)
@@ -102,8 +101,8 @@ module _ (pairs : Bool) (s : List ℕ) (end p : ℕ) (some : p < end) where
     one_bad g = one_off 6 p (inr (inl g)) refused-here
 
     -- a C2 that begins no pair
-    pub one-first : (b : Bool) → b ≡ (pairs && ltb (p + 1) end) → b ≡ false → Refused 6 p ≡ bytes_from pairs s end p
-    one-first b e f = go pairs refl (ltb (p + 1) end) refl (sym e ∙ f)
+    pub one_first : (b : Bool) → b ≡ (pairs && ltb (p + 1) end) → b ≡ false → Refused 6 p ≡ bytes_from pairs s end p
+    one_first b e f = go pairs refl (ltb (p + 1) end) refl (sym e ∙ f)
       where
         go : (x : Bool) → pairs ≡ x → (y : Bool) → ltb (p + 1) end ≡ y → (x && y) ≡ false → Refused 6 p ≡ bytes_from pairs s end p
         go false i y j g = one_off 6 p (inl i) refused-here
@@ -114,7 +113,7 @@ module _ (pairs : Bool) (s : List ℕ) (end p : ℕ) (some : p < end) where
   unfolding bytes_from
   one_good h k l =
       let e = one_byte pairs s (end - (p + 1)) p (inr (inl (λ e. omega arith))) in
-      rw less (e ∙ rw (← between_good 32 126 6 s (At p) p refl h k l))
+      rw less (e ∙ rw (← only_good printable 6 s p h (rw (le-leb 32 (get_or s p 0) k, le-leb (get_or s p 0) 126 l))))
 
 module _ (s : List ℕ) (end p : ℕ) (pair : get_or s p 0 ≡ 194) (more : p + 1 < end) where
   less_2 : end - p ≡ suc (suc (end - (p + 2)))
@@ -124,8 +123,8 @@ module _ (s : List ℕ) (end p : ℕ) (pair : get_or s p 0 ≡ 194) (more : p + 
   unfolding bytes_from
   pair_off n q e = rw less_2 (sym (two_bytes s (end - (p + 2)) p pair ∙ rw (← e) (bytes_off (characters (end - (p + 2))) s n q)))
 
-  pub pair-cut : length s ≤ p + 1 → Refused 1 (length s) ≡ bytes_from true s end p
-  pair-cut h = pair_off 1 (length s) cut
+  pub pair_cut : length s ≤ p + 1 → Refused 1 (length s) ≡ bytes_from true s end p
+  pair_cut h = pair_off 1 (length s) cut
     where
       cut : Refused 1 (length s) ≡ read_from description.degree s (At p)
       cut = unfold read_from only word onward in rw (le-ltb (p + 1) (length s) h, word)
@@ -154,28 +153,17 @@ pub record Passed (s : List ℕ) (start i : ℕ) : Type 0 where
   pub all : printables s start (i - start) ≡ true
 
 pub passed_none : (s : List ℕ) (start : ℕ) → Passed s start start
-passed_none s start = record { order = omega arith; all = sym (printables-none s start start (omega arith)) }
+passed_none s start = let z : start - start ≡ 0 = omega arith in record { order = omega arith; all = rw z (sym (printables_none s start)) }
 
-module _ (s : List ℕ) (start end i : ℕ) (some : i < end) (c : Passed s start i) where
-  pub bad-low : get_or s i 0 < 32 → BadIs s start end i
-  bad-low h = record { order = c.order; within = omega arith; passed = c.all; bad = λ k. sym (low-not (get_or s i 0) h) }
+module _ (s : List ℕ) (start i : ℕ) (c : Passed s start i) where
+  pub bad_here : (end : ℕ) → i < end → printable (get_or s i 0) ≡ false → BadIs s start end i
+  bad_here end h b = record { order = c.order; within = omega arith; passed = c.all; bad = λ k. b }
 
-  pub bad_high : 32 ≤ get_or s i 0 → 126 < get_or s i 0 → BadIs s start end i
-  bad_high h k = record {
-    order = c.order;
-    within = omega arith;
-    passed = c.all;
-    bad = λ l. sym (high_tells (get_or s i 0) h) ∙ lt-leb (get_or s i 0) 126 k;
-  }
+  pub passed_on : printable (get_or s i 0) ≡ true → Passed s start (i + 1)
+  passed_on b = record { order = omega (arith, c.order); all = printables_next s start i c.order c.all b }
 
-  pub passed_on : 32 ≤ get_or s i 0 → get_or s i 0 ≤ 126 → Passed s start (i + 1)
-  passed_on h k = record {
-    order = omega (arith, c.order);
-    all = sym (printables-on s start i true true c.order (sym c.all) (rw (le-leb 32 (get_or s i 0) h, le-leb (get_or s i 0) 126 k)));
-  }
-
-pub bad-none : (s : List ℕ) (start end i : ℕ) → i ≤ end → end ≤ i → Passed s start i → BadIs s start end i
-bad-none s start end i h k c = record { order = c.order; within = h; passed = c.all; bad = λ l. absurd (omega arith) }
+pub bad_none : (s : List ℕ) (start end i : ℕ) → i ≤ end → end ≤ i → Passed s start i → BadIs s start end i
+bad_none s start end i h k c = record { order = c.order; within = h; passed = c.all; bad = λ l. absurd (omega arith) }
 
 -- ---- the loop: what is left of the bytes at i, which isn't printable, comes to w
 
@@ -209,20 +197,14 @@ module _ (pairs : Bool) (s : List ℕ) (inside end : ℕ) (reach : inside ≡ mi
     pub left_bad : i < length s → i < end → printable (get_or s i 0) ≡ false
     left_bad h k = c.bad (omega arith)
 
-    pub left_inside : (q : ℕ) (r : Step) → r ≡ At q → CharacterIs pairs s end i r → q ≤ inside
-    left_inside q r e h =
-        let f : CharacterIs pairs s end i (At q) = subst (λ (x : Step). CharacterIs pairs s end i x) e h in
-        omega (arith, f.1.0, f.1.1.0)
+    pub left_inside : (q : ℕ) → CharacterIs pairs s end i (At q) → q ≤ inside
+    left_inside q f = omega (arith, f.1.0, f.1.1.0)
 
-    pub left_next : (q : ℕ) (r : Step) → r ≡ At q → CharacterIs pairs s end i r → (j : ℕ) → BadIs s q inside j → (i < j) × Left pairs s inside end j w
-    left_next q r e h j b =
-        let f : CharacterIs pairs s end i (At q) = subst (λ (x : Step). CharacterIs pairs s end i x) e h in
-        (omega (arith, f.0, b.order), left_from q j w (sym f.1.1.1 ∙ c.rest) b)
+    pub left_next : (q : ℕ) → CharacterIs pairs s end i (At q) → (j : ℕ) → BadIs s q inside j → (i < j) × Left pairs s inside end j w
+    left_next q f j b = (omega (arith, f.0, b.order), left_from q j w (sym f.1.1.1 ∙ c.rest) b)
 
-    pub left_refused : (n q : ℕ) (r : Step) → r ≡ Refused n q → CharacterIs pairs s end i r → r ≡ w
-    left_refused n q r e h =
-        let f : CharacterIs pairs s end i (Refused n q) = subst (λ (x : Step). CharacterIs pairs s end i x) e h in
-        e ∙ (f ∙ c.rest)
+    pub left_refused : (n q : ℕ) → CharacterIs pairs s end i (Refused n q) → Refused n q ≡ w
+    left_refused n q f = f ∙ c.rest
 
     pub left_done : end ≤ i → At i ≡ w
     unfolding bytes_from
@@ -245,8 +227,8 @@ module _ (pairs : Bool) (s : List ℕ) (start n inside r : ℕ) (h : start ≤ l
   unfolding bytes_from
   past_whole k = let z : start + n - r ≡ 0 = omega arith in sym (past_is.1.1 ∙ rw z (none_left pairs s r))
 
-  pub past-rest : (y : Step) → y ≡ bytes_from pairs s (start + n) r → y ≡ bytes_from pairs s (start + n) start
-  past-rest y i = i ∙ sym past_is.1.1
+  pub past_rest : (y : Step) → y ≡ bytes_from pairs s (start + n) r → y ≡ bytes_from pairs s (start + n) start
+  past_rest y i = i ∙ sym past_is.1.1
 
 -- ---- a text and a line, from the step y after its length
 
@@ -257,34 +239,17 @@ times-several n s (At p) =
     several_steps (character printable) (read_from (character printable) s) s (read_from_off (character printable) s) (λ q. refl) n p
 times-several n s (Refused m q) = times_off n (read_from (character printable) s) (read_from_off (character printable) s) m q
 
-bytes-at : (pairs : Bool) (s : List ℕ) (p v : ℕ) → bytes_from pairs s (p + v) p ≡ read_from (line_bytes pairs v) s (At p)
+pub bytes_at : (pairs : Bool) (s : List ℕ) (p v : ℕ) → bytes_from pairs s (p + v) p ≡ read_from (line_bytes pairs v) s (At p)
 unfolding bytes_from
-bytes-at pairs s p v = let z : p + v - p ≡ v = omega arith in rw z
+bytes_at pairs s p v = let z : p + v - p ≡ v = omega arith in rw z
 
-module _ (most : ℕ) (s : List ℕ) (x y : Step) (count : y ≡ read_from (byte_between 0 most 5) s x) where
-  pub text-start : (p : ℕ) → y ≡ At p → p ≤ length s
-  text-start p e = after_inside 0 most 5 s x p (sym count ∙ e)
+pub text_steps : (most : ℕ) (s : List ℕ) (x : Step)
+    → after (text 0 most printable) s x ≡ read_from (line_bytes false (byte_of s x)) s (read_from (byte_between 0 most 5) s x)
+unfolding after
+text_steps most s x = times-several (byte_of s x) s (read_from (byte_between 0 most 5) s x)
 
-  text-after : after (text 0 most printable) s x ≡ read_from (line_bytes false (byte_of s x)) s y
-  unfolding after
-  text-after = rw count (times-several (byte_of s x) s (read_from (byte_between 0 most 5) s x))
-
-  pub text_stopped : (n q : ℕ) → y ≡ Refused n q → y ≡ after (text 0 most printable) s x
-  text_stopped n q e = sym (text-after ∙ rw e (bytes_off (line_bytes false (byte_of s x)) s n q))
-
-  pub text_whole : (p v : ℕ) (z : Step) → y ≡ At p → v ≡ byte_of s x → z ≡ bytes_from false s (p + v) p → z ≡ after (text 0 most printable) s x
-  text_whole p v z e i j = sym (text-after ∙ rw (e, ← i) (sym (j ∙ bytes-at false s p v)))
-
-module _ (pairs : Bool) (s : List ℕ) (x y : Step) (count : y ≡ read_from (byte_between 0 200 5) s x) where
-  line_after : after (line_of pairs) s x ≡ read_from (line_bytes pairs (byte_of s x)) s y
-  line_after = go pairs
-    where
-      go : (b : Bool) → after (line_of b) s x ≡ read_from (line_bytes b (byte_of s x)) s y
-      go true = unfold after line in rw count
-      go false = text-after 200 s x y count
-
-  pub line_stopped : (n q : ℕ) → y ≡ Refused n q → y ≡ after (line_of pairs) s x
-  line_stopped n q e = sym (line_after ∙ rw e (bytes_off (line_bytes pairs (byte_of s x)) s n q))
-
-  pub line_whole : (p v : ℕ) (z : Step) → y ≡ At p → v ≡ byte_of s x → z ≡ bytes_from pairs s (p + v) p → z ≡ after (line_of pairs) s x
-  line_whole p v z e i j = sym (line_after ∙ rw (e, ← i) (sym (j ∙ bytes-at pairs s p v)))
+pub line_steps : (pairs : Bool) (s : List ℕ) (x : Step)
+    → after (line_of pairs) s x ≡ read_from (line_bytes pairs (byte_of s x)) s (read_from (byte_between 0 200 5) s x)
+unfolding after line
+line_steps true s x = refl
+line_steps false s x = text_steps 200 s x

@@ -1,13 +1,15 @@
 -- Steps of the code that stand for several fields, or for a part of the format that has no name there. Assumes nothing.
-use Rattle.std.specs.Prelude.{ℕ, zero, suc, ◌+◌, ◌-◌, ◌<◌, ◌≤◌, ◌≡◌, Bool, true, false, ◌&&◌, List, length, get_or, leb, eqb}
+use Rattle.std.specs.Prelude.{ℕ, zero, suc, ◌+◌, ◌-◌, ◌<◌, ◌≤◌, ◌≡◌, Bool, true, false, ◌&&◌, List, length, get_or, leb, eqb, Result, Ok, Err, IfOk}
 use Rattle.rules.specs.Sheet.{most_columns}
 use Rattle.rules.specs.Field.{Reader, byte_at, only, between, printable, printable_or_zero, byte, several}
 use Rattle.rules.specs.Description.{Format, code, word_to, optional, counted, text, character, characters}
 use Rattle.rules.specs.Format.{width, column, line, cell_by, cell_count, row_by, sheet_by}
-use Rattle.rules.specs.Steps.{step_of, byte_of, times, read_from, after}
-use Rattle.rules.specs.declared.Step.{Step}
-use Rattle.rules.specs.declared.Step.TheVariants.{At, Refused}
-use Rattle.rules.specs.declared.Checked.{Checked}
+use Rattle.rules.specs.Steps.{step_of, refused_as, read_to, byte_of, times, read_from, after}
+use Rattle.rules.specs.Steps.{Step, At, Refused}
+use Rattle.rules.specs.Field.{Read, got, refused, word_at}
+use Rattle.rules.specs.Refusals.{number_of}
+use Rattle.rules.specs.declared.Refusal.{Refusal}
+use Rattle.sheet.specs.declared.field.Field.{Field}
 
 -- n bytes from i on are all printable
 unfoldable pub printables : List ℕ → ℕ → ℕ → Bool
@@ -25,10 +27,27 @@ pub record BadIs (s : List ℕ) (i end r : ℕ) : Type 0 where
 abbrev pub byte_between : ℕ → ℕ → ℕ → Reader ℕ
 byte_between low high number = only (between low high) number byte
 
--- number and place: both 0 where nothing was refused
-abbrev pub answer_of : Step → Checked
-answer_of (At p) = record { number = 0; place = 0 }
-answer_of (Refused n p) = record { number = n; place = p }
+-- what the code's reading of a field comes to: the place behind it, or the refusal
+abbrev pub field_to : Result Field Refusal → Step
+field_to (Ok f) = At f.next
+field_to (Err r) = refused_as r
+
+-- a field that was read has the value that stands there
+abbrev pub ValueIs : List ℕ → ℕ → Result Field Refusal → Type 0
+ValueIs s p r = IfOk r (λ f. f.value ≡ byte_at s p)
+
+-- the same of a field of two bytes
+abbrev pub word_read : Result (List ℕ) Refusal → ℕ → Read ℕ
+word_read (Ok l) p = got (word_at l 0) (p + 2)
+word_read (Err r) p = refused (number_of r.reason) r.place
+
+-- what a closure's calls may give: a test of bytes; a step of the reading
+abbrev pub Tests : (ℕ → Bool → Type 0) → (ℕ → Bool) → Type 0
+Tests gives test = (v : ℕ) (b : Bool) → v < 256 → gives v b → b ≡ test v
+
+pub record Reads (gives : ℕ → Result ℕ Refusal → Type 0) (f : Step → Step) : Type 0 where
+  pub at : (p : ℕ) (r : Result ℕ Refusal) → gives p r → read_to r ≡ f (At p)
+  pub off : (n p : ℕ) → f (Refused n p) ≡ Refused n p
 
 -- a constraint: its code; the first width is used from 3 on, the second by 6
 unfoldable pub constraint_after : List ℕ → Step → Step

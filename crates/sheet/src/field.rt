@@ -1,183 +1,157 @@
-// The fields of a sheet. Each reader takes the step before it and hands a refusal on, so that a section is a straight line of calls.
-ghost use Rattle.std.specs.Prelude.{◌≡◌, ◌<◌};
-ghost use Rattle.rules.specs.Description.{optional, word_to, zero_word};
-ghost use Rattle.rules.specs.Format.{cell_count};
-ghost use Rattle.rules.specs.Steps.{read_from, byte_of, after};
-ghost use Rattle.sheet.specs.Steps.{byte_between};
+// The fields of a sheet. A reader takes the place where its field starts, and gives the place behind it or the refusal.
+#![tactic(auto, using(crate::proofs::Laws::fields, crate::proofs::Laws::sections))]
 
-use rules::{MOST_CELLS, Step};
+ghost use Rattle.std.specs.Prelude.{ℕ, Bool, ◌≡◌, ◌<◌, ◌+◌, length};
+ghost use Rattle.rules.specs.Field.{byte, word, only};
+ghost use Rattle.rules.specs.Description as description;
+ghost use Rattle.rules.specs.Format as format;
+ghost use Rattle.rules.specs.Refusals.{number_of};
+ghost use Rattle.rules.specs.Steps.{Step, At, Refused, refused_as, read_to, read_from, after, times};
+ghost use Rattle.sheet.specs.Steps.{byte_between, field_to, word_read, ValueIs, Tests, Reads};
 
-// A field of one byte. It has its value even where it is turned down: a loop that goes by it only hands the refusal on.
+use super::text;
+use rules::{MOST_CELLS, Reason, Refusal};
+
+// A field of one byte: its value, and where the next field starts.
 #[derive(Clone, Copy)]
 pub struct Field {
     pub value: u8,
-    pub next: Step,
+    pub next: usize,
 }
 
-// A byte from low to high: 1 where the sheet has ended, else `number` where the byte is beyond them.
-pub fn byte_between(sheet: &[u8], from: Step, low: u8, high: u8, number: u64) -> Field
-    ensures next { result.next ≡ read_from (byte_between low high number) sheet.now from }
-    ensures value { result.value ≡ byte_of sheet.now from }
+// The refusal of a sheet that ends before a field is whole.
+pub fn cut_off(sheet: &[u8]) -> Refusal
+    ensures { refused_as result ≡ Refused 1 (length sheet.now) }
 {
-    let Step::At(at) = from else {
-        return Field {
-            value: 0,
-            next: from,
-        };
+    Refusal {
+        reason: Reason::Ended,
+        place: sheet.len(),
+    }
+}
+
+// A byte that passes the test: `Ended` where the sheet has ended, else `reason` where the byte doesn't pass.
+fn only<F: Fn(u8) -> bool>(
+    sheet: &[u8],
+    at: usize,
+    good: F,
+    reason: Reason,
+) -> Result<Field, Refusal>
+    requires { F.IsAlwaysCallable good }
+    ensures next { (test : ℕ → Bool) → Tests (F.post good) test
+        → field_to result ≡ read_from (only test (number_of reason) byte) sheet.now (At at) }
+    ensures value { ValueIs sheet.now at result }
+{
+    let Some(&value) = sheet.get(at) else {
+        return Err(cut_off(sheet));
     };
-    if sheet.len() <= at {
-        return Field {
-            value: 0,
-            next: Step::Refused {
-                number: 1,
-                place: sheet.len(),
-            },
-        };
+    if !good(value) {
+        return Err(Refusal { reason, place: at });
     }
-    let value = sheet[at];
-    if value < low {
-        return Field {
-            value,
-            next: Step::Refused { number, place: at },
-        };
-    }
-    if high < value {
-        return Field {
-            value,
-            next: Step::Refused { number, place: at },
-        };
-    }
-    Field {
+    Ok(Field {
         value,
-        next: Step::At(at + 1),
-    }
+        next: at + 1,
+    })
 }
 
-// The same where only the next step matters.
-pub fn within(sheet: &[u8], from: Step, low: u8, high: u8, number: u64) -> Step
-    ensures { result ≡ read_from (byte_between low high number) sheet.now from }
+// A byte from low to high.
+pub fn byte_between(
+    sheet: &[u8],
+    at: usize,
+    low: u8,
+    high: u8,
+    reason: Reason,
+) -> Result<Field, Refusal>
+    ensures next { field_to result ≡ read_from (byte_between low high (number_of reason)) sheet.now (At at) }
+    ensures value { ValueIs sheet.now at result }
 {
-    let read = byte_between(sheet, from, low, high, number);
-    read.next
+    only(sheet, at, |value| low <= value && value <= high, reason)
+}
+
+// The same where only the next field's place matters.
+pub fn within(sheet: &[u8], at: usize, low: u8, high: u8, reason: Reason) -> Result<usize, Refusal>
+    ensures { read_to result ≡ read_from (byte_between low high (number_of reason)) sheet.now (At at) }
+{
+    Ok(byte_between(sheet, at, low, high, reason)?.next)
 }
 
 // A printable byte, or 0 for none.
-pub fn printable_or_zero(sheet: &[u8], from: Step) -> Step
-    ensures { result ≡ after optional sheet.now from }
+pub fn printable_or_zero(sheet: &[u8], at: usize) -> Result<usize, Refusal>
+    ensures { read_to result ≡ after description.optional sheet.now (At at) }
 {
-    let Step::At(at) = from else {
-        return from;
-    };
-    if sheet.len() <= at {
-        return Step::Refused {
-            number: 1,
-            place: sheet.len(),
-        };
-    }
-    let value = sheet[at];
-    if value == 0 {
-        return Step::At(at + 1);
-    }
-    if value < 32 {
-        return Step::Refused {
-            number: 6,
-            place: at,
-        };
-    }
-    if 126 < value {
-        return Step::Refused {
-            number: 6,
-            place: at,
-        };
-    }
-    Step::At(at + 1)
+    let read = only(
+        sheet,
+        at,
+        |value| value == 0 || text::is_printable(value),
+        Reason::BadCharacter,
+    )?;
+    Ok(read.next)
 }
 
-// Two bytes, low byte first, are one field: half of it is none.
-pub fn word(sheet: &[u8], from: Step, most: u16) -> Step
-    ensures { result ≡ after (word_to most) sheet.now from }
+// Two bytes are one field: half of it is none.
+fn two_bytes(sheet: &[u8], at: usize) -> Result<[u8; 2], Refusal>
+    ensures { word_read result at ≡ word sheet.now at }
 {
-    let Step::At(at) = from else {
-        return from;
-    };
-    if sheet.len() <= at {
-        return Step::Refused {
-            number: 1,
-            place: sheet.len(),
-        };
+    match sheet.get(at..) {
+        Some([low, high, ..]) => Ok([*low, *high]),
+        _ => Err(cut_off(sheet)),
     }
-    let end = sheet.len();
-    if end - at < 2 {
-        return Step::Refused {
-            number: 1,
-            place: end,
-        };
-    }
-    let low = numbers::wide(sheet[at]);
-    let high = numbers::wide(sheet[at + 1]);
-    if most < low + high * 256 {
-        return Step::Refused {
-            number: 5,
-            place: at,
-        };
-    }
-    Step::At(at + 2)
 }
 
-// Two bytes of an unused width: the refusal's place is the first that isn't 0, once both are there.
-pub fn zero_word(sheet: &[u8], from: Step) -> Step
-    ensures { result ≡ after zero_word sheet.now from }
+// A number of two bytes, low byte first.
+pub fn word(sheet: &[u8], at: usize, most: u16) -> Result<usize, Refusal>
+    ensures { read_to result ≡ after (description.word_to most) sheet.now (At at) }
 {
-    let Step::At(at) = from else {
-        return from;
-    };
-    if sheet.len() <= at {
-        return Step::Refused {
-            number: 1,
-            place: sheet.len(),
-        };
-    }
-    if sheet.len() - at < 2 {
-        return Step::Refused {
-            number: 1,
-            place: sheet.len(),
-        };
-    }
-    if sheet[at] != 0 {
-        return Step::Refused {
-            number: 8,
+    let value = u16::from_le_bytes(two_bytes(sheet, at)?);
+    if most < value {
+        return Err(Refusal {
+            reason: Reason::BeyondLimits,
             place: at,
-        };
+        });
     }
-    let next = at + 1;
-    if sheet[next] != 0 {
-        return Step::Refused {
-            number: 8,
-            place: next,
-        };
-    }
-    Step::At(at + 2)
+    Ok(at + 2)
 }
 
-// A cell count: beyond the limit it is 5, and 7 only where the limit is kept and the columns are fewer.
-pub fn cell_count(sheet: &[u8], from: Step, columns: u8) -> Field
-    ensures next { result.next ≡ after (cell_count columns) sheet.now from }
-    ensures value { result.value ≡ byte_of sheet.now from }
+// Two bytes of an unused width: the refusal's place is the first that isn't 0.
+pub fn zero_word(sheet: &[u8], at: usize) -> Result<usize, Refusal>
+    ensures { read_to result ≡ after description.zero_word sheet.now (At at) }
 {
-    let count = byte_between(sheet, from, 0, MOST_CELLS, 5);
-    let value = count.value;
-    let next = count.next;
-    if value <= columns {
-        return Field { value, next };
-    }
-    let Step::At(at) = next else {
-        return Field { value, next };
+    let place = match two_bytes(sheet, at)? {
+        [0, 0] => return Ok(at + 2),
+        [0, _] => at + 1,
+        _ => at,
     };
-    Field {
-        value,
-        next: Step::Refused {
-            number: 7,
-            place: at - 1,
-        },
+    Err(Refusal {
+        reason: Reason::NotZero,
+        place,
+    })
+}
+
+// A cell count: beyond the limit it is `BeyondLimits`, and `TooManyCells` only where the limit is kept and the columns are fewer.
+pub fn cell_count(sheet: &[u8], at: usize, columns: u8) -> Result<Field, Refusal>
+    ensures next { field_to result ≡ after (format.cell_count columns) sheet.now (At at) }
+    ensures value { ValueIs sheet.now at result }
+{
+    let count = byte_between(sheet, at, 0, MOST_CELLS, Reason::BeyondLimits)?;
+    if columns < count.value {
+        return Err(Refusal {
+            reason: Reason::TooManyCells,
+            place: at,
+        });
     }
+    Ok(count)
+}
+
+// So many items, one behind the other.
+pub fn items<F: Fn(usize) -> Result<usize, Refusal>>(
+    count: Field,
+    read: F,
+) -> Result<usize, Refusal>
+    requires { F.IsAlwaysCallable read }
+    ensures { (f : Step → Step) → Reads (F.post read) f → read_to result ≡ times count.value f (At count.next) }
+{
+    let mut at = count.next;
+    for _ in 0..count.value {
+        at = read(at)?;
+    }
+    Ok(at)
 }

@@ -1,7 +1,7 @@
 // Sheet, edition 1: checks a sheet. Most have no pair, and are read without looking for one; the others are read again.
-#![tactic(auto)]
+#![tactic(auto, using(crate::proofs::Laws::sections))]
 
-mod columns;
+pub mod columns;
 mod field;
 mod rows;
 pub mod text;
@@ -10,155 +10,107 @@ ghost use Rattle.std.specs.Prelude.{◌≡◌};
 ghost use Rattle.rules.specs.Field as fields;
 ghost use Rattle.rules.specs.Description as description;
 ghost use Rattle.rules.specs.Calls as calls;
-ghost use Rattle.rules.specs.Steps.{read_from, after};
-ghost use Rattle.sheet.specs.Steps.{line_of, answer_of, head_after, body_after, reading_of, at_first};
+ghost use Rattle.rules.specs.Steps.{At, refused_as, read_to, read_from, after};
+ghost use Rattle.sheet.specs.Steps.{line_of, head_after, body_after, reading_of, at_first};
 ghost use Rattle.sheet.specs.Examine.{ExaminedIs};
 
-use rules::{Checked, Step};
+use rules::{Checked, Reason, Refusal};
 
 // The style's 22 characters.
-fn style(sheet: &[u8], from: Step) -> Step
-    ensures { result ≡ after (description.text 22 22 fields.printable_or_zero) sheet.now from }
+fn style(sheet: &[u8], at: usize) -> Result<usize, Refusal>
+    ensures { read_to result ≡ after (description.text 22 22 fields.printable_or_zero) sheet.now (At at) }
 {
-    let count = field::byte_between(sheet, from, 22, 22, 5);
-    let n = count.value;
-    let mut step = count.next;
-    let mut i: u8 = 0;
-    while i < n {
-        step = field::printable_or_zero(sheet, step);
-        i += 1;
-    }
-    step
+    let count = field::byte_between(sheet, at, 22, 22, Reason::BeyondLimits)?;
+    field::items(count, |at| field::printable_or_zero(sheet, at))
 }
 
 // Edition, arrangement, target, delimiter, indicator, style.
-fn head(sheet: &[u8], from: Step) -> Step
-    ensures { result ≡ head_after sheet.now from }
+fn head(sheet: &[u8], at: usize) -> Result<usize, Refusal>
+    ensures { read_to result ≡ head_after sheet.now (At at) }
 {
-    let edition = field::within(sheet, from, 1, 1, 3);
-    let arrangement = field::within(sheet, edition, 0, 2, 4);
-    let target = field::word(sheet, arrangement, 400);
-    let delimiter = field::printable_or_zero(sheet, target);
-    let indicator = text::text(sheet, delimiter, 8);
-    style(sheet, indicator)
+    let arrangement = field::within(sheet, at, 1, 1, Reason::WrongEdition)?;
+    let target = field::within(sheet, arrangement, 0, 2, Reason::UnknownCode)?;
+    let delimiter = field::word(sheet, target, 400)?;
+    let indicator = field::printable_or_zero(sheet, delimiter)?;
+    let characters = text::text(sheet, indicator, 8)?;
+    style(sheet, characters)
 }
 
 // Columns, header, rows.
-fn body(sheet: &[u8], from: Step, pairs: bool) -> Step
-    ensures { result ≡ body_after (line_of pairs) sheet.now from }
+fn body(sheet: &[u8], at: usize, pairs: bool) -> Result<usize, Refusal>
+    ensures { read_to result ≡ body_after (line_of pairs) sheet.now (At at) }
 {
-    let columns = columns::columns(sheet, from);
-    let count = columns.value;
-    let header = columns.next;
-    let rows = rows::rows(sheet, header, count, 1, pairs);
-    rows::rows(sheet, rows, count, 100, pairs)
+    let columns = columns::columns(sheet, at)?;
+    let rows = rows::rows(sheet, columns.next, columns.value, 1, pairs)?;
+    rows::rows(sheet, rows, columns.value, 100, pairs)
 }
 
 // Nothing stands after the last row.
-fn ended(sheet: &[u8], from: Step) -> Step
-    ensures { result ≡ read_from fields.ended sheet.now from }
+fn ended(sheet: &[u8], at: usize) -> Result<usize, Refusal>
+    ensures { read_to result ≡ read_from fields.ended sheet.now (At at) }
 {
-    let Step::At(at) = from else {
-        return from;
-    };
     if at < sheet.len() {
-        return Step::Refused {
-            number: 9,
+        return Err(Refusal {
+            reason: Reason::LeftOver,
             place: at,
-        };
+        });
     }
-    from
-}
-
-fn answer(step: Step) -> Checked
-    ensures { result ≡ answer_of step }
-{
-    match step {
-        Step::At(_) => Checked {
-            number: 0,
-            place: 0,
-        },
-        Step::Refused { number, place } => Checked {
-            number,
-            place: place as u64,
-        },
-    }
+    Ok(at)
 }
 
 // One reading of the sheet, from its first byte to its last.
-fn reading(sheet: &[u8], pairs: bool) -> Step
-    ensures { result ≡ reading_of pairs sheet.now }
+fn reading(sheet: &[u8], pairs: bool) -> Result<usize, Refusal>
+    ensures { read_to result ≡ reading_of pairs sheet.now }
 {
     if 32768 < sheet.len() {
-        return Step::Refused {
-            number: 2,
+        return Err(Refusal {
+            reason: Reason::TooLong,
             place: 32768,
-        };
+        });
     }
-    let style = head(sheet, Step::At(0));
-    let last = body(sheet, style, pairs);
-    ended(sheet, last)
+    let columns = head(sheet, 0)?;
+    let end = body(sheet, columns, pairs)?;
+    ended(sheet, end)
 }
 
 // Whether a reading stopped at a C2.
-fn at_first(sheet: &[u8], step: Step) -> bool
-    ensures { result ≡ at_first sheet.now step }
+fn at_first(sheet: &[u8], refusal: Refusal) -> bool
+    ensures { result ≡ at_first sheet.now (refused_as refusal) }
 {
-    let Step::Refused { number, place } = step else {
-        return false;
-    };
-    if number != 6 {
-        return false;
-    }
-    if sheet.len() <= place {
-        return false;
-    }
-    sheet[place] == 194
+    refusal.reason == Reason::BadCharacter && sheet.get(refusal.place) == Some(&0xC2)
 }
 
-// Number and place of the first refusal from the input, both 0 where the sheet is accepted. `plain`: the reading without pairs stood.
+// What is known of an accepted sheet. `plain`: the reading without pairs stood.
 #[derive(Clone, Copy)]
 pub struct Examined {
-    pub number: u64,
-    pub place: u64,
     pub plain: bool,
 }
 
 // Any bytes may be asked about. Both readings are one call, so that it is compiled into the loop.
-pub fn examine(sheet: &[u8]) -> Examined
+pub fn examine(sheet: &[u8]) -> Result<Examined, Refusal>
     ensures { ExaminedIs sheet.now result }
 {
     let mut pairs = false;
     loop {
-        let step = reading(sheet, pairs);
-        if pairs {
-            let again = answer(step);
-            return Examined {
-                number: again.number,
-                place: again.place,
-                plain: false,
-            };
+        let Err(refusal) = reading(sheet, pairs) else {
+            return Ok(Examined { plain: !pairs });
+        };
+        if pairs || !at_first(sheet, refusal) {
+            return Err(refusal);
         }
-        if at_first(sheet, step) {
-            pairs = true;
-        } else {
-            let checked = answer(step);
-            return Examined {
-                number: checked.number,
-                place: checked.place,
-                plain: true,
-            };
-        }
+        pairs = true;
     }
 }
 
-// The same without `plain`.
+// The first refusal from the input, for C; number and place are 0 where the sheet is accepted.
 pub fn check(sheet: &[u8]) -> Checked
     ensures { result ≡ calls.check sheet.now }
 {
-    let examined = examine(sheet);
-    Checked {
-        number: examined.number,
-        place: examined.place,
+    match examine(sheet) {
+        Ok(_) => Checked {
+            number: 0,
+            place: 0,
+        },
+        Err(refusal) => Checked::from(refusal),
     }
 }

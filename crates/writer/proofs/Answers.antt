@@ -15,17 +15,15 @@ use Rattle.rules.specs.Calls.{Written, not_printed, put_or}
 use Rattle.rules.specs.Calls as calls
 use Rattle.rules.specs.Editor.{Cursor, Taken, start, takes}
 use Rattle.rules.specs.Writer.{judges, judged, save_of, save, save_taken, write_sheet}
-use Rattle.rules.specs.declared.Step.{Step}
-use Rattle.rules.specs.declared.Step.TheVariants.{At, Refused}
+use Rattle.rules.specs.Steps.{Step, At, Refused}
 use Rattle.rules.proofs.Parts.{Whole, table_whole}
 use Rattle.laws.proofs.Accepted.{line_whole}
 use Rattle.laws.proofs.Judging.{table_tests, judged_inside, judged_number, table_narrow, judged_bytes}
 use Rattle.buffer.specs.Put.{put_at, over}
 use Rattle.buffer.proofs.Laws.{over-put-zero}
-use Rattle.editor.specs.declared.walk.Walk.{Walk}
-use Rattle.writer.specs.declared.Decided.{Decided}
+use Rattle.editor.specs.Walk.{Walk}
 use Rattle.editor.specs.Walk.{cap, State, state, cursor_of, fault_of, place_of, first_place, walked}
-use Rattle.writer.specs.Answer.{begun, fitting, decided}
+use Rattle.writer.specs.Answer.{Decided, begun, fitting, decided}
 use Rattle.editor.proofs.Entering.{cap_under}
 use Rattle.editor.proofs.Texts.{low_bytes}
 use Rattle.writer.proofs.Whole.{Enters, walked_cursor, enters}
@@ -66,6 +64,27 @@ module _ (w : Walk) (numbers bytes room : ℕ) where
       pub decided_fit : w.place ≤ 32768 → fitting w.fault w.at w.place room ≡ decided w numbers bytes room
       unfolding decided
       decided_fit h = rw (m, decided, ← e, f, le-ltb 32768 w.place h)
+
+-- by the code's tests of a walk on which nothing was missing
+module _ (w : Walk) (numbers bytes room : ℕ) (m : w.missing ≡ false) where
+  some-over : (b : Bool) → (ltb w.numbers numbers || ltb w.text bytes) ≡ b → b ≡ true → told 9 w.numbers ≡ decided w numbers bytes room
+  some-over b e h = decided-over w numbers bytes room m b (sym e) h
+
+  pub numbers_over : w.numbers < numbers → told 9 w.numbers ≡ decided w numbers bytes room
+  numbers_over h = some-over true (rw (lt-ltb w.numbers numbers h)) refl
+
+  pub text_over : numbers ≤ w.numbers → w.text < bytes → told 9 w.numbers ≡ decided w numbers bytes room
+  text_over h k = some-over true (rw (le-ltb w.numbers numbers h, lt-ltb w.text bytes k)) refl
+
+  module _ (h : numbers ≤ w.numbers) (k : bytes ≤ w.text) where
+    none-over : false ≡ (ltb w.numbers numbers || ltb w.text bytes)
+    none-over = rw (le-ltb w.numbers numbers h, le-ltb w.text bytes k)
+
+    pub too_long : 32768 < w.place → told 2 32768 ≡ decided w numbers bytes room
+    too_long l = decided_long w numbers bytes room m false none-over refl l
+
+    pub by_fit : w.place ≤ 32768 → fitting w.fault w.at w.place room ≡ decided w numbers bytes room
+    by_fit l = decided_fit w numbers bytes room m false none-over refl l
 
 -- ---- what the first run tells of the table that the slices describe
 
@@ -231,10 +250,10 @@ module _ (ns ts b : List ℕ) (w : Walk) (a : Decided) (f : w ≡ (walked table 
       go (inl x) = (sym (ap (λ (y : Written). y.answer) x.is), sym (ap (λ (y : Written). y.buffer) x.is))
       go (inr x) = absurd (h x.number)
 
-  pub call-saved : (r : Walk) (d : List ℕ) → a.number ≡ 0 → state r d ≡ walked table ns ts (state begun b)
+  pub call_saved : (r : Walk) (d : List ℕ) → a.number ≡ 0 → state r d ≡ walked table ns ts (state begun b)
       → (record { number = 0; place = 0; written = w.place } ≡ (write_sheet ns ts b).answer) × (d ≡ (write_sheet ns ts b).buffer)
   unfolding written over
-  call-saved r d h k = go first_run
+  call_saved r d h k = go first_run
     where
       go : Turned b a (write_sheet ns ts b) ⊎ Fits w (takes table ns ts start) b a (write_sheet ns ts b)
           → (record { number = 0; place = 0; written = w.place } ≡ (write_sheet ns ts b).answer) × (d ≡ (write_sheet ns ts b).buffer)
@@ -246,3 +265,8 @@ module _ (ns ts b : List ℕ) (w : Walk) (a : Decided) (f : w ≡ (walked table 
             ap (λ n. record { number = 0; place = 0; written = n }) x.size ∙ sym (ap (λ (y : Written). y.answer) x.is),
             ap (λ (s : State). s.sheet) k ∙ put ∙ ap (put_at b 0) bytes ∙ sym (over-put-zero (writes table t) b) ∙ sym (ap (λ (y : Written). y.buffer) x.is),
           )
+
+pub call_missing : (ns ts b : List ℕ) (w : Walk) → w ≡ (walked table ns ts (state begun [])).walk → w.missing ≡ true
+    → (record { number = 1; place = w.numbers; written = 0 } ≡ (write_sheet ns ts b).answer) × (b ≡ (write_sheet ns ts b).buffer)
+call_missing ns ts b w f m =
+    call_refused ns ts b w (told 1 w.numbers) f (decided-missing w (length ns) (length ts) (length b) m) (λ z. absurd (omega arith))

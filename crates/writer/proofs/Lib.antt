@@ -1,3 +1,4 @@
 pub mod Walks
 pub mod Whole
 pub mod Answers
+pub mod Laws

@@ -1,7 +1,7 @@
 -- Laws of the walk: once something was missing it stands still, and the buffer keeps its length; sections as the code walks them; loops. Assumes nothing.
 use Prim.Native.Nat.{ℕ, zero, suc, ◌+◌, ◌-◌, ◌≤◌, ◌<◌}
 use mathlib.Core.Path.{◌≡◌, refl, sym, ap, ◌∙◌}
-use mathlib.Core.List.{List, [], map}
+use mathlib.Core.List.{List, [], ◌∷◌, map}
 use mathlib.Core.Bool.{Bool, true, false, cond}
 use native.Mathlib.Omega.{arith}
 use lib.ListN.{length}
@@ -14,14 +14,14 @@ use Rattle.rules.specs.Description.{Format, byte, word, only, zero_word, text, c
 use Rattle.rules.specs.Description.{within, code, word_to, optional, counted, unknown_code, beyond_limits, bad_character, not_zero, wrong_edition}
 use Rattle.rules.specs.Format.{width, column, line, cell_by, cell, cell_count, row_by, row, table_by, table}
 use Rattle.rules.specs.Editor.{Cursor, Taken, number_at, bytes_at, text_taken, several_taken, takes}
-use Rattle.rules.specs.Writer.{judges}
-use Rattle.rules.specs.declared.Step.{Step}
+use Rattle.rules.specs.Writer.{passes, judges}
+use Rattle.rules.specs.Steps.{Step}
 use Rattle.buffer.specs.Put.{put_at}
 use Rattle.buffer.proofs.Laws.{length-put}
-use Rattle.editor.specs.declared.walk.Walk.{Walk}
+use Rattle.editor.specs.Walk.{Walk}
 use Rattle.editor.specs.Walk.{cursor_of, moved, State, state, noted, advanced, stamped, low, entered, field_entered, byte_entered, again, value_at, walked}
 use Rattle.writer.specs.Answer.{constraint_walked, head_walked, body_walked}
-use Rattle.editor.proofs.Entering.{missing-entered}
+use Rattle.editor.proofs.Entering.{missing_entered}
 use Rattle.editor.proofs.Fields.{byte-walked}
 
 -- ---- once something was missing
@@ -70,7 +70,7 @@ field_stays x ns ts s m =
     let y = judges x v s.walk.place in
     let l = map low (writes x v) in
     ap (λ (c : Cursor). entered y l (state (moved c s.walk) s.sheet)) (takes_stays x ns ts (cursor_of s.walk) m)
-    ∙ sym (missing-entered y l s.walk s.sheet m)
+    ∙ sym (missing_entered y l s.walk s.sheet m)
 
 again_stays : (f : State → State) (s : State) → f s ≡ s → (n : ℕ) → again n f s ≡ s
 unfolding again
@@ -91,6 +91,13 @@ walked_stays (listed count x) ns ts s m =
 walked_stays (give a) ns ts s m = refl
 walked_stays (next of x g) ns ts s m =
     rw (walked_stays x ns ts s m) (walked_stays (g (value_at x ns ts s)) ns ts s m)
+
+pub byte_stays : (good : ℕ → Bool) (n : ℕ) (ns : List ℕ) (s : State) → s.walk.missing ≡ true → byte_entered good n ns s ≡ s
+unfolding byte_entered
+byte_stays good n ns s m =
+    let v = (number_at ns (cursor_of s.walk)).value in
+    ap (λ (c : Cursor). entered (passes (good v) n s.walk.place 0) (low v ∷ []) (state (moved c s.walk) s.sheet)) (number_stays ns (cursor_of s.walk) m)
+    ∙ sym (missing_entered (passes (good v) n s.walk.place 0) (low v ∷ []) s.walk s.sheet m)
 
 -- ---- the buffer keeps its length
 
@@ -192,42 +199,33 @@ module _ (ns : List ℕ) where
 
 -- ---- loops
 
--- with n items left and standing at s, what is left comes to w
-pub record Left (f : State → State) (n : ℕ) (s w : State) : Type 0 where
-  pub rest : again n f s ≡ w
+-- with i of n items walked and standing at s, what is left comes to w
+pub record Left (f : State → State) (n i : ℕ) (s w : State) : Type 0 where
+  pub rest : again (n - i) f s ≡ w
 
-pub left_begin : (f : State → State) (n : ℕ) (s : State) → Left f n s (again n f s)
-left_begin f n s = record { rest = refl }
+pub left_begin : (f : State → State) (n : ℕ) (s : State) → Left f n 0 s (again n f s)
+left_begin f n s = let z : n - 0 ≡ n = omega arith in record { rest = rw z }
 
--- one item less
-pub still_less : (b : Bool) (n m : ℕ) → 0 < n → m ≡ cond b 0 (n - 1) → m < n
-still_less true n m h e = omega (arith, e)
-still_less false n m h e = omega (arith, e)
+turned : (f : State → State) (n i : ℕ) (s w : State) → i < n → Left f n i s w → again (n - (i + 1)) f (f s) ≡ w
+unfolding again
+turned f n i s w h l = let z : n - i ≡ suc (n - (i + 1)) = omega arith in rw z at l.rest
 
--- items of a format; none is left to walk where something was missing
+pub left_again : (f : State → State) (n i : ℕ) (s t w : State) → i < n → Left f n i s w → t ≡ f s → Left f n (i + 1) t w
+left_again f n i s t w h l e = record { rest = rw e (turned f n i s w h l) }
+
+pub left_done : (f : State → State) (n i : ℕ) (s w : State) → n ≤ i → Left f n i s w → s ≡ w
+unfolding again
+left_done f n i s w h l = let z : n - i ≡ 0 = omega arith in rw z at l.rest
+
+-- items of a format
 module _ {A : Type 0} (x : Format A) (ns ts : List ℕ) where
   abbrev turn : State → State
   turn u = walked x ns ts u
 
-  none_left : (n m : ℕ) (s : State) → m ≡ cond s.walk.missing 0 n → again m turn s ≡ again n turn s
-  unfolding again
-  none_left n m s e = go s.walk.missing refl e
-    where
-      go : (b : Bool) → s.walk.missing ≡ b → m ≡ cond b 0 n → again m turn s ≡ again n turn s
-      go true h k = rw k (sym (again_stays turn s (walked_stays x ns ts s h) n))
-      go false h k = rw k
-
-  pub left-again : (n m : ℕ) (s t w : State) → 0 < n → Left turn n s w → t ≡ turn s → m ≡ cond t.walk.missing 0 (n - 1) → Left turn m t w
-  unfolding again
-  left-again n m s t w h l e k =
-      let z : n ≡ suc (n - 1) = omega arith in
-      record { rest = none_left (n - 1) m t k ∙ ap (again (n - 1) turn) e ∙ ap (λ i. again i turn s) (sym z) ∙ l.rest }
-
-  pub left_done : (n k m : ℕ) (s u w : State) → n ≤ 0 → Left turn n s w → w ≡ again m turn u → m ≡ cond u.walk.missing 0 k → s ≡ again k turn u
-  unfolding again
-  left_done n k m s u w h l e f =
-      let z : n ≡ 0 = omega arith in
-      ap (λ i. again i turn s) (sym z) ∙ l.rest ∙ e ∙ none_left k m u f
+  -- one of them was missing
+  pub left_stopped : (n i : ℕ) (s t w : State) → i < n → Left turn n i s w → t ≡ turn s → t.walk.missing ≡ true → t ≡ w
+  left_stopped n i s t w h l e m =
+      sym (again_stays turn t (walked_stays x ns ts t m) (n - (i + 1))) ∙ rw e (turned turn n i s w h l)
 
   -- a count and its items
   pub counted-walked : (low high : ℕ) (s t u : State) (n : ℕ) → t ≡ byte_entered (between low high) 5 ns s
@@ -312,3 +310,68 @@ module _ (ns ts : List ℕ) where
       let c = number_at ns (cursor_of h.walk) in
       let n = several-count (λ d. takes column ns ts d) c.value c.after in
       f ∙ rw (e, n)
+
+-- ---- sections as the code walks them: equations, and what stays where something was missing
+
+pub width_with : (ns : List ℕ) (used : Bool) (s : State) → used ≡ true
+    → walked (width used) ns [] s ≡ walked (word_to (cond (eqb (number_at ns (cursor_of s.walk)).value 0) 400 65535)) ns [] (byte_entered (between 0 1) 4 ns s)
+width_with ns used s e = sym (width_used ns used s _ _ _ _ e refl refl refl refl)
+
+pub width_without : (ns : List ℕ) (used : Bool) (s : State) → used ≡ false
+    → walked (width used) ns [] s ≡ walked zero_word ns [] (byte_entered (between 0 0) 8 ns s)
+width_without ns used s e = sym (width_unused ns used s _ _ e refl refl)
+
+pub constraint_steps : (ns : List ℕ) (s : State)
+    → constraint_walked ns s ≡ walked (width (eqb (number_at ns (cursor_of s.walk)).value 6)) ns []
+    (walked (width (leb 3 (number_at ns (cursor_of s.walk)).value)) ns [] (byte_entered (between 0 6) 4 ns s))
+constraint_steps ns s = sym (constraint-walked ns s _ _ _ _ refl refl refl refl)
+
+pub constraint_stays : (ns : List ℕ) (s : State) → s.walk.missing ≡ true → constraint_walked ns s ≡ s
+unfolding constraint_walked
+constraint_stays ns s m =
+    let k = (number_at ns (cursor_of s.walk)).value in
+    rw (walked_stays (code 6) ns [] s m, walked_stays (width (leb 3 k)) ns [] s m) (walked_stays (width (eqb k 6)) ns [] s m)
+
+pub column_steps : (ns : List ℕ) (s : State)
+    → walked column ns [] s ≡ constraint_walked ns (byte_entered (between 0 3) 4 ns (byte_entered printable_or_zero 6 ns
+    (byte_entered (between 0 20) 5 ns (byte_entered (between 0 20) 5 ns s))))
+column_steps ns s = sym (column-walked ns s _ _ _ _ _ refl refl refl refl refl)
+
+module _ (ns ts : List ℕ) where
+  pub counted_steps : {A : Type 0} (x : Format A) (low high : ℕ) (s : State)
+      → walked (counted low high x) ns ts s ≡ again (number_at ns (cursor_of s.walk)).value (λ u. walked x ns ts u) (byte_entered (between low high) 5 ns s)
+  counted_steps x low high s = sym (counted-walked x ns ts low high s _ _ _ refl refl refl)
+
+  pub items_stay : {A : Type 0} (x : Format A) (n : ℕ) (s : State) → s.walk.missing ≡ true → again n (λ u. walked x ns ts u) s ≡ s
+  items_stay x n s m = again_stays (λ u. walked x ns ts u) s (walked_stays x ns ts s m) n
+
+  pub cell_steps : (s : State) → walked cell ns ts s ≡ walked (counted 1 8 line) ns ts (byte_entered (between 0 3) 4 ns (byte_entered printable_or_zero 6 ns s))
+  cell_steps s = sym (cell-walked ns ts s _ _ _ refl refl refl)
+
+  pub cells_steps : (columns : ℕ) (s : State)
+      → walked (listed (cell_count columns) cell) ns ts s
+      ≡ again (number_at ns (cursor_of s.walk)).value (λ u. walked cell ns ts u) (walked (cell_count columns) ns [] s)
+  cells_steps columns s = sym (cells-walked ns ts columns s _ _ _ refl refl refl)
+
+  pub row_steps : (columns : ℕ) (s : State)
+      → walked (row columns) ns ts s ≡ walked (listed (cell_count columns) cell) ns ts (byte_entered (between 0 255) 5 ns s)
+  row_steps columns s = sym (row_walked ns ts columns s _ _ refl refl)
+
+  pub head_steps : (s : State)
+      → head_walked ns ts s ≡ walked (text style_characters style_characters printable_or_zero) ns ts (walked (text 0 8 printable) ns ts
+      (byte_entered printable_or_zero 6 ns (walked (word_to 400) ns [] (byte_entered (between 0 2) 4 ns (byte_entered (between 1 1) 3 ns s)))))
+  head_steps s = sym (head-walked ns ts s _ _ _ _ _ _ refl refl refl refl refl refl)
+
+  pub body_steps : (s : State)
+      → body_walked ns ts s ≡ walked (counted 0 100 (row (number_at ns (cursor_of s.walk)).value)) ns ts
+      (walked (counted 0 1 (row (number_at ns (cursor_of s.walk)).value)) ns ts (walked (counted 0 most_columns column) ns [] s))
+  body_steps s = sym (body-walked ns ts s _ _ _ _ refl refl refl refl)
+
+  pub body_stays : (s : State) → s.walk.missing ≡ true → body_walked ns ts s ≡ s
+  body_stays s m =
+      let n = (number_at ns (cursor_of s.walk)).value in
+      body_steps s ∙ rw (walked_stays (counted 0 most_columns column) ns [] s m, walked_stays (counted 0 1 (row n)) ns ts s m)
+      (walked_stays (counted 0 100 (row n)) ns ts s m)
+
+  pub table_steps : (s : State) → walked table ns ts s ≡ body_walked ns ts (head_walked ns ts s)
+  table_steps s = sym (table-walked ns ts s _ _ refl refl)

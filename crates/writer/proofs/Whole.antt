@@ -9,13 +9,12 @@ use Rattle.rules.specs.Text.{or_else, flat}
 use Rattle.rules.specs.Description.{Format, byte, word, only, zero_word, text, cell_text, listed, give, next, writes, Faithful}
 use Rattle.rules.specs.Editor.{Cursor, Taken, several_taken, takes}
 use Rattle.rules.specs.Writer.{thence, in_turn, judges}
-use Rattle.rules.specs.declared.Step.{Step}
-use Rattle.rules.specs.declared.Step.TheVariants.{At, Refused}
+use Rattle.rules.specs.Steps.{Step, At, Refused}
 use Rattle.buffer.specs.Put.{put_at}
 use Rattle.buffer.proofs.Laws.{put-nil, put-put, length-put}
 use Rattle.laws.proofs.Lists.{map-append}
 use Rattle.laws.proofs.Judging.{judged_ends, judged_number}
-use Rattle.editor.specs.declared.walk.Walk.{Walk}
+use Rattle.editor.specs.Walk.{Walk}
 use Rattle.editor.specs.Walk.{cap, cursor_of, moved, State, state, fault_of, first_place, place_of, noted, advanced, stamped, low, entered}
 use Rattle.editor.specs.Walk.{field_entered, again, value_at, walked}
 use Rattle.editor.proofs.Entering.{cap_under, cap-most, cap_more, or-none, stamped-all}

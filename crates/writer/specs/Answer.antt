@@ -1,14 +1,17 @@
 -- The walk's sections, and what is answered by it. Assumes nothing.
-use Rattle.std.specs.Prelude.{ℕ, zero, suc, List, [], true, false, ◌||◌, leb, ltb, eqb}
+use Rattle.std.specs.Prelude.{Result, Ok, Err, ℕ, zero, suc, List, [], true, false, ◌||◌, leb, ltb, eqb}
 use Rattle.rules.specs.Sheet.{most_columns}
 use Rattle.rules.specs.Style.{style_characters}
 use Rattle.rules.specs.Field.{between, printable, printable_or_zero}
 use Rattle.rules.specs.Description.{byte, only, text, code, word_to, optional, counted, wrong_edition}
 use Rattle.rules.specs.Format.{width, column, row}
 use Rattle.rules.specs.Editor.{number_at}
-use Rattle.editor.specs.declared.walk.Walk.{Walk}
+use Rattle.editor.specs.Walk.{Walk}
 use Rattle.editor.specs.Walk.{cursor_of, State, walked}
-use Rattle.writer.specs.declared.Decided.{Decided}
+use Rattle.rules.specs.Refusals.{number_of}
+use Rattle.rules.specs.Calls.{turned_down}
+use Rattle.rules.specs.declared.Printed.{Printed}
+use Rattle.rules.specs.declared.Refusal.{Refusal}
 
 -- a constraint: its code; the first width is used from 3 on, the second by 6
 unfoldable pub constraint_walked : List ℕ → State → State
@@ -30,6 +33,20 @@ body_walked ns ts s =
 -- before the first field
 abbrev pub begun : Walk
 begun = record { numbers = 0; text = 0; missing = false; place = 0; fault = 0; at = 0 }
+
+-- number and place, both 0 where the sheet is to be written
+pub record Decided : Type 0 where
+  pub number : ℕ
+  pub place : ℕ
+
+-- what the code's decision, and its answer, come to
+abbrev pub decided_to : Result (Unit {0}) Refusal → Decided
+decided_to (Ok u) = record { number = 0; place = 0 }
+decided_to (Err r) = record { number = number_of r.reason; place = r.place }
+
+abbrev pub printed_of : Result ℕ Refusal → Printed
+printed_of (Ok n) = record { number = 0; place = 0; written = n }
+printed_of (Err r) = turned_down (number_of r.reason) r.place
 
 -- what is answered by the walk over the whole table, and by how much room there is: 1, 9, 2, the first fault, 22
 unfoldable pub fitting : ℕ → ℕ → ℕ → ℕ → Decided

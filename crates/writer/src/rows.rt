@@ -2,56 +2,65 @@
 ghost use Rattle.std.specs.Prelude.{◌≡◌};
 ghost use Rattle.rules.specs.Description as description;
 ghost use Rattle.rules.specs.Format as format;
-ghost use Rattle.editor.specs.Walk.{state, walked};
+ghost use Rattle.editor.specs.Walk.{state, walked, walk_of, walked_to};
 
 use editor::text::Kind;
-use editor::walk::Walk;
-use editor::{field, text, walk};
+use editor::walk::{Missing, Walk};
+use editor::{field, text};
+use rules::Reason;
 
 // A cell's lines.
-fn lines(numbers: &[u16], text: &[u8], sheet: &mut [u8], from: Walk) -> Walk
-    ensures { state result sheet.new
-        ≡ walked (description.counted 1 8 format.line) numbers.now text.now (state from sheet.old) }
+fn lines(numbers: &[u16], text: &[u8], sheet: &mut [u8], from: Walk) -> Result<Walk, Missing>
+    ensures { state (walked_to result) sheet.new
+        ≡ walked (description.counted 1 8 format.line) numbers.now text.now (state (walk_of from) sheet.old) }
 {
-    let count = field::byte_between(numbers, sheet, from, 1, 8, 5);
+    let count = field::byte_between(numbers, sheet, from, 1, 8, Reason::BeyondLimits)?;
     let mut at = count.walk;
-    let mut left = walk::still(at, count.value);
-    while 0 < left {
-        at = text::text(numbers, text, sheet, at, Kind::Line);
-        left = walk::still(at, left - 1);
+    for _ in 0..count.value {
+        at = text::text(numbers, text, sheet, at, Kind::Line)?;
     }
-    at
+    Ok(at)
 }
 
-fn cell(numbers: &[u16], text: &[u8], sheet: &mut [u8], from: Walk) -> Walk
-    ensures { state result sheet.new ≡ walked format.cell numbers.now text.now (state from sheet.old) }
+fn cell(numbers: &[u16], text: &[u8], sheet: &mut [u8], from: Walk) -> Result<Walk, Missing>
+    ensures { state (walked_to result) sheet.new ≡ walked format.cell numbers.now text.now (state (walk_of from) sheet.old) }
 {
-    let delimiter = field::optional(numbers, sheet, from);
-    let alignment = field::within(numbers, sheet, delimiter, 0, 3, 4);
-    lines(numbers, text, sheet, alignment)
+    let alignment = field::optional(numbers, sheet, from)?;
+    let count = field::within(numbers, sheet, alignment, 0, 3, Reason::UnknownCode)?;
+    lines(numbers, text, sheet, count)
 }
 
 // A row's cells, which are held to the column count.
-fn cells(numbers: &[u16], text: &[u8], sheet: &mut [u8], from: Walk, columns: u16) -> Walk
-    ensures { state result sheet.new
-        ≡ walked (description.listed (format.cell_count columns) format.cell) numbers.now text.now (state from sheet.old) }
+fn cells(
+    numbers: &[u16],
+    text: &[u8],
+    sheet: &mut [u8],
+    from: Walk,
+    columns: u16,
+) -> Result<Walk, Missing>
+    ensures { state (walked_to result) sheet.new
+        ≡ walked (description.listed (format.cell_count columns) format.cell) numbers.now text.now (state (walk_of from) sheet.old) }
 {
-    let count = field::cell_count(numbers, sheet, from, columns);
+    let count = field::cell_count(numbers, sheet, from, columns)?;
     let mut at = count.walk;
-    let mut left = walk::still(at, count.value);
-    while 0 < left {
-        at = cell(numbers, text, sheet, at);
-        left = walk::still(at, left - 1);
+    for _ in 0..count.value {
+        at = cell(numbers, text, sheet, at)?;
     }
-    at
+    Ok(at)
 }
 
-fn row(numbers: &[u16], text: &[u8], sheet: &mut [u8], from: Walk, columns: u16) -> Walk
-    ensures { state result sheet.new
-        ≡ walked (format.row columns) numbers.now text.now (state from sheet.old) }
+fn row(
+    numbers: &[u16],
+    text: &[u8],
+    sheet: &mut [u8],
+    from: Walk,
+    columns: u16,
+) -> Result<Walk, Missing>
+    ensures { state (walked_to result) sheet.new
+        ≡ walked (format.row columns) numbers.now text.now (state (walk_of from) sheet.old) }
 {
-    let limit = field::within(numbers, sheet, from, 0, 255, 5);
-    cells(numbers, text, sheet, limit, columns)
+    let count = field::within(numbers, sheet, from, 0, 255, Reason::BeyondLimits)?;
+    cells(numbers, text, sheet, count, columns)
 }
 
 // Up to `most` rows after their count.
@@ -62,16 +71,14 @@ pub fn rows(
     from: Walk,
     columns: u16,
     most: u16,
-) -> Walk
-    ensures { state result sheet.new
-        ≡ walked (description.counted 0 most (format.row columns)) numbers.now text.now (state from sheet.old) }
+) -> Result<Walk, Missing>
+    ensures { state (walked_to result) sheet.new
+        ≡ walked (description.counted 0 most (format.row columns)) numbers.now text.now (state (walk_of from) sheet.old) }
 {
-    let count = field::byte_between(numbers, sheet, from, 0, most, 5);
+    let count = field::byte_between(numbers, sheet, from, 0, most, Reason::BeyondLimits)?;
     let mut at = count.walk;
-    let mut left = walk::still(at, count.value);
-    while 0 < left {
-        at = row(numbers, text, sheet, at, columns);
-        left = walk::still(at, left - 1);
+    for _ in 0..count.value {
+        at = row(numbers, text, sheet, at, columns)?;
     }
-    at
+    Ok(at)
 }

@@ -1,6 +1,8 @@
 -- `sheet::check` meets its contract. Assumes nothing.
-use Rattle.sheet.proofs.Sections.{check-parts}
+use mathlib.Core.Path.{◌∙◌}
+use Rattle.rules.specs.Calls.{check_of}
 use Rattle.sheet.proofs.check.Goals as goal
 
-pub returns : goal.returns
-returns c = check-parts _ _ _ c.examine-examined.ensures.number c.examine-examined.ensures.place
+pub returns-in-Err : goal.returns-in-Err
+unfolding check_of
+returns-in-Err c = c.from.ensures ∙ c.in-Err.ensures.checked

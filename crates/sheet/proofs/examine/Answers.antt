@@ -1,27 +1,17 @@
--- `sheet::examine` meets its contract. The loop: pairs are looked for only once the reading without them stopped at a C2. Assumes nothing.
-use Prim.Native.Nat.{ℕ}
-use mathlib.Core.Path.{◌≡◌, sym, ◌∙◌}
-use native.Mathlib.Omega.{arith}
-use Rattle.sheet.proofs.Sections.{examined-again, examined_once, examined_twice}
+-- `sheet::examine` meets its contract. Assumes nothing.
+use mathlib.Core.Path.{refl, sym, ◌∙◌}
+use mathlib.Core.Logic.{inl, inr}
+use Rattle.sheet.proofs.Sections.{examined_good, examined_bad}
 use Rattle.sheet.proofs.examine.Goals as goal
+use Rattle.sheet.proofs.examine.Goals.{then-pairs-via-then-pairs, then-pairs-via-else-pairs+then-not-at_first}
 
-pub loop-pairs-init : goal.loop-pairs-init
-loop-pairs-init c e = let z : ◌≡◌ {A = ℕ} 0 1 = cc in absurd (omega arith)
+pub returns-in_default : goal.returns-in_default
+returns-in_default c = examined_good _ c.loop-refusal.pairs _ c.in_default.ensures c.loop-refusal.invariant _ refl
 
 pub returns-then-pairs : goal.returns-then-pairs
 returns-then-pairs c =
-    let taken = c.if-pairs.true in
-    examined_twice _ c.loop-pairs.pairs _ c.reading-step.ensures _ taken (c.loop-pairs.invariant taken) c.answer-again.ensures
-
-pub loop-pairs-smaller : goal.loop-pairs-smaller
-loop-pairs-smaller c = rw c.if-pairs.false (omega arith)
-
-pub loop-pairs-preserved : goal.loop-pairs-preserved
-loop-pairs-preserved c e =
-    examined-again _ c.loop-pairs.pairs _ c.reading-step.ensures c.if-pairs.false
-    (sym c.at_first.ensures ∙ c.if-at_first.true)
-
-pub returns-else-at_first : goal.returns-else-at_first
-returns-else-at_first c =
-    examined_once _ c.loop-pairs.pairs _ c.reading-step.ensures _ c.if-pairs.false
-    (sym c.at_first.ensures ∙ c.if-at_first.false) c.answer-checked.ensures
+    elim c.then-pairs.branch [
+      | then-pairs-via-then-pairs w ↦ examined_bad _ c.loop-refusal.pairs _ c.in-Err.ensures (inl w.if-pairs.true)
+      | then-pairs-via-else-pairs+then-not-at_first w ↦
+          examined_bad _ c.loop-refusal.pairs _ c.in-Err.ensures (inr (sym w.at_first.ensures ∙ w.if-not-at_first.true))
+    ]

@@ -1,10 +1,8 @@
 -- `editor::field::byte_between` meets its contract. Assumes nothing.
-use Rattle.editor.proofs.Fields.{byte-entered}
+use Rattle.editor.proofs.Fields.{byte_from}
 use Rattle.editor.proofs.field.byte_between.Goals as goal
 
-pub returns : goal.returns
-returns c =
-    record {
-      sheet_after = byte-entered _ _ _ _ _ _ _ _ _ _ c.number-taken.ensures.value c.number-taken.ensures.next c.between-good.ensures c.enter_byte.ensures;
-      value = c.number-taken.ensures.value;
-    }
+pub returns-clause-sheet_after : goal.returns-clause-sheet_after
+returns-clause-sheet_after c =
+    byte_from _ _ _ _ _ _ _ _ _ _ c.in_ok-taken.ensures.value c.in_ok-taken.ensures.next c.between-good.ensures
+    (rw (← c.fault_unless-fault.ensures) c.enter_byte.ensures)

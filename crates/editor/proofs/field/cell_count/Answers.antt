@@ -1,13 +1,9 @@
 -- `editor::field::cell_count` meets its contract. Assumes nothing.
-use mathlib.Core.Path.{ap, ◌∙◌}
-use mathlib.Core.Bool.{◌&&◌}
-use Rattle.editor.proofs.Fields.{count-entered}
+use mathlib.Core.Path.{refl}
+use Rattle.editor.proofs.Fields.{count_entered}
 use Rattle.editor.proofs.field.cell_count.Goals as goal
 
-pub returns : goal.returns
-returns c =
-    record {
-      sheet_after = count-entered _ _ _ _ _ _ _ c.number-taken.ensures.value c.number-taken.ensures.next _ _ _ _ c.between-limited.ensures
-          (c.both-good.ensures ∙ ap (λ b. c.between-limited.result && b) c.between.ensures) c.count_fault.ensures c.enter_byte.ensures;
-      value = c.number-taken.ensures.value;
-    }
+pub returns-clause-sheet_after : goal.returns-clause-sheet_after
+returns-clause-sheet_after c =
+    count_entered _ _ _ _ _ _ _ c.in_ok-taken.ensures.value c.in_ok-taken.ensures.next _ _ _ _ refl refl refl
+    (rw (← c.count_fault-fault.ensures) c.enter_byte.ensures)

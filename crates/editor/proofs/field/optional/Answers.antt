@@ -1,7 +1,8 @@
 -- `editor::field::optional` meets its contract. Assumes nothing.
-use borrow.Author.Rules.{rules}
-use Rattle.editor.proofs.Fields.{byte-entered}
+use Rattle.editor.proofs.Fields.{byte_from}
 use Rattle.editor.proofs.field.optional.Goals as goal
 
 pub returns : goal.returns
-returns c = search (rules, byte-entered)
+returns c =
+    byte_from _ _ _ _ _ _ _ _ _ _ c.in_ok-taken.ensures.value c.in_ok-taken.ensures.next c.printable_or_zero-good.ensures
+    (rw (← c.fault_unless-fault.ensures) c.enter_byte.ensures)

@@ -1,7 +1,9 @@
 -- `editor::field::word_to` meets its contract. Assumes nothing.
-use borrow.Author.Rules.{rules}
-use Rattle.editor.proofs.Fields.{word-entered}
+use mathlib.Core.Path.{refl}
+use Rattle.editor.proofs.Fields.{word_entered}
 use Rattle.editor.proofs.field.word_to.Goals as goal
 
 pub returns : goal.returns
-returns c = search (rules, word-entered)
+returns c =
+    word_entered _ _ _ _ _ _ _ c.in_ok-taken.ensures.value c.in_ok-taken.ensures.next _ _ refl
+    (rw (← c.fault_unless-fault.ensures) c.enter_word.ensures)

@@ -1,12 +1,10 @@
 -- `editor::text::enter` meets its contract. Assumes nothing.
-use Rattle.editor.proofs.Texts.{text-advanced}
-use Rattle.editor.proofs.Entering.{missing-entered, there-entered}
+use mathlib.Core.Path.{refl}
+use Rattle.editor.proofs.Texts.{text_advanced}
+use Rattle.editor.proofs.Entering.{there_entered}
 use Rattle.editor.proofs.text.enter.Goals as goal
-
-pub returns-then-from : goal.returns-then-from
-returns-then-from c = missing-entered _ _ _ _ c.if-from.true
 
 pub returns : goal.returns
 returns c =
-    there-entered _ _ _ _ _ _ c.if-from.false
-    (text-advanced _ _ _ _ _ c.args.part.now c.judge-judged.ensures c.advance-first.ensures c.advance.ensures) c.put.ensures
+    there_entered _ _ _ _ _ _ refl
+    (text_advanced _ _ _ _ _ c.args.part.now c.judge-judged.ensures c.advance-first.ensures c.advance.ensures) c.put.ensures

@@ -1,15 +1,14 @@
 -- `editor::walk::number` meets its contract. Assumes nothing.
-use mathlib.Core.Path.{refl}
-use Rattle.editor.proofs.Taking.{number_missing, number_past, number_there}
+use mathlib.Core.Path.{refl, ◌∙◌}
+use Rattle.editor.specs.Walk.{walk_of}
+use Rattle.editor.proofs.Taking.{number_none, number_value, number_next}
 use Rattle.editor.proofs.walk.number.Goals as goal
 
-pub returns-then-from : goal.returns-then-from
-returns-then-from c = let r = number_missing _ _ _ c.if-from.true c.lacking.ensures in record { value = r.0; next = r.1 }
+pub returns-in_default-clause-next : goal.returns-in_default-clause-next
+returns-in_default-clause-next c = number_none _ _ c.in_default.ensures.lookup.3
 
-pub returns-then-numbers-k : goal.returns-then-numbers-k
-returns-then-numbers-k c =
-    let r = number_past _ _ _ c.if-numbers-k.true c.lacking-then-numbers-k.ensures in
-    record { value = r.0; next = r.1 }
+pub returns-clause-value : goal.returns-clause-value
+returns-clause-value c = let h = c.in-Some.ensures.lookup.3 in h.1 0 ∙ number_value _ (walk_of c.args.from) refl h.0
 
-pub returns : goal.returns
-returns c = let r = number_there _ _ _ c.if-from.false c.if-numbers-k.false refl in record { value = r.0; next = r.1 }
+pub returns-clause-next : goal.returns-clause-next
+returns-clause-next c = number_next _ _ refl c.in-Some.ensures.lookup.3.0

@@ -1,13 +1,10 @@
 -- `writer::columns::columns` meets its contract. The loop: what is left to walk from here comes to what there was to walk. Assumes nothing.
 use mathlib.Core.List.{[]}
 use Rattle.rules.specs.Format.{column}
-use Rattle.editor.specs.Walk.{state, again, walked}
+use Rattle.editor.specs.Walk.{state, walk_of, again, walked}
 use Rattle.writer.proofs.Walks.{Left}
 use Rattle.writer.proofs.columns.columns.Given as goal
 
-abbrev pub invariant-loop-left : goal.invariant-loop-left
-invariant-loop-left l = Left (λ u. walked column l.numbers [] u) l.left (state l.at l.sheet)
-    (again l.initial.left (λ u. walked column l.numbers [] u) (state l.initial.at l.initial.sheet))
-
-abbrev pub decreases-loop-left : goal.decreases-loop-left
-decreases-loop-left l = l.left
+abbrev pub invariant-loop : goal.invariant-loop
+invariant-loop l = Left (λ u. walked column l.numbers [] u) l.end l.counter (state (walk_of l.at) l.sheet)
+    (again l.end (λ u. walked column l.numbers [] u) (state (walk_of l.initial.at) l.initial.sheet))

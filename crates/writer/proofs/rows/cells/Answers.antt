@@ -1,26 +1,21 @@
--- `writer::rows::cells` meets its contract. The loop: what is left to walk from here comes to what there was to walk. Assumes nothing.
+-- `writer::rows::cells` meets its contract. Assumes nothing.
 use mathlib.Core.Path.{refl}
-use Rattle.rules.specs.Description.{listed}
-use Rattle.rules.specs.Format.{cell_count, cell}
-use Rattle.writer.proofs.Walks.{left_begin, left-again, left_done, still_less, cells-walked, kept-length}
+use Rattle.std.proofs.lemmas.Result.{err_from_is_err_and}
+use Rattle.rules.specs.Format.{cell}
+use Rattle.writer.proofs.Walks.{left_again, left_done, left_stopped, cells-walked}
 use Rattle.writer.proofs.rows.cells.Goals as goal
 
-pub loop-left-init : goal.loop-left-init
-loop-left-init c = left_begin _ _ _
+pub returns-in_err-at : goal.returns-in_err-at
+returns-in_err-at c =
+    let p = err_from_is_err_and c.from_residual-in_err-at.result c.from_residual-in_err-at.ensures.1 in
+    rw (p.1, p.2)
+    (cells-walked _ _ _ _ _ _ _ c.in_ok-count.ensures.sheet_after c.in_ok-count.ensures.value
+    (left_stopped cell _ c.args.text.now _ _ _ _ _ c.loop-test.true c.loop.invariant c.in_err-at.ensures refl))
 
-pub loop-left-smaller : goal.loop-left-smaller
-loop-left-smaller c = still_less c.cell-at.result.missing _ _ c.loop-left-test.true c.still-left-in-loop-left.ensures
-
-pub loop-left-preserved : goal.loop-left-preserved
-loop-left-preserved c =
-    left-again cell _ _ _ _ _ _ _ c.loop-left-test.true
-    c.loop-left.invariant
-    c.cell-at.ensures c.still-left-in-loop-left.ensures
+pub loop-preserved : goal.loop-preserved
+loop-preserved c = left_again _ _ _ _ _ _ c.loop-test.true c.loop.invariant c.in_ok-at.ensures
 
 pub returns : goal.returns
 returns c =
-    cells-walked _ _ _ _ _ _ _ c.cell_count-count.ensures.sheet_after c.cell_count-count.ensures.value
-    (left_done cell _ _ _ _ _ _ _ _ c.loop-left-test.false c.loop-left.invariant refl c.still-left.ensures)
-
-pub shape_of-sheet : goal.shape_of-sheet
-shape_of-sheet c = kept-length (listed (cell_count _) cell) _ _ _ _ _ _ (returns c)
+    cells-walked _ _ _ _ _ _ _ c.in_ok-count.ensures.sheet_after c.in_ok-count.ensures.value
+    (left_done _ _ _ _ _ c.loop-test.false c.loop.invariant)

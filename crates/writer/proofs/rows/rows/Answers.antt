@@ -1,26 +1,21 @@
--- `writer::rows::rows` meets its contract. The loop: what is left to walk from here comes to what there was to walk. Assumes nothing.
+-- `writer::rows::rows` meets its contract. Assumes nothing.
 use mathlib.Core.Path.{refl}
-use Rattle.rules.specs.Description.{counted}
+use Rattle.std.proofs.lemmas.Result.{err_from_is_err_and}
 use Rattle.rules.specs.Format.{row}
-use Rattle.writer.proofs.Walks.{left_begin, left-again, left_done, still_less, counted-walked, kept-length}
+use Rattle.writer.proofs.Walks.{left_again, left_done, left_stopped, counted-walked}
 use Rattle.writer.proofs.rows.rows.Goals as goal
 
-pub loop-left-init : goal.loop-left-init
-loop-left-init c = left_begin _ _ _
+pub returns-in_err-at : goal.returns-in_err-at
+returns-in_err-at c =
+    let p = err_from_is_err_and c.from_residual-in_err-at.result c.from_residual-in_err-at.ensures.1 in
+    rw (p.1, p.2)
+    (counted-walked (row _) _ _ _ _ _ _ _ _ c.in_ok-count.ensures.sheet_after c.in_ok-count.ensures.value
+    (left_stopped (row _) _ c.args.text.now _ _ _ _ _ c.loop-test.true c.loop.invariant c.in_err-at.ensures refl))
 
-pub loop-left-smaller : goal.loop-left-smaller
-loop-left-smaller c = still_less c.row-at.result.missing _ _ c.loop-left-test.true c.still-left-in-loop-left.ensures
-
-pub loop-left-preserved : goal.loop-left-preserved
-loop-left-preserved c =
-    left-again (row _) _ _ _ _ _ _ _ c.loop-left-test.true
-    c.loop-left.invariant
-    c.row-at.ensures c.still-left-in-loop-left.ensures
+pub loop-preserved : goal.loop-preserved
+loop-preserved c = left_again _ _ _ _ _ _ c.loop-test.true c.loop.invariant c.in_ok-at.ensures
 
 pub returns : goal.returns
 returns c =
-    counted-walked (row _) _ _ _ _ _ _ _ _ c.byte_between-count.ensures.sheet_after c.byte_between-count.ensures.value
-    (left_done (row _) _ _ _ _ _ _ _ _ c.loop-left-test.false c.loop-left.invariant refl c.still-left.ensures)
-
-pub shape_of-sheet : goal.shape_of-sheet
-shape_of-sheet c = kept-length (counted 0 _ (row _)) _ _ _ _ _ _ (returns c)
+    counted-walked (row _) _ _ _ _ _ _ _ _ c.in_ok-count.ensures.sheet_after c.in_ok-count.ensures.value
+    (left_done _ _ _ _ _ c.loop-test.false c.loop.invariant)

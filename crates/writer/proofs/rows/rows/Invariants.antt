@@ -1,12 +1,9 @@
 -- `writer::rows::rows` meets its contract. The loop: what is left to walk from here comes to what there was to walk. Assumes nothing.
 use Rattle.rules.specs.Format.{row}
-use Rattle.editor.specs.Walk.{state, again, walked}
+use Rattle.editor.specs.Walk.{state, walk_of, again, walked}
 use Rattle.writer.proofs.Walks.{Left}
 use Rattle.writer.proofs.rows.rows.Given as goal
 
-abbrev pub invariant-loop-left : goal.invariant-loop-left
-invariant-loop-left l = Left (λ u. walked (row l.columns) l.numbers l.text u) l.left (state l.at l.sheet)
-    (again l.initial.left (λ u. walked (row l.columns) l.numbers l.text u) (state l.initial.at l.initial.sheet))
-
-abbrev pub decreases-loop-left : goal.decreases-loop-left
-decreases-loop-left l = l.left
+abbrev pub invariant-loop : goal.invariant-loop
+invariant-loop l = Left (λ u. walked (row l.columns) l.numbers l.text u) l.end l.counter (state (walk_of l.at) l.sheet)
+    (again l.end (λ u. walked (row l.columns) l.numbers l.text u) (state (walk_of l.initial.at) l.initial.sheet))
