@@ -18,7 +18,7 @@ use table::walk;
 
 // Where the next wrapped line of a cell is looked for: in the first of its cell lines from byte `from` on, and then in those that follow.
 // Plain lines have no pair: their columns are their bytes and needn't be counted.
-#[derive(Clone, Copy)]
+#[derive(Clone, Copy, Default)]
 pub struct CellCursor {
     pub lines: Lines,
     pub from: usize,
@@ -27,7 +27,7 @@ pub struct CellCursor {
 
 // A wrapped line, if there was one: bytes `start` to `end` of the cell line that the cursor stands in, and their columns. The cursor says where
 // to go on.
-#[derive(Clone, Copy)]
+#[derive(Clone, Copy, Default)]
 pub struct Next {
     pub found: bool,
     pub start: usize,
