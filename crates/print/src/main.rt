@@ -10,7 +10,6 @@ ghost use Rattle.io.specs.Counts.{IsPrefixLen};
 ghost use Rattle.rules.specs.Limits.{longest_line};
 
 use parts::cursor;
-use rules::MOST_COLUMNS;
 use std::time::Clock;
 use stream::Progress;
 
@@ -52,11 +51,10 @@ fn print<R: Print + Clock, E: Print>(rt: &R, errors: &E, sheet: &[u8], space: &m
         refusal::write_refusal(rt, errors, examined.number, examined.place);
         return;
     }
-    let mut columns = [[0usize; 6]; MOST_COLUMNS];
-    let p = display_info::open(sheet, examined.plain, &mut columns);
-    let mut c = cursor::first(p);
+    let p = display_info::open(sheet, examined.plain);
+    let mut c = cursor::first(&p);
     while !cursor::is_end(c) {
-        let part = lines::write(space, sheet, &columns, p, c);
+        let part = lines::write(space, sheet, &p, c);
         let n = part.bytes;
         if !write_part(rt, errors, &space[..n]) {
             return;

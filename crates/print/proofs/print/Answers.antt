@@ -11,33 +11,33 @@ open-p-requires-clause-plain_table g c =
     let e = c.examine-examined.ensures in
     examined-plain _ _ e (is_accepted _ _ (examined _ _ e) c.if-examined-ne0.false)
 
-pub loop-columns-init : goal.loop-columns-init
-loop-columns-init g c = (standing-first _ _ _ c.open-p.ensures.0 _ c.first-c.ensures, refl)
+pub loop-c-init : goal.loop-c-init
+loop-c-init g c = (standing-first _ _ c.open-p.ensures.0 _ c.first-c.ensures, refl)
 
 pub write-part-requires : goal.write-part-requires
 write-part-requires g c =
     let O = c.open-p.ensures.0 in
-    let i = c.loop-columns.invariant.0 in
-    (O, (i.at, standing_few _ _ _ O _ i))
+    let i = c.loop-c.invariant.0 in
+    (O, (i.at, standing_few _ _ O _ i))
 
 pub slice_bounds-write_part-end : goal.slice_bounds-write_part-end
 slice_bounds-write_part-end g c =
     omega (
       arith,
-      round_bytes _ _ _ c.open-p.ensures.0 _ c.loop-columns.invariant.0 _ _ _ c.write-part.ensures,
+      round_bytes _ _ c.open-p.ensures.0 _ c.loop-c.invariant.0 _ _ _ c.write-part.ensures,
       c.write-part.auto.page,
     )
 
-pub slice_bounds-write_part-end-in-loop-columns : goal.slice_bounds-write_part-end-in-loop-columns
-slice_bounds-write_part-end-in-loop-columns g c =
+pub slice_bounds-write_part-end-in-loop-c : goal.slice_bounds-write_part-end-in-loop-c
+slice_bounds-write_part-end-in-loop-c g c =
     sym (length-take-le _ _ (omega (
       arith,
-      round_bytes _ _ _ c.open-p.ensures.0 _ c.loop-columns.invariant.0 _ _ _ c.write-part.ensures,
+      round_bytes _ _ c.open-p.ensures.0 _ c.loop-c.invariant.0 _ _ _ c.write-part.ensures,
       c.write-part.auto.page,
     )))
 
-pub loop-columns-smaller : goal.loop-columns-smaller
-loop-columns-smaller g c =
-    round_less _ _ _ c.open-p.ensures.0 _ c.loop-columns.invariant.0 _ _ _ c.write-part.ensures
-    (sym c.is_end.ensures ∙ c.loop-columns-test.true)
-    (omega (arith, c.requires, c.loop-columns.invariant.1))
+pub loop-c-smaller : goal.loop-c-smaller
+loop-c-smaller g c =
+    round_less _ _ c.open-p.ensures.0 _ c.loop-c.invariant.0 _ _ _ c.write-part.ensures
+    (sym c.is_end.ensures ∙ c.loop-c-test.true)
+    (omega (arith, c.requires, c.loop-c.invariant.1))
