@@ -17,10 +17,10 @@ ghost use Rattle.formatting.specs.RowText.{Drawable, row_lines, EnteredIs, most_
 ghost use Rattle.formatting.specs.Shown.{pairs_shown};
 
 use crate::row_size;
-use cells::Next;
+use cells::{CellCursor, Next};
 use row::{Pending, VisibleColumn};
 use rules::MOST_COLUMNS;
-use table::records::Rows;
+use table::records::{Lines, Rows};
 use table::walk;
 
 // The spaces left of a text that leaves some columns free.
@@ -136,16 +136,37 @@ fn draw_cell(
     )
 }
 
+// The same line, field by field. Copied as a whole it takes its padding along, and a page of short lines takes half as long again.
+fn copied(l: Next) -> Next
+    ensures { result ≡ l }
+{
+    let c = l.cursor;
+    let lines = Lines {
+        at: c.lines.at,
+        left: c.lines.left,
+    };
+    let cursor = CellCursor {
+        lines,
+        from: c.from,
+        plain: c.plain,
+    };
+    Next {
+        found: l.found,
+        start: l.start,
+        end: l.end,
+        columns: l.columns,
+        cursor,
+    }
+}
+
 // The cell's next line.
 pub fn advance(sheet: &[u8], width: usize, t: Pending) -> Pending
     requires { Inside sheet.now t.line.cursor × ((0 < width) × Printable t.delimiter) }
     ensures { After sheet.now width t result }
 {
-    let line = t.line;
-    let cursor = line.cursor;
-    let next = cells::next_line(sheet, cursor, width, t.delimiter);
+    let next = cells::next_line(sheet, t.line.cursor, width, t.delimiter);
     Pending {
-        line: next,
+        line: copied(next),
         delimiter: t.delimiter,
         alignment: t.alignment,
     }
