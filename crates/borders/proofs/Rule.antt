@@ -13,16 +13,14 @@ use Rattle.rules.specs.Page.{line_of, ruled, visible_width, visible_widths}
 use Rattle.buffer.specs.Put.{over, put_at, build, byte_if, lead}
 use Rattle.buffer.proofs.Laws.{put-nil, put_one, over-put-zero, build-room, build_more, two}
 use Rattle.row.specs.View.{View, visible_at, shown_of, number_of, Views}
-use Rattle.row.specs.Packed.{column_from, view_of}
 use Rattle.row.specs.declared.VisibleColumn.{VisibleColumn}
-use Rattle.row.proofs.Lent.{column-at}
 use Rattle.row.proofs.Joined.{build-joined, map-map, map_numbered, build-same, edge_same}
-use Rattle.borders.specs.Rule.{rule_area, rule_piece, rule_text, rule_bytes, NarrowAll, rule_style_of}
+use Rattle.borders.specs.Rule.{rule_area, rule_piece, rule_text, rule_bytes, rule_style_of}
 use Rattle.borders.specs.declared.RuleStyle.{RuleStyle}
 
 module _ (view : View) (style : RuleStyle) where
   pub rule_is : rule_bytes view style ≡ byte_if style.opens style.left ++
-      (build (rule_piece view style) view.count ++ (byte_if style.closes style.right ++ (10 ∷ [])))
+      (build (rule_piece view style) (length view) ++ (byte_if style.closes style.right ++ (10 ∷ [])))
   unfolding rule_bytes
   rule_is = refl
 
@@ -31,24 +29,24 @@ module _ (view : View) (style : RuleStyle) where
   rule_text_lem = simp append_assoc
 
   pub rule-length : length (rule_bytes view style)
-      ≡ length (byte_if style.opens style.left) + length (build (rule_piece view style) view.count) + length
+      ≡ length (byte_if style.opens style.left) + length (build (rule_piece view style) (length view)) + length
       (byte_if style.closes style.right) + 1
   unfolding rule_bytes
   rule-length =
       let l = byte_if style.opens style.left in
-      let b = build (rule_piece view style) view.count in
+      let b = build (rule_piece view style) (length view) in
       let r = byte_if style.closes style.right in
       omega (arith, length-append l (b ++ (r ++ (10 ∷ []))), length-append b (r ++ (10 ∷ [])), length-append r (10 ∷ []))
 
   -- the whole, once its last byte is stored
   pub rule_whole : (d d₁ d₂ d₃ : List ℕ) (p q e : ℕ) → d₁ ≡ put_at d 0 (byte_if style.opens style.left) → d₂ ≡ put_at d₁ p
-      (build (rule_piece view style) view.count)
+      (build (rule_piece view style) (length view))
       → d₃ ≡ put_at d₂ q (byte_if style.closes style.right) → length (byte_if style.opens style.left) ≡ p → p + length
-      (build (rule_piece view style) view.count) ≡ q
+      (build (rule_piece view style) (length view)) ≡ q
       → q + length (byte_if style.closes style.right) ≡ e → e < length d₃ → set d₃ e 10 ≡ over (rule_bytes view style) d
   rule_whole d d₁ d₂ d₃ p q e e₁ e₂ e₃ x y z h =
       let l = byte_if style.opens style.left in
-      let b = build (rule_piece view style) view.count in
+      let b = build (rule_piece view style) (length view) in
       let r = byte_if style.closes style.right in
       let f : d₂ ≡ put_at d 0 (l ++ b) = two d 0 l b d₁ d₂ p e₁ e₂ (omega arith) (omega arith) in
       let g : d₃ ≡ put_at d 0 ((l ++ b) ++ r) = two d 0 (l ++ b) r d₂ d₃ q f e₃ (omega (arith, length-append l b)) (omega arith) in
@@ -59,7 +57,7 @@ module _ (view : View) (style : RuleStyle) where
 
 -- columns before i are drawn
 pub record Ruling (view : View) (style : RuleStyle) (page₀ : List ℕ) (at₀ : ℕ) (page : List ℕ) (at i : ℕ) : Type 0 where
-  pub within : i ≤ view.count
+  pub within : i ≤ length view
   pub place : at ≡ at₀ + length (build (rule_piece view style) i)
   pub text : page ≡ put_at page₀ at₀ (build (rule_piece view style) i)
   pub size : length page ≡ length page₀
@@ -68,7 +66,7 @@ module _ (view : View) (style : RuleStyle) (page₀ : List ℕ) (at₀ : ℕ) wh
   pub ruling_begins : Ruling view style page₀ at₀ page₀ at₀ 0
   ruling_begins = record { within = omega arith; place = omega arith; text = sym (put-nil page₀ at₀); size = refl }
 
-  module _ (page : List ℕ) (at i : ℕ) (D : Ruling view style page₀ at₀ page at i) (h : i < view.count) where
+  module _ (page : List ℕ) (at i : ℕ) (D : Ruling view style page₀ at₀ page at i) (h : i < length view) where
     here-length : length (rule_piece view style i) ≡ length (byte_if (lead i style.joined) style.junction) +
         ((visible_at view i).left + ((visible_at view i).width + (visible_at view i).right))
     unfolding rule_piece
@@ -77,12 +75,12 @@ module _ (view : View) (style : RuleStyle) (page₀ : List ℕ) (at₀ : ℕ) wh
         ∙ ap (λ n. length (byte_if (lead i style.joined) style.junction) + n)
         (length-replicate ((visible_at view i).left + ((visible_at view i).width + (visible_at view i).right)) style.fill)
 
-    pub ruling-room : at₀ + length (build (rule_piece view style) view.count) ≤ length page₀
+    pub ruling-room : at₀ + length (build (rule_piece view style) (length view)) ≤ length page₀
         → at + (length (byte_if (lead i style.joined) style.junction) +
         ((visible_at view i).left + ((visible_at view i).width + (visible_at view i).right))) ≤ length page
-    ruling-room r = omega (arith, D.place, D.size, here-length, build-room (rule_piece view style) i view.count h)
+    ruling-room r = omega (arith, D.place, D.size, here-length, build-room (rule_piece view style) i (length view) h)
 
-    pub ruling-on : (page₁ : List ℕ) (at₁ : ℕ) → at₀ + length (build (rule_piece view style) view.count) ≤ length page₀
+    pub ruling-on : (page₁ : List ℕ) (at₁ : ℕ) → at₀ + length (build (rule_piece view style) (length view)) ≤ length page₀
         → at₁ ≡ at + (length (byte_if (lead i style.joined) style.junction) +
         ((visible_at view i).left + ((visible_at view i).width + (visible_at view i).right)))
         → page₁ ≡ put_at page at (byte_if (lead i style.joined) style.junction ++ rule_area (visible_at view i) style.fill)
@@ -98,32 +96,12 @@ module _ (view : View) (style : RuleStyle) (page₀ : List ℕ) (at₀ : ℕ) wh
           size = l ∙ D.size;
         }
 
-  pub ruling_done : (page : List ℕ) (at i : ℕ) → Ruling view style page₀ at₀ page at i → view.count ≤ i → Ruling view style page₀ at₀ page at
-      view.count
+  pub ruling_done : (page : List ℕ) (at i : ℕ) → Ruling view style page₀ at₀ page at i → length view ≤ i → Ruling view style page₀ at₀ page at
+      (length view)
   ruling_done page at i D h =
       let w = D.within in
-      let e : i ≡ view.count = omega arith in
+      let e : i ≡ length view = omega arith in
       rw e at D
-
--- ---- the loop: what it has read is the column that its invariant speaks of
-
-module _ (cols : List (List ℕ)) (n : ℕ) (style : RuleStyle) (page₀ : List ℕ) (at₀ : ℕ)
-    (room : at₀ + length (build (rule_piece (view_of cols n) style) n) ≤ length page₀)
-    (page : List ℕ) (at i : ℕ) (D : Ruling (view_of cols n) style page₀ at₀ page at i) (h : i < n) (v : VisibleColumn) (j : Bool)
-    (ev : v ≡ column_from (get_or cols i [])) (ej : j ≡ lead i style.joined) where
-  rv : v ≡ visible_at (view_of cols n) i
-  rv = ev ∙ sym (column-at cols n i)
-
-  pub fill_narrow : NarrowAll (view_of cols n) → v.left + (v.width + v.right) < 65536
-  fill_narrow N = rw rv (N.each i h)
-
-  pub fill-room : at + (length (byte_if j style.junction) + (v.left + (v.width + v.right))) ≤ length page
-  fill-room = rw (rv, ej) (ruling-room (view_of cols n) style page₀ at₀ page at i D h room)
-
-  pub fill_on : (page₁ : List ℕ) (at₁ : ℕ) → at₁ ≡ at + (length (byte_if j style.junction) + (v.left + (v.width + v.right)))
-      → page₁ ≡ put_at page at (byte_if j style.junction ++ rule_area v style.fill) → length page₁ ≡ length page → Ruling (view_of cols n) style page₀
-      at₀ page₁ at₁ (i + 1)
-  fill_on page₁ at₁ e w l = ruling-on (view_of cols n) style page₀ at₀ page at i D h page₁ at₁ room (rw (rv, ej) at e) (rw (rv, ej) at w) l
 
 -- ---- the document's line
 
@@ -140,16 +118,16 @@ rule-drawn t ws view W S always k =
     let b = always || any_junction S in
     let f = glyph (glyph_at S (k + 1)) in
     let g : ℕ → List ℕ = λ i. replicate (visible_width t ws (number_of t i)) f in
-    let p : build (λ i. byte_if (lead i b) (glyph (glyph_at S (k + 2))) ++ rule_area (visible_at view i) f) view.count ≡ build
-    (λ i. byte_if (lead i b) (glyph (glyph_at S (k + 2))) ++ g i) view.count =
-    build-same _ _ view.count (λ i h. ap (λ l. byte_if (lead i b) (glyph (glyph_at S (k + 2))) ++ l)
+    let p : build (λ i. byte_if (lead i b) (glyph (glyph_at S (k + 2))) ++ rule_area (visible_at view i) f) (length view) ≡ build
+    (λ i. byte_if (lead i b) (glyph (glyph_at S (k + 2))) ++ g i) (length view) =
+    build-same _ _ (length view) (λ i h. ap (λ l. byte_if (lead i b) (glyph (glyph_at S (k + 2))) ++ l)
     (area_fill t ws (number_of t i) f (visible_at view i) (W.each i h))) in
-    let q : map (λ v. replicate v f) (map (visible_width t ws) (visible t)) ≡ map g (up_from 0 view.count) =
+    let q : map (λ v. replicate v f) (map (visible_width t ws) (visible t)) ≡ map g (up_from 0 (length view)) =
     map-map (visible_width t ws) (λ v. replicate v f) (visible t) ∙ map_numbered (λ j. replicate (visible_width t ws j) f) 0 (visible t) ∙ ap
     (λ n. map g (up_from 0 n)) (sym W.count) in
     rw (
       p,
-      build-joined b (glyph (glyph_at S (k + 2))) g view.count,
+      build-joined b (glyph (glyph_at S (k + 2))) g (length view),
       q,
       edge_same (any_left S) (glyph_at S k),
       edge_same b (glyph_at S (k + 2)),

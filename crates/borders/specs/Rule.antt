@@ -1,5 +1,5 @@
 -- A border or a rule, by its visible columns. Assumes nothing.
-use Rattle.std.specs.Prelude.{ℕ, ◌+◌, ◌≤◌, ◌<◌, List, [], ◌∷◌, ◌++◌, replicate, Bool}
+use Rattle.std.specs.Prelude.{ℕ, ◌+◌, ◌≤◌, ◌<◌, List, [], ◌∷◌, ◌++◌, replicate, Bool, length}
 use Rattle.rules.specs.Sheet.{most_columns}
 use Rattle.rules.specs.Style.{glyph_at, glyph, any_left, any_right}
 use Rattle.buffer.specs.Put.{build, byte_if, lead}
@@ -17,16 +17,16 @@ rule_piece view style i = byte_if (lead i style.joined) style.junction ++ rule_a
 
 -- the line
 unfoldable pub rule_text : View → RuleStyle → List ℕ
-rule_text view style = byte_if style.opens style.left ++ (build (rule_piece view style) view.count ++ byte_if style.closes style.right)
+rule_text view style = byte_if style.opens style.left ++ (build (rule_piece view style) (length view) ++ byte_if style.closes style.right)
 
 -- the line with its 0A
 unfoldable pub rule_bytes : View → RuleStyle → List ℕ
-rule_bytes view style = byte_if style.opens style.left ++ (build (rule_piece view style) view.count ++ (byte_if style.closes style.right ++ (10 ∷ [])))
+rule_bytes view style = byte_if style.opens style.left ++ (build (rule_piece view style) (length view) ++ (byte_if style.closes style.right ++ (10 ∷ [])))
 
 -- visible widths are small
 pub record NarrowAll (view : View) : Type 0 where
-  pub most : view.count ≤ most_columns
-  pub each : (i : ℕ) → i < view.count → (visible_at view i).left + ((visible_at view i).width + (visible_at view i).right) < 65536
+  pub most : length view ≤ most_columns
+  pub each : (i : ℕ) → i < length view → (visible_at view i).left + ((visible_at view i).width + (visible_at view i).right) < 65536
 
 -- the characters of a border or a rule, whose four begin at k
 unfoldable pub rule_style_of : List ℕ → Bool → ℕ → RuleStyle

@@ -3,11 +3,9 @@
 
 ghost use Rattle.std.specs.Prelude.{◌≡◌, ◌++◌, ◌+◌, ◌≤◌, ◌<◌, length};
 ghost use Rattle.buffer.specs.Put.{over, put_at, byte_if};
-ghost use Rattle.row.specs.Packed.{view_of};
 ghost use Rattle.borders.specs.Rule.{rule_bytes, NarrowAll, rule_area};
 
-use row::{VisibleColumn, packed};
-use rules::MOST_COLUMNS;
+use row::VisibleColumn;
 
 // The characters of a border or a rule, and which of them are drawn.
 #[derive(Clone, Copy)]
@@ -40,25 +38,16 @@ fn draw_fill(
 }
 
 // A border or a rule at the start of the page.
-pub fn draw_line(
-    page: &mut [u8],
-    columns: &[[usize; 6]; MOST_COLUMNS],
-    count: usize,
-    style: RuleStyle,
-) -> usize
-    requires narrow_all { NarrowAll (view_of columns.now count) }
-    requires style_in_bounds { length (rule_bytes (view_of columns.now count) style) ≤ length page.old }
-    ensures value { result ≡ length (rule_bytes (view_of columns.now count) style) }
-    ensures page_after { page.new ≡ over (rule_bytes (view_of columns.now count) style) page.old }
+pub fn draw_line(page: &mut [u8], columns: &[VisibleColumn], style: RuleStyle) -> usize
+    requires narrow_all { NarrowAll columns.now }
+    requires style_in_bounds { length (rule_bytes columns.now style) ≤ length page.old }
+    ensures value { result ≡ length (rule_bytes columns.now style) }
+    ensures page_after { page.new ≡ over (rule_bytes columns.now style) page.old }
 {
     let mut at = buffer::draw_edge(page, 0, style.opens, style.left);
-    let mut i: usize = 0;
-    while i < count {
-        let y = columns[i];
-        let v = packed::column_from(y);
+    for (i, &v) in columns.iter().enumerate() {
         let joins = buffer::joins_before(i, style.joined);
         at = draw_fill(page, at, v, joins, style.junction, style.fill);
-        i += 1;
     }
     let e = buffer::draw_edge(page, at, style.closes, style.right);
     page[e] = 10;

@@ -19,7 +19,7 @@ use Rattle.table.specs.declared.records.Lines.{Lines}
 use Rattle.table.proofs.Walks.{lines_number}
 use Rattle.content_split.specs.Parts.{PartIs}
 use Rattle.content_split.specs.declared.Part.{Part}
-use Rattle.content_split.specs.declared.Part.TheVariants.{Line, Nothing}
+use Rattle.std.specs.Prelude.{Option, Some, None}
 use Rattle.content_split.proofs.Steps.{none-at_end}
 use Rattle.cells.specs.Cell.{rest, TextIs, Inside, Head, HeadIs, PartIn, no_line, taken, FirstOf, Further}
 use Rattle.cells.specs.declared.CellCursor.{CellCursor}
@@ -37,8 +37,8 @@ fits-counted w t n e = ap (λ m. leb m w) (e ∙ ap text_width (take_all (length
 
 module _ (w d : ℕ) (pos : 0 < w) (t : List ℕ) where
   -- what `split_line` found
-  pub split-head : (a : ℕ) (p : Part) → PartIs w d t a p → HeadIs w d t (split w d (drop a t)) p
-  split-head a (Line s e n) l =
+  pub split-head : (a : ℕ) (p : Option Part) → PartIs w d t a p → HeadIs w d t (split w d (drop a t)) p
+  split-head a (Some p) l =
       let o = l.onward in
       let i = l.within in
       let m = l.some in
@@ -50,10 +50,10 @@ module _ (w d : ℕ) (pos : 0 < w) (t : List ℕ) where
         fits = l.fits;
         wraps = l.wraps;
       }
-  split-head a Nothing e = e
+  split-head a None e = e
 
   -- a text no wider than the content is one line
-  pub whole-head : leb (text_width t) w ≡ true → HeadIs w d t (wrap_line w d t) (Line 0 (length t) (length t))
+  pub whole-head : leb (text_width t) w ≡ true → HeadIs w d t (wrap_line w d t) (Some (record { start = 0; end = length t; next = length t }))
   whole-head f =
       let k = leb-true (text_width t) w f in
       let whole : slice 0 (length t) t ≡ t = take_all (length t) t (omega arith) in
@@ -67,16 +67,16 @@ module _ (w d : ℕ) (pos : 0 < w) (t : List ℕ) where
       }
 
   -- a wider one is split
-  pub long-head : leb (text_width t) w ≡ false → (p : Part) → PartIs w d t 0 p → HeadIs w d t (wrap_line w d t) p
+  pub long-head : leb (text_width t) w ≡ false → (p : Option Part) → PartIs w d t 0 p → HeadIs w d t (wrap_line w d t) p
   long-head f p q = rw (wrap_long w d t (leb-false (text_width t) w f)) (split-head 0 p q)
 
 -- what is found lies in the text
-pub head_in : (w d : ℕ) (t : List ℕ) (ls : List (List ℕ)) (p : Part) → HeadIs w d t ls p → PartIn t p
-head_in w d t ls (Line a e n) l =
+pub head_in : (w d : ℕ) (t : List ℕ) (ls : List (List ℕ)) (p : Option Part) → HeadIs w d t ls p → PartIn t p
+head_in w d t ls (Some p) l =
     let o = l.onward in
     let i = l.within in
     (l.order, omega arith)
-head_in w d t ls Nothing l = tt
+head_in w d t ls None l = tt
 
 -- ---- some cell lines
 
@@ -110,7 +110,7 @@ texts_next plain s c k n a = rw n.lines (all_drop (TextIs plain) 1 (lines_in s c
 
 -- what is found in the first of them
 pub taken-line : (t : List ℕ) (c : Lines) (plain : Bool) (a e n m : ℕ) → m ≡ text_width (slice a e t)
-    → record { found = true; start = a; end = e; columns = m; cursor = record { lines = c; from = n; plain = plain } } ≡ taken t c plain (Line a e n)
+    → record { found = true; start = a; end = e; columns = m; cursor = record { lines = c; from = n; plain = plain } } ≡ taken t c plain (Some (record { start = a; end = e; next = n }))
 taken-line t c plain a e n m h = rw h
 
 some_line : (n : ℕ) → ltb 0 (suc n) ≡ true
@@ -125,7 +125,7 @@ module _ (s : List ℕ) (w d : ℕ) where
 module _ (s : List ℕ) (w d : ℕ) (plain : Bool) where
   -- the cell lines' first line is found in the first of them, where that comes to the lines ls
   found_first : (c : Lines) → lines_end s c ≤ length s → All (TextIs plain) (lines_in s c) → (ls : List (List ℕ)) (a e n : ℕ)
-      → Head w d (first_line s c) ls a e n → FirstOf s w d plain (ls ++ wrap_lines w d (drop 1 (lines_in s c))) (taken (first_line s c) c plain (Line a e n))
+      → Head w d (first_line s c) ls a e n → FirstOf s w d plain (ls ++ wrap_lines w d (drop 1 (lines_in s c))) (taken (first_line s c) c plain (Some (record { start = a; end = e; next = n })))
   unfolding rest
   found_first c h k ls a e n l =
       let o = l.onward in
@@ -157,16 +157,16 @@ module _ (s : List ℕ) (w d : ℕ) (plain : Bool) where
         fits = omega (arith, width-nil);
       }
 
-  pub taken_found : (c : Lines) → lines_end s c ≤ length s → All (TextIs plain) (lines_in s c) → (ls : List (List ℕ)) (p : Part) (r : Next)
+  pub taken_found : (c : Lines) → lines_end s c ≤ length s → All (TextIs plain) (lines_in s c) → (ls : List (List ℕ)) (p : Option Part) (r : Next)
       → HeadIs w d (first_line s c) ls p → r ≡ taken (first_line s c) c plain p → r.found ≡ true
       → FirstOf s w d plain (ls ++ wrap_lines w d (drop 1 (lines_in s c))) r
-  taken_found c h k ls (Line a e n) r l q f = rw q (found_first c h k ls a e n l)
-  taken_found c h k ls Nothing r l q f = absurd (false≢true (sym (ap (λ (x : Next). x.found) q) ∙ f))
+  taken_found c h k ls (Some p) r l q f = rw q (found_first c h k ls p.start p.end p.next l)
+  taken_found c h k ls None r l q f = absurd (false≢true (sym (ap (λ (x : Next). x.found) q) ∙ f))
 
-  pub taken_none : (c : Lines) (t : List ℕ) (ls : List (List ℕ)) (p : Part) (r : Next) → HeadIs w d t ls p → r ≡ taken t c plain p → r.found ≡ false
+  pub taken_none : (c : Lines) (t : List ℕ) (ls : List (List ℕ)) (p : Option Part) (r : Next) → HeadIs w d t ls p → r ≡ taken t c plain p → r.found ≡ false
       → ls ≡ []
-  taken_none c t ls (Line a e n) r l q f = absurd (false≢true (sym f ∙ ap (λ (x : Next). x.found) q))
-  taken_none c t ls Nothing r l q f = l
+  taken_none c t ls (Some p) r l q f = absurd (false≢true (sym f ∙ ap (λ (x : Next). x.found) q))
+  taken_none c t ls None r l q f = l
 
 -- ---- the first line of some cell lines
 
@@ -184,7 +184,7 @@ module _ (s : List ℕ) (w d : ℕ) (plain : Bool) (pos : 0 < w) (all : Lines) w
     pub seeking-here : 0 < c.left → wrap_lines w d (lines_in s all) ≡ wrap_line w d (first_line s c) ++ wrap_lines w d (drop 1 (lines_in s c))
     seeking-here h = S.same ∙ ap (wrap_lines w d) (lines-some s c h) ∙ wrap_more w d (first_line s c) (drop 1 (lines_in s c))
 
-    module _ (some : 0 < c.left) (t : List ℕ) (e : t ≡ first_line s c) (p : Part) (l : HeadIs w d t (wrap_line w d t) p) (r : Next)
+    module _ (some : 0 < c.left) (t : List ℕ) (e : t ≡ first_line s c) (p : Option Part) (l : HeadIs w d t (wrap_line w d t) p) (r : Next)
         (q : r ≡ taken t c plain p) where
       head-here : HeadIs w d (first_line s c) (wrap_line w d (first_line s c)) p
       head-here = subst (λ (x : List ℕ). HeadIs w d x (wrap_line w d x) p) e l
@@ -220,7 +220,7 @@ module _ (s : List ℕ) (w d : ℕ) (pos : 0 < w) (c : CellCursor) (I : Inside s
   unfolding rest
   rest_is = refl
 
-  module _ (t : List ℕ) (e : t ≡ first_line s c.lines) (p : Part) (l : PartIs w d t c.from p) (r : Next)
+  module _ (t : List ℕ) (e : t ≡ first_line s c.lines) (p : Option Part) (l : PartIs w d t c.from p) (r : Next)
       (q : r ≡ taken t c.lines c.plain p) where
     head_at : HeadIs w d (first_line s c.lines) (split w d (drop c.from (first_line s c.lines))) p
     head_at = subst (λ (x : List ℕ). HeadIs w d x (split w d (drop c.from x)) p) e (split-head w d pos t c.from p l)

@@ -1,5 +1,5 @@
 -- The wrapped lines of a cell, by a cursor over its cell lines. Assumes nothing.
-use Rattle.std.specs.Prelude.{ℕ, ◌≤◌, ◌≡◌, List, [], ◌∷◌, ◌++◌, Bool, true, false, length, drop, get_or, ltb}
+use Rattle.std.specs.Prelude.{ℕ, ◌≤◌, ◌≡◌, List, [], ◌∷◌, ◌++◌, Bool, true, false, length, drop, get_or, ltb, Option, Some, None}
 use Rattle.std.proofs.Math.Seq.{slice}
 use Rattle.rules.specs.Text.{All, is_second, text_width}
 use Rattle.rules.specs.Limits.{IsText, Plain}
@@ -7,7 +7,6 @@ use Rattle.rules.specs.Wrap.{split, wrap_lines}
 use Rattle.table.specs.Walk.{lines_in, lines_end, first_line}
 use Rattle.table.specs.declared.records.Lines.{Lines}
 use Rattle.content_split.specs.declared.Part.{Part}
-use Rattle.content_split.specs.declared.Part.TheVariants.{Line, Nothing}
 use Rattle.cells.specs.declared.CellCursor.{CellCursor}
 use Rattle.cells.specs.declared.Next.{Next}
 
@@ -40,24 +39,30 @@ pub record Head (w d : ℕ) (t : List ℕ) (ls : List (List ℕ)) (a e n : ℕ) 
   pub fits : text_width (slice a e t) ≤ w
   pub wraps : ls ≡ slice a e t ∷ split w d (drop n t)
 
-abbrev pub HeadIs : ℕ → ℕ → List ℕ → List (List ℕ) → Part → Type 0
-HeadIs w d t ls (Line a e n) = Head w d t ls a e n
-HeadIs w d t ls Nothing = ls ≡ []
+abbrev pub HeadIs : ℕ → ℕ → List ℕ → List (List ℕ) → Option Part → Type 0
+HeadIs w d t ls (Some p) = Head w d t ls p.start p.end p.next
+HeadIs w d t ls None = ls ≡ []
 
 -- a part that lies in the text t
-abbrev pub PartIn : List ℕ → Part → Type 0
-PartIn t (Line a e n) = (a ≤ e) × (e ≤ length t)
-PartIn t Nothing = Unit {0}
+abbrev pub PartIn : List ℕ → Option Part → Type 0
+PartIn t (Some p) = (p.start ≤ p.end) × (p.end ≤ length t)
+PartIn t None = Unit {0}
 
 -- no line
 abbrev pub no_line : Lines → Bool → Next
 no_line c plain = record { found = false; start = 0; end = 0; columns = 0; cursor = record { lines = c; from = 0; plain = plain } }
 
 -- what was found in the first of some cell lines, the text t
-abbrev pub taken : List ℕ → Lines → Bool → Part → Next
-taken t c plain (Line a e n) =
-    record { found = true; start = a; end = e; columns = text_width (slice a e t); cursor = record { lines = c; from = n; plain = plain } }
-taken t c plain Nothing = no_line c plain
+abbrev pub taken : List ℕ → Lines → Bool → Option Part → Next
+taken t c plain (Some p) =
+    record {
+      found = true;
+      start = p.start;
+      end = p.end;
+      columns = text_width (slice p.start p.end t);
+      cursor = record { lines = c; from = p.next; plain = plain };
+    }
+taken t c plain None = no_line c plain
 
 -- r is the first of the lines ls, a blank one where there is none, and the cursor has the others before it, plain as is said
 pub record FirstOf (s : List ℕ) (w d : ℕ) (plain : Bool) (ls : List (List ℕ)) (r : Next) : Type 0 where

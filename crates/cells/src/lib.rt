@@ -7,8 +7,6 @@ ghost use Rattle.rules.specs.Limits.{Printable};
 ghost use Rattle.rules.specs.Wrap.{wrap_line, wrap_lines};
 ghost use Rattle.laws.proofs.RowBytes.{pairs_of};
 ghost use Rattle.text_width.specs.Measure.{IsPlain};
-ghost use Rattle.content_split.specs.Cut.{Sound};
-ghost use Rattle.content_split.specs.Parts.{PartIs};
 ghost use Rattle.table.specs.Walk.{lines_in, lines_end, first_line};
 ghost use Rattle.cells.specs.Cell.{rest, TextIs, Inside, HeadIs, PartIn, taken, no_line, FirstOf, Further};
 
@@ -18,7 +16,7 @@ use table::walk;
 
 // Where the next wrapped line of a cell is looked for: in the first of its cell lines from byte `from` on, and then in those that follow.
 // Plain lines have no pair: their columns are their bytes and needn't be counted.
-#[derive(Clone, Copy)]
+#[derive(Clone, Copy, Default)]
 pub struct CellCursor {
     pub lines: Lines,
     pub from: usize,
@@ -27,7 +25,7 @@ pub struct CellCursor {
 
 // A wrapped line, if there was one: bytes `start` to `end` of the cell line that the cursor stands in, and their columns. The cursor says where
 // to go on.
-#[derive(Clone, Copy)]
+#[derive(Clone, Copy, Default)]
 pub struct Next {
     pub found: bool,
     pub start: usize,
@@ -65,26 +63,23 @@ fn no_line(lines: Lines, plain: bool) -> Next
 }
 
 // What was found in the first of some cell lines, which is `text`.
-fn take_part(text: &[u8], part: Part, lines: Lines, plain: bool) -> Next
+fn take_part(text: &[u8], part: Option<Part>, lines: Lines, plain: bool) -> Next
     requires { PartIn text.now part × IsPlain plain text.now }
     ensures { result ≡ taken text.now lines plain part }
 {
     match part {
-        Part::Line { start, end, next } => {
-            let columns = text_width::columns(text, start, end, plain);
-            Next {
-                found: true,
-                start,
-                end,
-                columns,
-                cursor: CellCursor {
-                    lines,
-                    from: next,
-                    plain,
-                },
-            }
-        }
-        Part::Nothing => no_line(lines, plain),
+        Some(p) => Next {
+            found: true,
+            start: p.start,
+            end: p.end,
+            columns: text_width::columns(text, p.start, p.end, plain),
+            cursor: CellCursor {
+                lines,
+                from: p.next,
+                plain,
+            },
+        },
+        None => no_line(lines, plain),
     }
 }
 
@@ -93,37 +88,25 @@ fn line_fits(text: &[u8], width: usize, plain: bool) -> bool
     requires { IsPlain plain text.now }
     ensures { result ≡ leb (text_width text.now) width }
 {
-    let n = text.len();
-    if n <= width {
+    if text.len() <= width {
         return true;
     }
-    text_width::columns(text, 0, n, plain) <= width
-}
-
-// The next line that a text is split into, from `from` on.
-fn part_from(text: &[u8], from: usize, width: usize, delimiter: u8, plain: bool) -> Part
-    requires { (from ≤ length text.now) × ((0 < width) × (Sound delimiter text.now from × IsPlain plain text.now)) }
-    ensures { PartIs width delimiter text.now from result }
-{
-    if plain {
-        return content_split::split_plain(text, from, width, delimiter);
-    }
-    content_split::split_paired(text, from, width, delimiter)
+    text_width::columns(text, 0, text.len(), plain) <= width
 }
 
 // The first line that a cell line wraps into: all of it, where it is no wider than the content.
-fn first_part(text: &[u8], width: usize, delimiter: u8, plain: bool) -> Part
+fn first_part(text: &[u8], width: usize, delimiter: u8, plain: bool) -> Option<Part>
     requires { (0 < width) × (Printable delimiter × TextIs plain text.now) }
     ensures { HeadIs width delimiter text.now (wrap_line width delimiter text.now) result }
 {
     if line_fits(text, width, plain) {
-        return Part::Line {
+        return Some(Part {
             start: 0,
             end: text.len(),
             next: text.len(),
-        };
+        });
     }
-    part_from(text, 0, width, delimiter, plain)
+    content_split::next_part(text, 0, width, delimiter, plain)
 }
 
 // The first wrapped line of some cell lines. One that is made of delimiters alone may wrap into none.
@@ -155,7 +138,7 @@ pub fn next_line(sheet: &[u8], c: CellCursor, width: usize, delimiter: u8) -> Ne
         return no_line(lines, c.plain);
     }
     let text = walk::line(sheet, lines);
-    let part = part_from(text, c.from, width, delimiter, c.plain);
+    let part = content_split::next_part(text, c.from, width, delimiter, c.plain);
     let r = take_part(text, part, lines, c.plain);
     if r.found {
         return r;

@@ -7,16 +7,14 @@ use mathlib.Core.Logic.{⊎_elim}
 use native.Mathlib.Omega.{arith}
 use native.Mathlib.Nat.{eq-or-lt_of_le}
 use native.Mathlib.Numerals.{add-one}
-use lib.ListN.{length, drop, get_or}
+use lib.ListN.{length, get_or}
 use lib.Seq.{slice}
 use lib.Dec.{ltb}
 use borrow.Author.Tests.{ltb-true, ltb-false, lt-ltb, le-ltb}
 use Rattle.rules.specs.Text.{is_second, text_width}
 use Rattle.text_width.specs.Measure.{col, Reach, Reached}
 use Rattle.content_split.specs.Cut.{Cut, Near, Start, Back, AtWidth, Straddle, Sound, Long}
-use Rattle.content_split.specs.Parts.{LineIs, PartIs}
-use Rattle.content_split.specs.declared.Part.{Part}
-use Rattle.content_split.specs.declared.Part.TheVariants.{Line, Nothing}
+use Rattle.content_split.specs.Parts.{LineIs}
 use Rattle.content_split.proofs.Rules.{split_is}
 use Rattle.text_width.proofs.Measure.{le-or-lt, col_slice, col-le, col-first, col_bytes, reach-past, reach-after}
 use Rattle.content_split.proofs.Steps.{Going, skipped, piece, ends, fills-cut, begins-cut, joins-cut, ends_text, ends-full, tight-cut, wrap-cut, fill-cut}
@@ -97,8 +95,8 @@ module _ (w d : ℕ) (pos : 0 < w) (T : List ℕ) where
     ends-lacking {z} {n} l r h = let e = r.end h in let c = rw e at r.columns in ends_short l (omega arith)
 
   -- what is split from the line's start on is what is split from before the delimiters that it skips
-  pub from_start : {a s : ℕ} (p : Part) → Start d T a s → PartIs w d T s p → PartIs w d T a p
-  from_start (Line x e n) b l =
+  pub from_start : {a s x e n : ℕ} → Start d T a s → LineIs w d T s x e n → LineIs w d T a x e n
+  from_start b l =
       record {
         after = omega (arith, b.from, l.after);
         some = l.some;
@@ -108,7 +106,6 @@ module _ (w d : ℕ) (pos : 0 < w) (T : List ℕ) where
         whole = l.whole;
         wraps = rw split_is (skipped w d pos T b ∙ rw split_is at l.wraps);
       }
-  from_start {a} {s} Nothing b l = split_is w d (drop a T) ∙ skipped w d pos T b ∙ rw split_is at l
 
 -- the line starts where it is looked for, and the width is reached
 pub width_reached : (w d : ℕ) → 0 < w → (T : List ℕ) {a s z : ℕ} → Start d T a s → s < length T → Reach T s w z → AtWidth w d T s z

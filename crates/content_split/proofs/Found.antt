@@ -1,6 +1,6 @@
--- From what `split_line` ensures to what its callers say, by cases on its result. Assumes nothing.
+-- From what `next_part` ensures to what its callers say. Assumes nothing.
 use Prim.Native.Nat.{ℕ, max}
-use mathlib.Core.Path.{◌≡◌, subst}
+use mathlib.Core.Path.{◌≡◌}
 use mathlib.Core.List.{List, [], map}
 use native.Mathlib.Omega.{arith}
 use lib.ListN.{drop}
@@ -8,16 +8,7 @@ use lib.Seq.{slice}
 use Rattle.rules.specs.Text.{text_width, greatest}
 use Rattle.rules.specs.Wrap.{split}
 use Rattle.content_split.specs.Cut.{Sound}
-use Rattle.content_split.specs.Parts.{LineIs, PartIs}
-use Rattle.content_split.specs.declared.Part.{Part}
-use Rattle.content_split.specs.declared.Part.TheVariants.{Line, Nothing}
-
--- what is ensured of a result whose constructor a `match` has told
-pub is-line : {w d : ℕ} {T : List ℕ} {a s e n : ℕ} {p : Part} → p ≡ Line s e n → PartIs w d T a p → LineIs w d T a s e n
-is-line {w} {d} {T} {a} q h = subst (λ (p : Part). PartIs w d T a p) q h
-
-pub is_none : (w d : ℕ) (T : List ℕ) (a : ℕ) {p : Part} → p ≡ Nothing → PartIs w d T a p → split w d (drop a T) ≡ []
-is_none w d T a q h = subst (λ (p : Part). PartIs w d T a p) q h
+use Rattle.content_split.specs.Parts.{LineIs}
 
 -- the longest of the lines from a position on
 pub longest-on : {w d : ℕ} {T : List ℕ} {a s e n : ℕ} → LineIs w d T a s e n

@@ -2,22 +2,19 @@
 // whose own delimiters stand in it. A character is a byte or a pair, and takes one column.
 #![tactic(auto)]
 
-ghost use Rattle.std.specs.Prelude.{◌≡◌, ◌≤◌, ◌<◌, length, map, true};
+ghost use Rattle.std.specs.Prelude.{◌≡◌, ◌≤◌, ◌<◌, length, map};
 ghost use Rattle.rules.specs.Text.{text_width, greatest};
 ghost use Rattle.rules.specs.Wrap.{split};
 ghost use Rattle.text_width.specs.Measure.{IsPlain};
 ghost use Rattle.content_split.specs.Cut.{Near, Start, Back, AtWidth, Straddle, Sound, Long};
-ghost use Rattle.content_split.specs.Parts.{PartIs};
+ghost use Rattle.content_split.specs.Parts.{LineIs, PartIs};
 
-// The next wrapped line, from `start` up to `end`, with the place where the search goes on; or that none is left.
+// A wrapped line, from `start` up to `end`, and the place where the next one is looked for.
 #[derive(Clone, Copy)]
-pub enum Part {
-    Line {
-        start: usize,
-        end: usize,
-        next: usize,
-    },
-    Nothing,
+pub struct Part {
+    pub start: usize,
+    pub end: usize,
+    pub next: usize,
 }
 
 // The first delimiter of `text` at or after `from`, or the text's length. A piece is followed no further than just past `most` bytes, so
@@ -26,17 +23,15 @@ pub fn piece_end(text: &[u8], from: usize, delimiter: u8, most: usize) -> usize
     requires { from ≤ length text.now }
     ensures { Near delimiter text.now from most result }
 {
-    let mut e = from;
-    while e < text.len() {
+    for e in from..text.len() {
         if text[e] == delimiter {
             return e;
         }
         if most < e - from {
             return e;
         }
-        e += 1;
     }
-    e
+    text.len()
 }
 
 // The first byte of `text` at or after `from` that is no delimiter, or the text's length: empty pieces leave a line empty.
@@ -44,14 +39,12 @@ pub fn line_start(text: &[u8], from: usize, delimiter: u8) -> usize
     requires { from ≤ length text.now }
     ensures { Start delimiter text.now from result }
 {
-    let mut s = from;
-    while s < text.len() {
+    for s in from..text.len() {
         if text[s] != delimiter {
             return s;
         }
-        s += 1;
     }
-    s
+    text.len()
 }
 
 // The last delimiter of `text` after `from` and before `to`; or `from`, where there is none.
@@ -59,12 +52,10 @@ fn last_before(text: &[u8], from: usize, to: usize, delimiter: u8) -> usize
     requires { (from < to) × (to ≤ length text.now) }
     ensures { Back delimiter text.now from to result }
 {
-    let mut e = to;
-    while from < e {
-        if text[e - 1] == delimiter {
-            return e - 1;
+    for e in (from + 1..to).rev() {
+        if text[e] == delimiter {
+            return e;
         }
-        e -= 1;
     }
     from
 }
@@ -83,10 +74,7 @@ fn long_piece(text: &[u8], from: usize, width: usize, delimiter: u8, plain: bool
     }
     let most = far.at - from;
     let e = piece_end(text, from, delimiter, most);
-    if far.at < e {
-        return true;
-    }
-    false
+    far.at < e
 }
 
 // The line from `start` on, where a piece goes on past `stop`, at which the width is reached: the line ends before that piece, or is
@@ -100,11 +88,11 @@ fn straddled(
     plain: bool,
 ) -> Part
     requires { Straddle width delimiter text.now start stop × (Sound delimiter text.now start × IsPlain plain text.now) }
-    ensures { PartIs width delimiter text.now start result }
+    ensures { LineIs width delimiter text.now start result.start result.end result.next }
 {
     let end = last_before(text, start, stop, delimiter);
     if end == start {
-        return Part::Line {
+        return Part {
             start,
             end: stop,
             next: stop,
@@ -115,14 +103,14 @@ fn straddled(
     if 2 < free {
         let long = long_piece(text, next, width, delimiter, plain);
         if long {
-            return Part::Line {
+            return Part {
                 start,
                 end: stop,
                 next: stop,
             };
         }
     }
-    Part::Line { start, end, next }
+    Part { start, end, next }
 }
 
 // The line from `start` on, where the width is reached at `stop`: it ends there if a piece does, on either side.
@@ -135,24 +123,24 @@ fn at_width(
     plain: bool,
 ) -> Part
     requires { AtWidth width delimiter text.now start stop × (Sound delimiter text.now start × IsPlain plain text.now) }
-    ensures { PartIs width delimiter text.now start result }
+    ensures { LineIs width delimiter text.now start result.start result.end result.next }
 {
     if text[stop - 1] == delimiter {
-        return Part::Line {
+        return Part {
             start,
             end: stop - 1,
             next: stop,
         };
     }
     if text.len() == stop {
-        return Part::Line {
+        return Part {
             start,
             end: text.len(),
             next: text.len(),
         };
     }
     if text[stop] == delimiter {
-        return Part::Line {
+        return Part {
             start,
             end: stop,
             next: stop + 1,
@@ -162,58 +150,45 @@ fn at_width(
 }
 
 // The next line that `text` is split into, from `from` on. It is looked for backwards from the place where the width is reached: most bytes
-// of a plain text aren't read.
-fn split_from(text: &[u8], from: usize, width: usize, delimiter: u8, plain: bool) -> Part
-    requires { (from ≤ length text.now) × ((0 < width) × (Sound delimiter text.now from × IsPlain plain text.now)) }
+// of a plain text aren't read. Each kind of text is compiled by itself: what is done for pairs stands apart from a plain text's part, which
+// is short enough to go into its callers.
+pub fn split_line<const PLAIN: bool>(
+    text: &[u8],
+    from: usize,
+    width: usize,
+    delimiter: u8,
+) -> Option<Part>
+    requires { (from ≤ length text.now) × ((0 < width) × (Sound delimiter text.now from × IsPlain PLAIN text.now)) }
     ensures { PartIs width delimiter text.now from result }
 {
     let start = line_start(text, from, delimiter);
     if text.len() <= start {
-        return Part::Nothing;
+        return None;
     }
+    let rest = Part {
+        start,
+        end: text.len(),
+        next: text.len(),
+    };
     if text.len() - start < width {
-        return Part::Line {
-            start,
-            end: text.len(),
-            next: text.len(),
-        };
+        return Some(rest);
     }
-    let place = text_width::reach(text, start, width, plain);
+    let place = text_width::reach(text, start, width, PLAIN);
     if 0 < place.left {
-        return Part::Line {
-            start,
-            end: text.len(),
-            next: text.len(),
-        };
+        return Some(rest);
     }
-    at_width(text, start, place.at, width, delimiter, plain)
+    Some(at_width(text, start, place.at, width, delimiter, PLAIN))
 }
 
-// The same of a text without pairs. What is done for pairs stands apart, so that this is short enough to be compiled into its callers.
-pub fn split_plain(text: &[u8], from: usize, width: usize, delimiter: u8) -> Part
-    requires { (from ≤ length text.now) × ((0 < width) × (Sound delimiter text.now from × IsPlain true text.now)) }
-    ensures { PartIs width delimiter text.now from result }
-{
-    split_from(text, from, width, delimiter, true)
-}
-
-// The same of a text that may have pairs.
-pub fn split_paired(text: &[u8], from: usize, width: usize, delimiter: u8) -> Part
-    requires { (from ≤ length text.now) × ((0 < width) × Sound delimiter text.now from) }
-    ensures { PartIs width delimiter text.now from result }
-{
-    split_from(text, from, width, delimiter, false)
-}
-
-// The same of either.
-fn split_line(text: &[u8], from: usize, width: usize, delimiter: u8, plain: bool) -> Part
+// The same of a text that is plain or not.
+pub fn next_part(text: &[u8], from: usize, width: usize, delimiter: u8, plain: bool) -> Option<Part>
     requires { (from ≤ length text.now) × ((0 < width) × (Sound delimiter text.now from × IsPlain plain text.now)) }
     ensures { PartIs width delimiter text.now from result }
 {
     if plain {
-        return split_plain(text, from, width, delimiter);
+        return split_line::<true>(text, from, width, delimiter);
     }
-    split_paired(text, from, width, delimiter)
+    split_line::<false>(text, from, width, delimiter)
 }
 
 // How many lines `text` wraps into.
@@ -223,20 +198,9 @@ pub fn count_parts(text: &[u8], width: usize, delimiter: u8, plain: bool) -> usi
 {
     let mut n: usize = 0;
     let mut at: usize = 0;
-    while at < text.len() {
-        match split_line(text, at, width, delimiter, plain) {
-            Part::Line {
-                start: _,
-                end: _,
-                next,
-            } => {
-                n += 1;
-                at = next;
-            }
-            Part::Nothing => {
-                return n;
-            }
-        }
+    while let Some(part) = next_part(text, at, width, delimiter, plain) {
+        n += 1;
+        at = part.next;
     }
     n
 }
@@ -246,17 +210,11 @@ pub fn longest_part(text: &[u8], width: usize, delimiter: u8, plain: bool) -> us
     requires { (0 < width) × (Sound delimiter text.now 0 × IsPlain plain text.now) }
     ensures { result ≡ greatest (map text_width (split width delimiter text.now)) }
 {
-    let mut m: usize = 0;
+    let mut longest: usize = 0;
     let mut at: usize = 0;
-    while at < text.len() {
-        let Part::Line { start, end, next } = split_line(text, at, width, delimiter, plain) else {
-            return m;
-        };
-        let n = text_width::columns(text, start, end, plain);
-        if m < n {
-            m = n;
-        }
-        at = next;
+    while let Some(part) = next_part(text, at, width, delimiter, plain) {
+        longest = longest.max(text_width::columns(text, part.start, part.end, plain));
+        at = part.next;
     }
-    m
+    longest
 }

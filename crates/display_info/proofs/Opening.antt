@@ -2,7 +2,7 @@
 use Prim.Native.Nat.{ℕ, zero, suc, ◌+◌, ◌-◌, ◌≤◌, ◌<◌}
 use mathlib.Core.Path.{◌≡◌, refl, sym, ap, ◌∙◌}
 use mathlib.Core.Logic.{inl, inr, ⊎_elim}
-use mathlib.Core.List.{List, [], ◌∷◌, ◌++◌}
+use mathlib.Core.List.{List, [], ◌∷◌, ◌++◌, map}
 use mathlib.Core.Bool.{Bool, true, false}
 use native.Mathlib.Numerals.{add-one}
 use native.Mathlib.Nat.{eq-or-lt_of_le}
@@ -21,16 +21,15 @@ use Rattle.laws.proofs.Areas.{content-some}
 use Rattle.laws.proofs.Bounds.{Most, contents_801}
 use Rattle.laws.proofs.Contents.{length-contents}
 use Rattle.laws.proofs.Counts.{visible_to, visible-to-none, visible-to-shown, visible-to_hidden, visible-to-all, visible_rising, visible_number}
-use Rattle.laws.proofs.Lists.{all_get_d}
+use Rattle.laws.proofs.Lists.{all_get_d, get_d_map}
 use Rattle.laws.proofs.Texts.{plain-all}
 use Rattle.rules.specs.Places.{rows_place}
 use Rattle.style.specs.Bytes.{bytes_of}
 use Rattle.style.specs.declared.table_style.TableStyle.{TableStyle}
-use Rattle.table.specs.Held.{IsAccepted, table_of, settings_of, indicator_of, columns_of}
+use Rattle.table.specs.Held.{IsAccepted, table_of, settings_of, columns_of}
 use Rattle.table.specs.Walk.{rows_in, rows_end}
 use Rattle.table.specs.declared.records.Rows.{Rows}
 use Rattle.table.specs.declared.records.Settings.{Settings}
-use Rattle.table.specs.declared.records.Indicator.{Indicator}
 use Rattle.table.specs.declared.records.Columns.{Columns}
 use Rattle.table.proofs.Held.{room}
 use Rattle.table.proofs.Walks.{rows_number}
@@ -38,9 +37,8 @@ use Rattle.arrangement.specs.declared.Widths.{Widths}
 use Rattle.arrangement.specs.Widths.{style_from, arranged_widths}
 use Rattle.row.specs.View.{View, no_column as noVisible, visible_at, shown_of, number_of, Views}
 use Rattle.row.specs.Open.{Rising, UsableAll}
-use Rattle.row.specs.Packed.{column_from, view_of}
 use Rattle.formatting.specs.RowText.{Marks}
-use Rattle.row.proofs.Lent.{set-each}
+use Rattle.row.proofs.Joined.{map_snoc}
 use Rattle.row.proofs.Open.{or-printable}
 use Rattle.borders.specs.Rule.{NarrowAll, rule_style_of}
 use Rattle.formatting.specs.Stand.{text_style_of}
@@ -117,30 +115,19 @@ pub show_hidden : (view : View) (j : ℕ) (c : Column) (w d : ℕ) (b : Bool) �
 unfolding showing
 show_hidden view j c w d b e f = let h : is_hidden c ≡ true = sym e ∙ f in rw (h, showing)
 
-pub show-visible : (columns : List (List ℕ)) (i j : ℕ) (c : Column) (w d x a : ℕ) (b : Bool) (z : List ℕ) → b ≡ is_hidden c → b ≡ false → x ≡ or_else
-    c.delimiter d → a ≡ or_else c.alignment 1
-    → record { number = j; width = w; left = c.left; right = c.right; delimiter = x; alignment = a } ≡ column_from z
-    → view_of (set columns i z) (i + 1) ≡ showing (view_of columns i) j c w d
+pub show-visible : (view : View) (j : ℕ) (c : Column) (w d x a : ℕ) (b : Bool) → b ≡ is_hidden c → b ≡ false → x ≡ or_else c.delimiter d
+    → a ≡ or_else c.alignment 1
+    → behind view (record { number = j; width = w; left = c.left; right = c.right; delimiter = x; alignment = a }) ≡ showing view j c w d
 unfolding showing
-show-visible columns i j c w d x a b z e f g k y =
-    let h : is_hidden c ≡ false = sym e ∙ f in
-    rw (h, showing, set-each column_from columns i z, ← y, g, k)
+show-visible view j c w d x a b e f g k = let h : is_hidden c ≡ false = sym e ∙ f in rw (h, showing, g, k)
 
 -- the first j columns have been looked at
 pub record Showing (t : Table) (j : ℕ) (view : View) : Type 0 where
-  pub count : view.count ≡ length (visible_to t j)
-  pub few : view.count ≤ j
-  pub size : length view.columns ≡ most_columns
-  pub each : (i : ℕ) → i < view.count → visible_at view i ≡ shown_of t (contents t) (get_or (visible_to t j) i 0)
+  pub so : view ≡ map (shown_of t (contents t)) (visible_to t j)
+  pub few : length view ≤ j
 
-pub showing_begin : (t : Table) (columns : List (List ℕ)) → length columns ≡ most_columns → Showing t 0 (view_of columns 0)
-showing_begin t columns e = record {
-  count = sym (ap length (visible-to-none t));
-  few = omega arith;
-  size = length-map columns column_from ∙ e;
-  each =
-      λ i h. absurd (omega arith);
-}
+pub showing_begin : (t : Table) (view : View) → view ≡ [] → Showing t 0 view
+showing_begin t view e = record { so = rw (e, visible-to-none t); few = omega (arith, ap length e) }
 
 -- a column as it was read and as it is drawn
 shown_is : (t : Table) (j : ℕ) → shown_from j (column_at t j) (get_or (contents t) j 0) (or_else t.delimiter 32) ≡ shown_of t (contents t) j
@@ -149,41 +136,20 @@ shown_is t j = refl
 
 module _ (t : Table) (j : ℕ) (view : View) (S : Showing t j view) where
   skipped : is_hidden (column_at t j) ≡ true → Showing t (suc j) view
-  skipped h =
-      let e = visible-to_hidden t j h in
-      record { count = S.count ∙ sym (ap length e); few = omega (arith, S.few); size = S.size; each = λ i k. S.each i k ∙ rw e }
+  skipped h = record { so = rw (visible-to_hidden t j h) S.so; few = omega (arith, S.few) }
 
-  added : j < most_columns → is_hidden (column_at t j) ≡ false → (v : VisibleColumn) → v ≡ shown_of t (contents t) j → Showing t (suc j) (behind view v)
-  added l h v e =
-      let f = visible-to-shown t j h in
-      let n = length-append (visible_to t j) (j ∷ []) in
+  added : is_hidden (column_at t j) ≡ false → (v : VisibleColumn) → v ≡ shown_of t (contents t) j → Showing t (suc j) (behind view v)
+  added h v e =
       record {
-        count = rw f (omega (arith, n, S.count));
-        few = omega (arith, S.few);
-        size = length-set view.columns view.count v ∙ S.size;
-        each = λ i k. rw f (⊎_elim (new i) (old i) (eq-or-lt_of_le (omega arith)));
+        so = rw (visible-to-shown t j h, map_snoc (shown_of t (contents t)) (visible_to t j) j, e, S.so);
+        few = omega (arith, S.few, length-append view (v ∷ []));
       }
-    where
-      old : (i : ℕ) → i < view.count → get_or (set view.columns view.count v) i noVisible ≡ shown_of t (contents t)
-          (get_or (visible_to t j ++ (j ∷ [])) i 0)
-      old i k =
-          let c = S.count in
-          get_or-set_other view.columns view.count i v noVisible (λ z. omega arith) ∙
-          (S.each i k ∙ ap (shown_of t (contents t)) (sym (get_or-append (visible_to t j) (j ∷ []) 0 i (omega arith))))
-
-      new : (i : ℕ) → i ≡ view.count → get_or (set view.columns view.count v) i noVisible ≡ shown_of t (contents t)
-          (get_or (visible_to t j ++ (j ∷ [])) i 0)
-      new i k =
-          let m = S.size in
-          let b = S.few in
-          rw k (get_or-set_same view.columns view.count v noVisible (omega arith) ∙
-          (e ∙ ap (shown_of t (contents t)) (sym (get_or_at (visible_to t j) j [] 0 view.count (sym S.count)))))
 
   -- column j has been looked at too
-  pub showing-on : (c : Column) (w d : ℕ) (u : View) → j < most_columns → c ≡ column_at t j → w ≡ get_or (contents t) j 0 → d ≡ or_else t.delimiter 32 →
+  pub showing-on : (c : Column) (w d : ℕ) (u : View) → c ≡ column_at t j → w ≡ get_or (contents t) j 0 → d ≡ or_else t.delimiter 32 →
       u ≡ showing view j c w d → Showing t (j + 1) u
   unfolding showing
-  showing-on c w d u l e f g h =
+  showing-on c w d u e f g h =
       let v : shown_from j c w d ≡ shown_of t (contents t) j = rw (e, f, g) (shown_is t j) in
       let x : is_hidden c ≡ is_hidden (column_at t j) = ap is_hidden e in
       rw (add-one j, h) (go (is_hidden c) (sym x) v)
@@ -191,7 +157,7 @@ module _ (t : Table) (j : ℕ) (view : View) (S : Showing t j view) where
       go : (b : Bool) → is_hidden (column_at t j) ≡ b → shown_from j c w d ≡ shown_of t (contents t) j
           → Showing t (suc j) (elim b as (λ z. View) [ true ↦ view | false ↦ behind view (shown_from j c w d) ])
       go true p v = skipped p
-      go false p v = added l p (shown_from j c w d) v
+      go false p v = added p (shown_from j c w d) v
 
 -- what was read: how many columns, column j's content width, the delimiter where a column sets none
 pub columns-count : (t : Table) (x : Columns) → x ≡ columns_of t → x.count ≡ length t.columns
@@ -207,34 +173,28 @@ unfolding settings_of
 delimiter_is t x d e f = f ∙ rw e
 
 -- the indicator as it was read
-marks_are : (t : Table) → take (indicator_of t).count (indicator_of t).characters ≡ t.indicator
-unfolding indicator_of
-marks_are t = take_at t.indicator (replicate (8 - length t.indicator) 0) (length t.indicator) refl
-
-marks-held : (t : Table) → (indicator_of t).count ≤ length (indicator_of t).characters
-unfolding indicator_of
-marks-held t = omega (arith, length-append t.indicator (replicate (8 - length t.indicator) 0))
-
-pub marks_of : (s : List ℕ) (i : Indicator) → IsAccepted s → i ≡ indicator_of (table_of s) → Marks s i
-marks_of s i passes e =
-    let t = table_of s in
-    let plain : Plain (take (indicator_of t).count (indicator_of t).characters) =
-    rw (marks_are t) (plain-all t.indicator (limits_of s passes).indicator_characters) in
-    rw e (record { are = marks_are t; indicator = record { within = marks-held t; plain = plain } })
+pub marks_of : (s ind : List ℕ) → IsAccepted s → ind ≡ (table_of s).indicator → Marks s ind
+marks_of s ind passes e = record { are = e; plain = rw e (plain-all (table_of s).indicator (limits_of s passes).indicator_characters) }
 
 -- all columns have been looked at
 pub showing_done : (t : Table) (j : ℕ) (view : View) → TableLimits t → j ≡ length t.columns → Showing t j view → Views t (contents t) view
 showing_done t j view T e S =
-    let v : visible_to t j ≡ visible t = rw e (visible-to-all t) in
-    record { count = S.count ∙ ap length v; most = omega (arith, S.few, T.columns); each = λ i h. S.each i h ∙ rw v }
+    let v : view ≡ map (shown_of t (contents t)) (visible t) = S.so ∙ ap (map (shown_of t (contents t))) (rw e (visible-to-all t)) in
+    record {
+      count = ap length v ∙ length-map (visible t) (shown_of t (contents t));
+      most = omega (arith, S.few, T.columns);
+      each = λ i h.
+          ap (λ l. get_or l i noVisible) v
+          ∙ get_d_map (shown_of t (contents t)) (visible t) i 0 noVisible (omega (arith, ap length v, length-map (visible t) (shown_of t (contents t))));
+    }
 
 -- what holds of such a view
 module _ (t : Table) (view : View) (T : TableLimits t) (W : Views t (contents t) view) where
-  number_at : (i : ℕ) → i < view.count → (visible_at view i).number ≡ number_of t i
+  number_at : (i : ℕ) → i < length view → (visible_at view i).number ≡ number_of t i
   unfolding shown_of
   number_at i h = ap (λ (v : VisibleColumn). v.number) (W.each i h)
 
-  inside : (i : ℕ) → i < view.count → number_of t i < length t.columns
+  inside : (i : ℕ) → i < length view → number_of t i < length t.columns
   inside i h = let c = W.count in visible_number t i (omega arith)
 
   pub view_rising : Rising view

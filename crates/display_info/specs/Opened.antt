@@ -8,8 +8,6 @@ use Rattle.table.specs.Held.{IsAccepted, table_of}
 use Rattle.table.specs.Walk.{rows_in, rows_end}
 use Rattle.table.specs.declared.records.Rows.{Rows}
 use Rattle.row.specs.Open.{Rising, UsableAll}
-use Rattle.row.specs.Packed.{view_of}
-use Rattle.formatting.specs.RowText.{Marks}
 use Rattle.borders.specs.Rule.{NarrowAll, rule_style_of}
 use Rattle.row.specs.View.{Views}
 use Rattle.formatting.specs.Stand.{text_style_of}
@@ -38,15 +36,14 @@ pub record RowsAt (s : List ℕ) (c : Rows) : Type 0 where
   pub skipped : ℕ
   pub among : (rows_in s c ≡ drop skipped (table_of s).header) ⊎ (rows_in s c ≡ drop skipped (table_of s).rows)
 
--- a page over some rows is drawn from the sheet's columns, indicator, style and header
-pub record Opened (s : List ℕ) (columns : List (List ℕ)) (p : Page) : Type 0 where
+-- a page over some rows is drawn from the sheet's columns, style and header
+pub record Opened (s : List ℕ) (p : Page) : Type 0 where
   pub passes : IsAccepted s
-  pub views : Views (table_of s) (widths_in s) (view_of columns p.count)
-  pub rising : Rising (view_of columns p.count)
-  pub usable : UsableAll (view_of columns p.count)
+  pub views : Views (table_of s) (widths_in s) p.columns.items
+  pub rising : Rising p.columns.items
+  pub usable : UsableAll p.columns.items
   pub plain : p.plain ≡ true → PlainTable (table_of s)
-  pub narrow : NarrowAll (view_of columns p.count)
-  pub marks : Marks s p.indicator
+  pub narrow : NarrowAll p.columns.items
   pub styles : p.styles ≡ styles_of (table_of s).style
   pub header : rows_in s p.header ≡ (table_of s).header
   pub header_at : RowsAt s p.header

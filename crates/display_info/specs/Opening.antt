@@ -1,5 +1,5 @@
 -- A visible column joins a view. Assumes nothing.
-use Rattle.std.specs.Prelude.{ℕ, ◌+◌, true, false, set}
+use Rattle.std.specs.Prelude.{ℕ, true, false, [], ◌∷◌, ◌++◌}
 use Rattle.rules.specs.Text.{or_else}
 use Rattle.rules.specs.declared.Column.{Column}
 use Rattle.rules.specs.Sheet.{is_hidden}
@@ -18,7 +18,7 @@ shown_from j c w d = record {
 }
 
 abbrev pub behind : View → VisibleColumn → View
-behind view v = record { count = view.count + 1; columns = set view.columns view.count v }
+behind view v = view ++ (v ∷ [])
 
 -- column j stands behind those that are shown already, unless it is hidden
 unfoldable pub showing : View → ℕ → Column → ℕ → ℕ → View

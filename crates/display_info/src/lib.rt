@@ -1,8 +1,9 @@
-// What every line of a page is drawn from, read from an accepted sheet once. The visible columns are numbers in an array beside it, which is lent.
+// What every line of a page is drawn from, read from an accepted sheet once.
 #![tactic(auto)]
 
-ghost use Rattle.std.specs.Prelude.{◌≡◌, true, ◌+◌, ◌<◌, length};
+ghost use Rattle.std.specs.Prelude.{◌≡◌, true, ◌+◌, ◌<◌};
 ghost use Rattle.rules.specs.Sheet.{most_columns};
+ghost use Rattle.arrayvec.specs.ArrayVec.{array_vec_len};
 ghost use Rattle.rules.specs.Limits.{PlainTable};
 ghost use Rattle.rules.specs.Style as characters;
 ghost use Rattle.rules.specs.Style.{style_characters, any_left, any_right, any_junction};
@@ -14,21 +15,21 @@ ghost use Rattle.row.specs.View.{Views};
 ghost use Rattle.formatting.specs.Stand.{text_style_of};
 ghost use Rattle.borders.specs.Rule.{rule_style_of, NarrowAll};
 ghost use Rattle.row.specs.Open.{Rising, UsableAll};
-ghost use Rattle.row.specs.Packed.{view_of};
 ghost use Rattle.display_info.specs.Opened.{styles_of, Opened};
 ghost use Rattle.display_info.specs.Opening.{showing};
 
 use arrangement::{Widths, layout};
+use arrayvec::ArrayVec;
 use borders::RuleStyle;
 use formatting::content_format::TextStyle;
-use row::{VisibleColumn, packed};
+use row::VisibleColumn;
 use rules::{
     BOTTOM_BORDER, CONTENT_LINES, Column, HEADER_LINES, HEADER_RULE, MOST_COLUMNS, ROW_RULE,
     STYLE_CHARACTERS, TOP_BORDER,
 };
 use style::column;
 use style::table_style::TableStyle;
-use table::records::{Indicator, Rows};
+use table::records::Rows;
 use table::{settings, walk};
 
 // How the lines of a row look: its text lines, the rule after it, and whether that rule is visible.
@@ -50,13 +51,12 @@ pub struct LineStyles {
     pub has_bottom: bool,
 }
 
-// A page over some rows of the sheet: how many columns are visible, the indicator, the lines' styles, the header and the rows. On a plain page no
-// cell has a pair, so that each text line has as many bytes as columns.
-#[derive(Clone, Copy)]
+// A page over some rows of the sheet: the visible columns, the lines' styles, the header and the rows. On a plain page no cell has a pair, so that
+// each text line has as many bytes as columns.
+#[derive(Drop)]
 pub struct Page {
     pub plain: bool,
-    pub count: usize,
-    pub indicator: Indicator,
+    pub columns: ArrayVec<VisibleColumn, MOST_COLUMNS>,
     pub styles: LineStyles,
     pub header: Rows,
     pub rows: Rows,
@@ -160,52 +160,44 @@ fn styles(b: [u8; STYLE_CHARACTERS]) -> LineStyles
     styles_by(b, style, opens, joined, closes)
 }
 
-// Column j behind the visible ones before it, unless it is hidden; gives their count. Its codes stand in for those that a cell leaves unset.
+// Column j behind the visible ones before it, unless it is hidden. Its codes stand in for those that a cell leaves unset.
 fn show_column(
-    columns: &mut [[usize; 6]; MOST_COLUMNS],
-    count: usize,
+    columns: &mut ArrayVec<VisibleColumn, MOST_COLUMNS>,
     j: usize,
     c: Column,
     width: u16,
     delimiter: u8,
-) -> usize
-    requires { count < most_columns }
-    ensures { view_of columns.new result ≡ showing (view_of columns.old count) j c width delimiter }
+)
+    requires { array_vec_len columns.old < most_columns }
+    ensures { columns.new.items ≡ showing columns.old.items j c width delimiter }
 {
     if column::is_hidden(&c) {
-        return count;
+        return;
     }
-    let v = VisibleColumn {
+    columns.push(VisibleColumn {
         number: j,
-        width: width as usize,
-        left: c.left as usize,
-        right: c.right as usize,
+        width: usize::from(width),
+        left: usize::from(c.left),
+        right: usize::from(c.right),
         delimiter: numbers::or_else(c.delimiter, delimiter),
         alignment: numbers::or_else(c.alignment, 1),
-    };
-    let x = packed::pack_column(v);
-    columns[count] = x;
-    count + 1
+    });
 }
 
-// The visible columns, from left to right; gives their count.
-fn show_columns(sheet: &[u8], widths: Widths, columns: &mut [[usize; 6]; MOST_COLUMNS]) -> usize
-    requires { IsAccepted sheet.now × ((widths ≡ arranged_widths (table_of sheet.now)) × (length columns.old ≡ most_columns)) }
-    ensures { Views (table_of sheet.now) (contents (table_of sheet.now)) (view_of columns.new result)
-        × (Rising (view_of columns.new result) × (UsableAll (view_of columns.new result) × NarrowAll (view_of columns.new result))) }
+// The visible columns, from left to right.
+fn show_columns(sheet: &[u8], widths: Widths) -> ArrayVec<VisibleColumn, MOST_COLUMNS>
+    requires { IsAccepted sheet.now × (widths ≡ arranged_widths (table_of sheet.now)) }
+    ensures { Views (table_of sheet.now) (contents (table_of sheet.now)) result.items
+        × (Rising result.items × (UsableAll result.items × NarrowAll result.items)) }
 {
     let head = settings::settings(sheet);
     let delimiter = numbers::or_else(head.delimiter, 32);
     let found = settings::columns(sheet);
-    let n = found.count;
-    let mut count: usize = 0;
-    let mut j: usize = 0;
-    while j < n {
-        let c = found.each[j];
-        count = show_column(columns, count, j, c, widths.content[j], delimiter);
-        j += 1;
+    let mut columns = ArrayVec::new();
+    for j in 0..found.count {
+        show_column(&mut columns, j, found.each[j], widths.content[j], delimiter);
     }
-    count
+    columns
 }
 
 // The content widths of an accepted sheet.
@@ -218,25 +210,18 @@ pub fn content_widths(sheet: &[u8]) -> Widths
 }
 
 // The page over all rows of the sheet, by its widths; it may be called plain if the check found it so.
-pub fn open_by(
-    sheet: &[u8],
-    plain: bool,
-    widths: Widths,
-    columns: &mut [[usize; 6]; MOST_COLUMNS],
-) -> Page
-    requires accepted { IsAccepted sheet.now × ((widths ≡ arranged_widths (table_of sheet.now)) × (length columns.old ≡ most_columns)) }
+pub fn open_by(sheet: &[u8], plain: bool, widths: Widths) -> Page
+    requires accepted { IsAccepted sheet.now × (widths ≡ arranged_widths (table_of sheet.now)) }
     requires plain_table { plain ≡ true → PlainTable (table_of sheet.now) }
-    ensures { Opened sheet.now columns.new result × (rows_in sheet.now result.rows ≡ (table_of sheet.now).rows) }
+    ensures { Opened sheet.now result × (rows_in sheet.now result.rows ≡ (table_of sheet.now).rows) }
 {
-    let count = show_columns(sheet, widths, columns);
-    let indicator = settings::indicator(sheet);
+    let columns = show_columns(sheet, widths);
     let styles = styles(settings::style(sheet));
     let header = walk::header(sheet);
     let rows = walk::rows(sheet, header);
     Page {
         plain,
-        count,
-        indicator,
+        columns,
         styles,
         header,
         rows,
@@ -244,11 +229,10 @@ pub fn open_by(
 }
 
 // The page, once its widths are found.
-pub fn open(sheet: &[u8], plain: bool, columns: &mut [[usize; 6]; MOST_COLUMNS]) -> Page
-    requires accepted { IsAccepted sheet.now × (length columns.old ≡ most_columns) }
+pub fn open(sheet: &[u8], plain: bool) -> Page
+    requires accepted { IsAccepted sheet.now }
     requires plain_table { plain ≡ true → PlainTable (table_of sheet.now) }
-    ensures { Opened sheet.now columns.new result × (rows_in sheet.now result.rows ≡ (table_of sheet.now).rows) }
+    ensures { Opened sheet.now result × (rows_in sheet.now result.rows ≡ (table_of sheet.now).rows) }
 {
-    let widths = content_widths(sheet);
-    open_by(sheet, plain, widths, columns)
+    open_by(sheet, plain, content_widths(sheet))
 }

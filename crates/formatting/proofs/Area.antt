@@ -5,7 +5,7 @@ use mathlib.Core.List.{List, [], ◌∷◌, ◌++◌, append_assoc, append-nil}
 use mathlib.Core.Bool.{Bool, true, false, cond, ◌&&◌}
 use native.Mathlib.Omega.{arith}
 use lib.ListN.{length, take, drop, length-append, length-replicate}
-use lib.Seq.{slice, length-slice, length-take-le, take-take, take-nil}
+use lib.Seq.{slice, length-slice, length-take-le, take-take, take-nil, take_all}
 use lib.Dec.{leb, ltb}
 use borrow.Author.Tests.{le-leb, lt-leb}
 use Rattle.rules.specs.Text.{text_width, bytes_of, first_of, blank}
@@ -16,14 +16,13 @@ use Rattle.laws.proofs.Text.{width-nil, width-append, width-le, width-first, fir
 use Rattle.text_width.specs.Measure.{col, Reached}
 use Rattle.text_width.proofs.Measure.{col_slice, col-le, reached-all, reach_below, first_reach}
 use Rattle.table.specs.Walk.{first_line}
-use Rattle.table.specs.declared.records.Indicator.{Indicator}
 use Rattle.buffer.specs.Put.{put_at}
 use Rattle.buffer.proofs.Laws.{two}
 use Rattle.cells.specs.declared.Next.{Next}
 use Rattle.row.specs.Pending.{pending_text, following, InSheet}
 use Rattle.row.specs.declared.VisibleColumn.{VisibleColumn}
 use Rattle.row.specs.declared.Pending.{Pending}
-use Rattle.formatting.specs.Area.{area_in, marks_shown, IndicatorIs, LineIn, ShownIs, shown_text, After, column_piece}
+use Rattle.formatting.specs.Area.{area_in, marks_shown, LineIn, ShownIs, shown_text, After, column_piece}
 use Rattle.formatting.specs.declared.content_format.Shown.{Shown}
 
 -- four pieces
@@ -119,22 +118,22 @@ module _ (t : List ℕ) (l : Next) (w : ℕ) (I : LineIn t l) where
 -- ---- a cell's line as it is shown
 
 -- a cut line: its first columns, and the indicator where it isn't wider than the content
-shown-cut : (w n m : ℕ) (chars l part : List ℕ) → n ≤ length chars → Plain (take n chars) → m ≡ cond (leb n w) n 0 → part ≡ first_of (w - m) l
-    → part ++ take m chars ≡ cut_line w (take n chars) l
+shown-cut : (w m : ℕ) (ind l part : List ℕ) → Plain ind → m ≡ cond (leb (length ind) w) (length ind) 0 → part ≡ first_of (w - m) l
+    → part ++ take m ind ≡ cut_line w ind l
 unfolding cut_line shown_indicator
-shown-cut w n m chars l part h k e f = go (leb n w) refl
+shown-cut w m ind l part width e f = go (leb (length ind) w) refl
   where
-    width : text_width (take n chars) ≡ n
-    width = k ∙ length-take-le n chars h
-
-    whole : leb n w ≡ true → shown_indicator w (take n chars) ≡ take n chars
+    whole : leb (length ind) w ≡ true → shown_indicator w ind ≡ ind
     whole b = rw (width, b, shown_indicator)
 
-    none : leb n w ≡ false → shown_indicator w (take n chars) ≡ []
+    none : leb (length ind) w ≡ false → shown_indicator w ind ≡ []
     none b = rw (width, b, shown_indicator)
 
-    go : (b : Bool) → leb n w ≡ b → part ++ take m chars ≡ cut_line w (take n chars) l
-    go true b = let c : m ≡ n = rw b at e in rw (whole b, width, f, c)
+    go : (b : Bool) → leb (length ind) w ≡ b → part ++ take m ind ≡ cut_line w ind l
+    go true b =
+        let c : m ≡ length ind = rw b at e in
+        let d : take m ind ≡ ind = ap (λ k. take k ind) c ∙ take_all (length ind) ind (omega arith) in
+        rw (whole b, width, f, d, c)
     go false b = let c : m ≡ 0 = rw b at e in rw (none b, width-nil, f, c)
 
 module _ (s : List ℕ) (w : ℕ) (t : Pending) (I : InSheet s w t) where
@@ -142,49 +141,47 @@ module _ (s : List ℕ) (w : ℕ) (t : Pending) (I : InSheet s w t) where
   pub line_in : (text : List ℕ) → text ≡ first_line s t.line.cursor.lines → LineIn text t.line
   line_in text e = rw e (record { order = I.order; within = I.within; columns = I.columns })
 
-  module _ (text : List ℕ) (et : text ≡ first_line s t.line.cursor.lines) (ind : Indicator) (K : IndicatorIs ind) (cut : Bool) (m : ℕ)
-      (e : m ≡ marks_shown cut ind.count w) (h : m ≤ w) (k : m ≤ ind.count) (r : Shown) (S : ShownIs text t.line (w - m) r) where
+  module _ (text : List ℕ) (et : text ≡ first_line s t.line.cursor.lines) (ind : List ℕ) (K : Plain ind) (cut : Bool) (m : ℕ)
+      (e : m ≡ marks_shown cut (length ind) w) (h : m ≤ w) (k : m ≤ length ind) (r : Shown) (S : ShownIs text t.line (w - m) r) where
     part_is : slice t.line.start r.end text ≡ first_of (w - m) (pending_text s t)
     part_is = S.text ∙ ap (λ x. first_of (w - m) (slice t.line.start t.line.end x)) et
 
     -- the part of the cell line and of the indicator that are shown
-    pub shown_is : take (r.end - t.line.start) (drop t.line.start text) ++ take m ind.characters
-        ≡ shown_text s w (take ind.count ind.characters) cut t
+    pub shown_is : take (r.end - t.line.start) (drop t.line.start text) ++ take m ind
+        ≡ shown_text s w ind cut t
     unfolding shown_text
-    shown_is = ap (λ x. x ++ take m ind.characters) (lent_slice t.line.start r.end text) ∙ go cut refl
+    shown_is = ap (λ x. x ++ take m ind) (lent_slice t.line.start r.end text) ∙ go cut refl
       where
         go : (b : Bool) → cut ≡ b
-            → slice t.line.start r.end text ++ take m ind.characters ≡ shown_text s w (take ind.count ind.characters) b t
-        go true f = shown-cut w ind.count m ind.characters (pending_text s t) _ K.within K.plain (rw f at e) part_is
+            → slice t.line.start r.end text ++ take m ind ≡ shown_text s w ind b t
+        go true f = shown-cut w m ind (pending_text s t) _ K (rw f at e) part_is
         go false f =
             let z : m ≡ 0 = rw f at e in
             let a = part_is ∙ first-all (w - m) (pending_text s t) (omega (arith, I.fits)) in
             rw (a, z) (append-nil (pending_text s t))
 
-    marks-width : text_width (take m ind.characters) ≡ m
+    marks-width : text_width (take m ind) ≡ m
     marks-width =
-        let a : take m (take ind.count ind.characters) ≡ take m ind.characters = take-take m ind.count ind.characters k in
-        let b = plain-take m (take ind.count ind.characters) K.plain in
-        rw a at b ∙ length-take-le m ind.characters (omega (arith, K.within))
+        plain-take m ind K ∙ length-take-le m ind k
 
     part-width : text_width (take (r.end - t.line.start) (drop t.line.start text)) ≡ r.columns
     part-width = ap text_width (lent_slice t.line.start r.end text) ∙ sym S.columns
 
     -- its columns, its bytes, and what it leaves free
-    pub shown_columns : (text_width (shown_text s w (take ind.count ind.characters) cut t) ≡ r.columns + m) × (r.columns + m ≤ w)
+    pub shown_columns : (text_width (shown_text s w ind cut t) ≡ r.columns + m) × (r.columns + m ≤ w)
     shown_columns =
         let part = take (r.end - t.line.start) (drop t.line.start text) in
-        let a = sym (ap text_width shown_is) ∙ width-append part (take m ind.characters) in
+        let a = sym (ap text_width shown_is) ∙ width-append part (take m ind) in
         let b = width-first (w - m) (pending_text s t) in
         let c = S.columns ∙ ap text_width part_is in
         (omega (arith, a, part-width, marks-width), omega (arith, b, c))
 
-    pub shown_bytes : length (shown_text s w (take ind.count ind.characters) cut t) ≡ r.end - t.line.start + m
+    pub shown_bytes : length (shown_text s w ind cut t) ≡ r.end - t.line.start + m
     shown_bytes =
         let part = take (r.end - t.line.start) (drop t.line.start text) in
-        let a = sym (ap length shown_is) ∙ length-append part (take m ind.characters) in
+        let a = sym (ap length shown_is) ∙ length-append part (take m ind) in
         let b = ap length (lent_slice t.line.start r.end text) ∙ length-slice t.line.start r.end text shown-within in
-        omega (arith, a, b, length-take-le m ind.characters (omega (arith, K.within)))
+        omega (arith, a, b, length-take-le m ind k)
       where
         shown-within : r.end ≤ length text
         shown-within = omega (arith, S.within, I.within, ap length et)
@@ -192,7 +189,7 @@ module _ (s : List ℕ) (w : ℕ) (t : Pending) (I : InSheet s w t) where
     pub shown_inside : r.end ≤ length text
     shown_inside = omega (arith, S.within, I.within, ap length et)
 
-    pub shown_spare : w - m - r.columns ≡ w - text_width (shown_text s w (take ind.count ind.characters) cut t)
+    pub shown_spare : w - m - r.columns ≡ w - text_width (shown_text s w ind cut t)
     shown_spare = omega (arith, shown_columns.0, shown_columns.1)
 
 -- whether a line is cut is told by the line after it

@@ -56,14 +56,14 @@ module _ (t : Table) (ws : List ℕ) (r : Row) (view : View) (W : Views t ws vie
   lines_in : ℕ → ℕ
   lines_in i = length (cell_lines t ws r (number_of t i))
 
-  column-lines : (i : ℕ) → i < view.count → limited r.limit (cell_height (get_or r.cells (visible_at view i).number no_cell) (visible_at view i)) ≡
+  column-lines : (i : ℕ) → i < length view → limited r.limit (cell_height (get_or r.cells (visible_at view i).number no_cell) (visible_at view i)) ≡
       lines_in i
   unfolding lines_in cell_lines
   column-lines i h =
       ap (limited r.limit) (cell_is t ws r i (visible_at view i) (W.each i h)) ∙ sym
       (length_cut (get_or ws (number_of t i) 0) t.indicator r.limit (wrapped t ws r (number_of t i)))
 
-  up_to : (n : ℕ) → n ≤ view.count → limited r.limit (height_up_to r.cells view n) ≡ greatest (map lines_in (up_from 0 n))
+  up_to : (n : ℕ) → n ≤ length view → limited r.limit (height_up_to r.cells view n) ≡ greatest (map lines_in (up_from 0 n))
   unfolding height_up_to
   up_to zero h = limited-none r.limit ∙ sym (no_lines lines_in)
   up_to (suc n) h =
@@ -73,6 +73,6 @@ module _ (t : Table) (ws : List ℕ) (r : Row) (view : View) (W : Views t ws vie
       (ap greatest (map_up lines_in n) ∙ greatest_snoc (map lines_in (up_from 0 n)) (lines_in n)))
 
   -- what the limit leaves of the most lines of a visible column's cell is the row's height
-  pub limited-height : limited r.limit (height_up_to r.cells view view.count) ≡ height t ws r
+  pub limited-height : limited r.limit (height_up_to r.cells view (length view)) ≡ height t ws r
   unfolding lines_in
-  limited-height = up_to view.count (omega arith) ∙ sym (height_numbered t ws r view W)
+  limited-height = up_to (length view) (omega arith) ∙ sym (height_numbered t ws r view W)

@@ -3,7 +3,6 @@ pub mod Line
 pub mod Stand
 pub mod Whole
 pub mod Heights
-pub mod Lent
 pub mod Parts
 pub mod RowText
 pub mod Shown

@@ -24,7 +24,7 @@ use Rattle.formatting.specs.declared.content_format.TextStyle.{TextStyle}
 
 -- columns before i are at their next line, the others as they were
 pub record Passing (s : List ℕ) (view : View) (ts₀ ts : List Pending) (more : Bool) (i : ℕ) : Type 0 where
-  pub within : i ≤ view.count
+  pub within : i ≤ length view
   pub size : length ts ≡ most_columns
   pub done : (k : ℕ) → k < i → After s (visible_at view k).width (pending_at ts₀ k) (pending_at ts k)
   pub todo : (k : ℕ) → i ≤ k → pending_at ts k ≡ pending_at ts₀ k
@@ -35,7 +35,7 @@ module _ (s : List ℕ) (view : View) where
   unfolding any_found
   passing_begins ts h = record { within = omega arith; size = h; done = λ k l. absurd (omega arith); todo = λ k l. refl; found = refl }
 
-  pub passing-on : (ts₀ ts : List Pending) (more m : Bool) (i : ℕ) (u : Pending) → view.count ≤ most_columns → i < view.count → Passing s view ts₀ ts
+  pub passing-on : (ts₀ ts : List Pending) (more m : Bool) (i : ℕ) (u : Pending) → length view ≤ most_columns → i < length view → Passing s view ts₀ ts
       more i
       → After s (visible_at view i).width (pending_at ts i) u → m ≡ (more || u.line.found) → Passing s view ts₀ (set ts i u) m (i + 1)
   unfolding any_found
@@ -53,40 +53,40 @@ module _ (s : List ℕ) (view : View) where
         found = rw (add-one i) (e ∙ rw (p.found, same_below ts i i u (omega arith), get_or-set_same ts i u no_pending k));
       }
 
-  pub passing_done : (ts₀ ts : List Pending) (more : Bool) (i : ℕ) → view.count ≤ i → Passing s view ts₀ ts more i → AfterAll s view ts₀ ts ×
-      (more ≡ any_found ts view.count)
+  pub passing_done : (ts₀ ts : List Pending) (more : Bool) (i : ℕ) → length view ≤ i → Passing s view ts₀ ts more i → AfterAll s view ts₀ ts ×
+      (more ≡ any_found ts (length view))
   passing_done ts₀ ts more i h p =
       let w = p.within in
-      let e : i ≡ view.count = omega arith in
+      let e : i ≡ length view = omega arith in
       (record { size = p.size; each = λ k l. p.done k (omega arith) }, rw e at p.found)
 
 -- ---- lengths
 
 module _ (s : List ℕ) (view : View) (ind : List ℕ) (style : TextStyle) (ts : List Pending) (last : Bool) where
   pub line_is : line_bytes s view ind style ts last ≡ byte_if style.opens style.left ++
-      (build (line_piece s view ind style ts last) view.count ++ (byte_if style.closes style.right ++ (10 ∷ [])))
+      (build (line_piece s view ind style ts last) (length view) ++ (byte_if style.closes style.right ++ (10 ∷ [])))
   unfolding line_bytes
   line_is = refl
 
   pub line-length : length (line_bytes s view ind style ts last)
-      ≡ length (byte_if style.opens style.left) + length (build (line_piece s view ind style ts last) view.count) + length
+      ≡ length (byte_if style.opens style.left) + length (build (line_piece s view ind style ts last) (length view)) + length
       (byte_if style.closes style.right) + 1
   unfolding line_bytes
   line-length =
       let l = byte_if style.opens style.left in
-      let b = build (line_piece s view ind style ts last) view.count in
+      let b = build (line_piece s view ind style ts last) (length view) in
       let r = byte_if style.closes style.right in
       omega (arith, length-append l (b ++ (r ++ (10 ∷ []))), length-append b (r ++ (10 ∷ [])), length-append r (10 ∷ []))
 
   -- the whole, once its last byte is stored
   pub line_whole : (d d₁ d₂ d₃ : List ℕ) (p q e : ℕ) → d₁ ≡ put_at d 0 (byte_if style.opens style.left) → d₂ ≡ put_at d₁ p
-      (build (line_piece s view ind style ts last) view.count)
+      (build (line_piece s view ind style ts last) (length view))
       → d₃ ≡ put_at d₂ q (byte_if style.closes style.right) → length (byte_if style.opens style.left) ≡ p → p + length
-      (build (line_piece s view ind style ts last) view.count) ≡ q
+      (build (line_piece s view ind style ts last) (length view)) ≡ q
       → q + length (byte_if style.closes style.right) ≡ e → e < length d₃ → set d₃ e 10 ≡ over (line_bytes s view ind style ts last) d
   line_whole d d₁ d₂ d₃ p q e e₁ e₂ e₃ x y z h =
       let l = byte_if style.opens style.left in
-      let b = build (line_piece s view ind style ts last) view.count in
+      let b = build (line_piece s view ind style ts last) (length view) in
       let r = byte_if style.closes style.right in
       let f : d₂ ≡ put_at d 0 (l ++ b) = two d 0 l b d₁ d₂ p e₁ e₂ (omega arith) (omega arith) in
       let g : d₃ ≡ put_at d 0 ((l ++ b) ++ r) = two d 0 (l ++ b) r d₂ d₃ q f e₃ (omega (arith, length-append l b)) (omega arith) in
@@ -110,7 +110,7 @@ module _ (s : List ℕ) (view : View) (ind : List ℕ) (style : TextStyle) (ts�
   drawing_begins = record { passing = passing_begins s view ts₀ R.size; place = omega arith; text = sym (put-nil page₀ at₀); size = refl }
 
   module _ (page : List ℕ) (ts : List Pending) (more : Bool) (at i : ℕ) (D : Drawing s view ind style ts₀ last page₀ at₀ page ts more at i)
-      (h : i < view.count) where
+      (h : i < length view) where
     ready : Ready s (visible_at view i) (pending_at ts i)
     ready = rw (D.passing.todo i (omega arith)) (R.each i h)
 
@@ -128,12 +128,12 @@ module _ (s : List ℕ) (view : View) (ind : List ℕ) (style : TextStyle) (ts�
         sym (ap length piece-at)
         ∙ length-append (byte_if (lead i style.joined) style.junction) (column_piece s (visible_at view i) (pending_at ts i) ind last)
 
-    pub drawing-room : at₀ + length (build (line_piece s view ind style ts₀ last) view.count) ≤ length page₀
+    pub drawing-room : at₀ + length (build (line_piece s view ind style ts₀ last) (length view)) ≤ length page₀
         → at + (length (byte_if (lead i style.joined) style.junction) + length (column_piece s (visible_at view i) (pending_at ts i) ind last))
         ≤ length page
-    drawing-room r = omega (arith, D.place, D.size, here-length, build-room (line_piece s view ind style ts₀ last) i view.count h)
+    drawing-room r = omega (arith, D.place, D.size, here-length, build-room (line_piece s view ind style ts₀ last) i (length view) h)
 
-    pub drawing-on : (page₁ : List ℕ) (u : Pending) (at₁ : ℕ) (m : Bool) → at₀ + length (build (line_piece s view ind style ts₀ last) view.count) ≤
+    pub drawing-on : (page₁ : List ℕ) (u : Pending) (at₁ : ℕ) (m : Bool) → at₀ + length (build (line_piece s view ind style ts₀ last) (length view)) ≤
         length page₀
         → at₁ ≡ at + (length (byte_if (lead i style.joined) style.junction) + length (column_piece s (visible_at view i) (pending_at ts i) ind last))
         → After s (visible_at view i).width (pending_at ts i) u
@@ -151,9 +151,9 @@ module _ (s : List ℕ) (view : View) (ind : List ℕ) (style : TextStyle) (ts�
         }
 
   pub drawing_done : (page : List ℕ) (ts : List Pending) (more : Bool) (at i : ℕ) → Drawing s view ind style ts₀ last page₀ at₀ page ts more at i →
-      view.count ≤ i
-      → Drawing s view ind style ts₀ last page₀ at₀ page ts more at view.count
+      (length view) ≤ i
+      → Drawing s view ind style ts₀ last page₀ at₀ page ts more at (length view)
   drawing_done page ts more at i D h =
       let w = D.passing.within in
-      let e : i ≡ view.count = omega arith in
+      let e : i ≡ length view = omega arith in
       rw e at D

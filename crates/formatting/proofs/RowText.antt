@@ -15,7 +15,6 @@ use Rattle.rules.specs.Page.{area_at, areas}
 use Rattle.laws.proofs.Areas.{length-areas, line_at}
 use Rattle.laws.proofs.Lists.{get_d_map}
 use Rattle.table.specs.Held.{table_of}
-use Rattle.table.specs.declared.records.Indicator.{Indicator}
 use Rattle.buffer.specs.Put.{over}
 use Rattle.buffer.proofs.Laws.{lent, lent_same}
 use Rattle.row.specs.View.{View, Views}
@@ -23,7 +22,7 @@ use Rattle.row.specs.Height.{added_up_to}
 use Rattle.formatting.specs.Line.{line_bytes, AfterAll, ReadyAll}
 use Rattle.row.specs.Pending.{any_found}
 use Rattle.formatting.specs.Part.{PartIs}
-use Rattle.formatting.specs.Area.{IndicatorIs}
+use Rattle.rules.specs.Limits.{Plain}
 use Rattle.formatting.specs.Shown.{pairs_shown}
 use Rattle.formatting.specs.RowText.{styled, row_lines, row_height, most_bytes, Marks, Sized, StandsAt}
 use Rattle.formatting.specs.Stand.{in_limit, last_of}
@@ -49,18 +48,18 @@ first-true true b e = refl
 first-true false b e = e
 
 -- line j is pending, and its bytes are known, n being those of a plain line
-pub record Measured (s : List ℕ) (view : View) (r : Row) (j : ℕ) (i : Indicator) (y : TextStyle) (ts : List Pending) (last plain : Bool) (n : ℕ) : Type 0 where
+pub record Measured (s : List ℕ) (view : View) (r : Row) (j : ℕ) (i : List ℕ) (y : TextStyle) (ts : List Pending) (last plain : Bool) (n : ℕ) : Type 0 where
   pub ready : ReadyAll s view ts
-  pub indicator : IndicatorIs i
-  pub most : length (line_bytes s view (take i.count i.characters) y ts last) ≤ most_bytes plain n view.count
-  pub each : plain ≡ true → n ≡ length (line_bytes s view (take i.count i.characters) y ts last)
-  pub shown : length (line_bytes s view (take i.count i.characters) y ts last)
-      ≡ n + added_up_to (pairs_shown (take i.count i.characters) r.limit j 1) r.cells view view.count
+  pub indicator : Plain i
+  pub most : length (line_bytes s view i y ts last) ≤ most_bytes plain n (length view)
+  pub each : plain ≡ true → n ≡ length (line_bytes s view i y ts last)
+  pub shown : length (line_bytes s view i y ts last)
+      ≡ n + added_up_to (pairs_shown i r.limit j 1) r.cells view (length view)
 
 -- ---- a row entered
 
 module _ (s : List ℕ) (view : View) (r : Row) (W : Views (table_of s) (contents (table_of s)) view) where
-  pub enters : (j : ℕ) (ts : List Pending) (found m : Bool) (limit : ℕ) → OpenedRow s r.cells view j ts → found ≡ any_found ts view.count
+  pub enters : (j : ℕ) (ts : List Pending) (found m : Bool) (limit : ℕ) → OpenedRow s r.cells view j ts → found ≡ any_found ts (length view)
       → limit ≡ r.limit → m ≡ (in_limit limit j && found) → StandsAt s view r j m ts
   enters j ts found m limit o f l g =
       let R = opened-stands s (table_of s) (contents (table_of s)) r view j ts W o in
@@ -74,32 +73,32 @@ module _ (s : List ℕ) (view : View) (r : Row) (W : Views (table_of s) (content
     stands_less = ltb-true j (row_height s r) (sym S.has ∙ e)
 
     pub stands-within : in_limit r.limit j ≡ true
-    stands-within = first-true (in_limit r.limit j) (any_found ts view.count)
+    stands-within = first-true (in_limit r.limit j) (any_found ts (length view))
         (sym (height_has s (table_of s) (contents (table_of s)) r view W j ts (S.stands e)) ∙ sym S.has ∙ e)
 
     -- the pending line is the row's
-    module _ (i : Indicator) (M : Marks s i) (y : TextStyle) (limit : ℕ) (el : limit ≡ r.limit) (last : Bool) (ea : last ≡ last_of limit j) where
-      pub line-here : line_bytes s view (take i.count i.characters) y ts last ≡ get_or (row_lines s y r) j [] ++ (10 ∷ [])
+    module _ (i : List ℕ) (M : Marks s i) (y : TextStyle) (limit : ℕ) (el : limit ≡ r.limit) (last : Bool) (ea : last ≡ last_of limit j) where
+      pub line-here : line_bytes s view i y ts last ≡ get_or (row_lines s y r) j [] ++ (10 ∷ [])
       line-here =
           rw (M.are, ea, el)
           (line-styled s (table_of s) (contents (table_of s)) r view W j ts (S.stands e) y stands-within
           ∙ ap (λ l. l ++ (10 ∷ [])) (sym (line_of s y r j stands_less)))
 
-      pub here_size : length (line_bytes s view (take i.count i.characters) y ts last) ≡ length (get_or (row_lines s y r) j []) + 1
+      pub here_size : length (line_bytes s view i y ts last) ≡ length (get_or (row_lines s y r) j []) + 1
       here_size = ap length line-here ∙ length-append (get_or (row_lines s y r) j []) (10 ∷ [])
 
       -- it has its 0A
-      pub line-some : 0 < length (line_bytes s view (take i.count i.characters) y ts last)
+      pub line-some : 0 < length (line_bytes s view i y ts last)
       line-some = omega (arith, here_size)
 
     -- it can be drawn, and its bytes are known
-    pub stands_measurable : (i : Indicator) → Marks s i → (y : TextStyle) (limit : ℕ) → limit ≡ r.limit → (last : Bool) → last ≡ last_of limit j
+    pub stands_measurable : (i : List ℕ) → Marks s i → (y : TextStyle) (limit : ℕ) → limit ≡ r.limit → (last : Bool) → last ≡ last_of limit j
         → (plain : Bool) (n : ℕ) → Sized s y r plain view n → Measured s view r j i y ts last plain n
     stands_measurable i M y limit el last ea plain n Z =
         let h = here_size i M y limit el last ea in
         record {
           ready = stands-drawn;
-          indicator = M.indicator;
+          indicator = M.plain;
           most = omega (arith, h, Z.most j stands_less);
           each = λ p. sym (h ∙ Z.each p j stands_less);
           shown = h ∙ rw M.are (Z.shown j stands_less);
@@ -107,7 +106,7 @@ module _ (s : List ℕ) (view : View) (r : Row) (W : Views (table_of s) (content
 
     -- the row goes on
     pub stands_more : (limit : ℕ) → limit ≡ r.limit → (us : List Pending) (found m : Bool) → AfterAll s view ts us → found ≡ any_found us
-        view.count
+        (length view)
         → m ≡ (in_limit limit (j + 1) && found) → StandsAt s view r (j + 1) m us
     stands_more limit l us found m a f g =
         let R = stands_after s (table_of s) (contents (table_of s)) r view j ts us (S.stands e) a in
@@ -145,19 +144,19 @@ module _ (s : List ℕ) (view : View) (y : TextStyle) (r : Row) (first : ℕ) (W
       here-at : get_or (drop first (row_lines s y r)) (line - first) [] ≡ get_or (row_lines s y r) line []
       here-at = get_or-drop first (row_lines s y r) (line - first) [] ∙ ap (λ k. get_or (row_lines s y r) k []) (omega (arith, G.onward))
 
-      module _ (i : Indicator) (M : Marks s i) (limit : ℕ) (el : limit ≡ r.limit) (last : Bool) (ea : last ≡ last_of limit line) where
-        here : line_bytes s view (take i.count i.characters) y ts last ≡ get_or (row_lines s y r) line [] ++ (10 ∷ [])
+      module _ (i : List ℕ) (M : Marks s i) (limit : ℕ) (el : limit ≡ r.limit) (last : Bool) (ea : last ≡ last_of limit line) where
+        here : line_bytes s view i y ts last ≡ get_or (row_lines s y r) line [] ++ (10 ∷ [])
         here = line-here s view r W line more ts G.stands e i M y limit el last ea
 
-        size : length (line_bytes s view (take i.count i.characters) y ts last) ≡ length (get_or (row_lines s y r) line []) + 1
+        size : length (line_bytes s view i y ts last) ≡ length (get_or (row_lines s y r) line []) + 1
         size = ap length here ∙ length-append (get_or (row_lines s y r) line []) (10 ∷ [])
 
         -- a line was written
-        pub running-on : length (line_bytes s view (take i.count i.characters) y ts last) ≤ length page - at
+        pub running-on : length (line_bytes s view i y ts last) ≤ length page - at
             → (c ys : List ℕ) (us : List Pending) (found m : Bool) (n : ℕ)
-            → ys ≡ over (line_bytes s view (take i.count i.characters) y ts last) (take (length page - at) (drop at page)) → c ≡ put_mid at
+            → ys ≡ over (line_bytes s view i y ts last) (take (length page - at) (drop at page)) → c ≡ put_mid at
             (length page - at) page ys
-            → n ≡ length (line_bytes s view (take i.count i.characters) y ts last) → AfterAll s view ts us → found ≡ any_found us view.count
+            → n ≡ length (line_bytes s view i y ts last) → AfterAll s view ts us → found ≡ any_found us (length view)
             → m ≡ (in_limit limit (line + 1) && found) → Running s view y r first b c us m (at + n) (line + 1)
         running-on room c ys us found m n o p q a f g =
             let wide : n ≡ length (get_or (row_lines s y r) line []) + 1 = q ∙ size in
@@ -181,7 +180,7 @@ module _ (s : List ℕ) (view : View) (y : TextStyle) (r : Row) (first : ℕ) (W
             }
 
         -- there is no room for it
-        pub running-full : length page - at < length (line_bytes s view (take i.count i.characters) y ts last)
+        pub running-full : length page - at < length (line_bytes s view i y ts last)
             → PartIs (drop first (row_lines s y r)) b page (record { lines = line - first; bytes = at; whole = false })
         running-full h =
             let next : drop (line - first) (drop first (row_lines s y r)) ≡ get_or (row_lines s y r) line [] ∷ drop (suc (line - first))

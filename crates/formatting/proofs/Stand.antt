@@ -173,7 +173,7 @@ shown-at s v ls j t S ind h e b f =
 
 module _ (s : List ℕ) (t : Table) (ws : List ℕ) (r : Row) (view : View) (W : Views t ws view) (j : ℕ) where
   -- a column's piece of line j is the document's area
-  pub piece-area : (i : ℕ) (st : Pending) → i < view.count → StandsCell s t ws r (visible_at view i) i j st → in_limit r.limit j ≡ true
+  pub piece-area : (i : ℕ) (st : Pending) → i < length view → StandsCell s t ws r (visible_at view i) i j st → in_limit r.limit j ≡ true
       → column_piece s (visible_at view i) st t.indicator (last_of r.limit j) ≡ area_at t ws r j (number_of t i)
   unfolding column_piece area_at cell_lines
   piece-area i st h C e =

@@ -47,13 +47,13 @@ module _ (s : List ℕ) (t : Table) (ws : List ℕ) (r : Row) (view : View) (W :
   line-styled y e =
       let g : ℕ → List ℕ = λ i. area_at t ws r j (number_of t i) in
       let p : build (λ i. byte_if (lead i y.joined) y.junction ++ column_piece s (visible_at view i) (pending_at ts i) t.indicator
-      (last_of r.limit j)) view.count
-      ≡ build (λ i. byte_if (lead i y.joined) y.junction ++ g i) view.count =
-      build-same _ _ view.count (λ i h. ap (λ l. byte_if (lead i y.joined) y.junction ++ l)
+      (last_of r.limit j)) (length view)
+      ≡ build (λ i. byte_if (lead i y.joined) y.junction ++ g i) (length view) =
+      build-same _ _ (length view) (λ i h. ap (λ l. byte_if (lead i y.joined) y.junction ++ l)
       (piece-area s t ws r view W j i (pending_at ts i) h (R.each i h) e)) in
-      let q : map (area_at t ws r j) (visible t) ≡ map g (up_from 0 view.count) = map_numbered (area_at t ws r j) 0 (visible t) ∙ ap
+      let q : map (area_at t ws r j) (visible t) ≡ map g (up_from 0 (length view)) = map_numbered (area_at t ws r j) 0 (visible t) ∙ ap
       (λ n. map g (up_from 0 n)) (sym W.count) in
-      rw (p, build-joined y.joined y.junction g view.count, q) (simp append_assoc)
+      rw (p, build-joined y.joined y.junction g (length view), q) (simp append_assoc)
 
 -- ---- a row's height
 
@@ -85,7 +85,7 @@ map_up f n =
 
 -- a row's height by the numbers of its visible columns
 pub height_numbered : (t : Table) (ws : List ℕ) (r : Row) (view : View) → Views t ws view → height t ws r ≡ greatest
-    (map (λ i. length (cell_lines t ws r (number_of t i))) (up_from 0 view.count))
+    (map (λ i. length (cell_lines t ws r (number_of t i))) (up_from 0 (length view)))
 unfolding height
 height_numbered t ws r view W =
     ap greatest (map_numbered (λ c. length (cell_lines t ws r c)) 0 (visible t) ∙ ap
@@ -96,14 +96,14 @@ module _ (s : List ℕ) (t : Table) (ws : List ℕ) (r : Row) (view : View) (W :
   lines_in : ℕ → ℕ
   lines_in i = length (cell_lines t ws r (number_of t i))
 
-  column_has : (i : ℕ) → i < view.count → ltb j (lines_in i) ≡ (in_limit r.limit j && (pending_at ts i).line.found)
+  column_has : (i : ℕ) → i < length view → ltb j (lines_in i) ≡ (in_limit r.limit j && (pending_at ts i).line.found)
   unfolding lines_in cell_lines
   column_has i h =
       cut_has (get_or ws (number_of t i) 0) t.indicator r.limit j (wrapped t ws r (number_of t i))
       ∙ ap (λ b. in_limit r.limit j && b) (sym (stands_found s (visible_at view i) (wrapped t ws r (number_of t i)) j (pending_at ts i)
       (R.each i h).stands))
 
-  up_to : (n : ℕ) → n ≤ view.count → ltb j (greatest (map lines_in (up_from 0 n))) ≡ (in_limit r.limit j && any_found ts n)
+  up_to : (n : ℕ) → n ≤ length view → ltb j (greatest (map lines_in (up_from 0 n))) ≡ (in_limit r.limit j && any_found ts n)
   unfolding any_found
   up_to zero h = none (in_limit r.limit j)
     where
@@ -116,9 +116,9 @@ module _ (s : List ℕ) (t : Table) (ws : List ℕ) (r : Row) (view : View) (W :
       ∙ rw (up_to n (omega arith), column_has n (omega arith)) (both_either (in_limit r.limit j) (any_found ts n) (pending_at ts n).line.found)
 
   -- a row has line j if the limit leaves it and it is pending in some visible column
-  pub height_has : ltb j (height t ws r) ≡ (in_limit r.limit j && any_found ts view.count)
+  pub height_has : ltb j (height t ws r) ≡ (in_limit r.limit j && any_found ts (length view))
   unfolding lines_in
-  height_has = ap (ltb j) (height_numbered t ws r view W) ∙ up_to view.count (omega arith)
+  height_has = ap (ltb j) (height_numbered t ws r view W) ∙ up_to (length view) (omega arith)
 
 -- ---- a row opened
 

@@ -1,11 +1,9 @@
 -- One column's part of a text line, by the line that is pending for it. Assumes nothing.
-use Rattle.std.specs.Prelude.{ℕ, ◌+◌, ◌-◌, ◌≤◌, ◌≡◌, List, ◌++◌, Bool, true, false, cond, ◌&&◌, length, take, leb, ltb}
+use Rattle.std.specs.Prelude.{ℕ, ◌+◌, ◌-◌, ◌≤◌, ◌≡◌, List, ◌++◌, Bool, true, false, cond, ◌&&◌, length, leb, ltb}
 use Rattle.std.proofs.Math.Seq.{slice}
 use Rattle.rules.specs.Text.{text_width, first_of, blank}
-use Rattle.rules.specs.Limits.{Plain}
 use Rattle.rules.specs.Wrap.{cut_line}
 use Rattle.rules.specs.Page.{before}
-use Rattle.table.specs.declared.records.Indicator.{Indicator}
 use Rattle.cells.specs.Cell.{FirstOf}
 use Rattle.cells.specs.declared.Next.{Next}
 use Rattle.row.specs.declared.VisibleColumn.{VisibleColumn}
@@ -21,11 +19,6 @@ area_in v a l =
 -- the indicator's bytes that are shown: none where it is wider than the content
 abbrev pub marks_shown : Bool → ℕ → ℕ → ℕ
 marks_shown cut n w = cond (cut && leb n w) n 0
-
--- an indicator that is held where its count says, of ASCII characters
-pub record IndicatorIs (i : Indicator) : Type 0 where
-  pub within : i.count ≤ length i.characters
-  pub plain : Plain (take i.count i.characters)
 
 -- a line that lies in a text and knows its columns
 pub record LineIn (t : List ℕ) (l : Next) : Type 0 where

@@ -15,15 +15,15 @@ line_piece s view ind style ts last i = byte_if (lead i style.joined) style.junc
 -- the line with its 0A
 unfoldable pub line_bytes : List ℕ → View → List ℕ → TextStyle → List Pending → Bool → List ℕ
 line_bytes s view ind style ts last =
-    byte_if style.opens style.left ++ (build (line_piece s view ind style ts last) view.count ++ (byte_if style.closes style.right ++ (10 ∷ [])))
+    byte_if style.opens style.left ++ (build (line_piece s view ind style ts last) (length view) ++ (byte_if style.closes style.right ++ (10 ∷ [])))
 
 -- every visible column has a width, and its cell stands in the sheet
 pub record ReadyAll (s : List ℕ) (view : View) (ts : List Pending) : Type 0 where
   pub size : length ts ≡ most_columns
-  pub most : view.count ≤ most_columns
-  pub each : (i : ℕ) → i < view.count → Ready s (visible_at view i) (pending_at ts i)
+  pub most : length view ≤ most_columns
+  pub each : (i : ℕ) → i < length view → Ready s (visible_at view i) (pending_at ts i)
 
 -- every visible column's cell at its next line
 pub record AfterAll (s : List ℕ) (view : View) (ts us : List Pending) : Type 0 where
   pub size : length us ≡ most_columns
-  pub each : (i : ℕ) → i < view.count → After s (visible_at view i).width (pending_at ts i) (pending_at us i)
+  pub each : (i : ℕ) → i < length view → After s (visible_at view i).width (pending_at ts i) (pending_at us i)

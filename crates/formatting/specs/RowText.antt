@@ -1,20 +1,18 @@
 -- A row's text lines, by what they are drawn with. Assumes nothing.
-use Rattle.std.specs.Prelude.{ℕ, ◌+◌, ◌*◌, ◌≤◌, ◌<◌, min, ◌≡◌, List, [], map, Bool, true, false, length, take, get_or, ltb}
+use Rattle.std.specs.Prelude.{ℕ, ◌+◌, ◌*◌, ◌≤◌, ◌<◌, min, ◌≡◌, List, [], map, Bool, true, false, length, get_or, ltb}
 use Rattle.rules.specs.Text.{All}
-use Rattle.rules.specs.Limits.{most_lines, longest_line}
+use Rattle.rules.specs.Limits.{Plain, most_lines, longest_line}
 use Rattle.rules.specs.Sheet.{Row}
 use Rattle.rules.specs.Widths.{contents}
 use Rattle.rules.specs.Page.{line_of, areas, height}
 use Rattle.table.specs.Held.{table_of}
 use Rattle.table.specs.Walk.{rows_end, first_row}
 use Rattle.table.specs.declared.records.Rows.{Rows}
-use Rattle.table.specs.declared.records.Indicator.{Indicator}
 use Rattle.buffer.specs.Put.{byte_if}
 use Rattle.row.specs.View.{View, Views}
 use Rattle.row.specs.Height.{added_up_to}
 use Rattle.row.specs.Open.{CellKnown, Rising, UsableAll}
 use Rattle.row.specs.declared.Pending.{Pending}
-use Rattle.formatting.specs.Area.{IndicatorIs}
 use Rattle.formatting.specs.Shown.{pairs_shown}
 use Rattle.formatting.specs.Stand.{StandsRow}
 use Rattle.formatting.specs.declared.content_format.TextStyle.{TextStyle}
@@ -41,10 +39,10 @@ pub record Drawable (s : List ℕ) (view : View) (plain : Bool) (c : Rows) : Typ
   pub known : All (CellKnown plain) (first_row s c).cells
   pub short : length s ≤ 32768
 
--- the table's indicator
-pub record Marks (s : List ℕ) (i : Indicator) : Type 0 where
-  pub are : take i.count i.characters ≡ (table_of s).indicator
-  pub indicator : IndicatorIs i
+-- the table's indicator, of ASCII characters
+pub record Marks (s ind : List ℕ) : Type 0 where
+  pub are : ind ≡ (table_of s).indicator
+  pub plain : Plain ind
 
 -- a row's lines are neither too long nor too many
 pub record Bounded (s : List ℕ) (y : TextStyle) (r : Row) : Type 0 where
@@ -62,9 +60,9 @@ pub record Sized (s : List ℕ) (y : TextStyle) (r : Row) (plain : Bool) (view :
   pub bounded : Bounded s y r
   pub small : n ≤ longest_line + 1
   pub each : plain ≡ true → (k : ℕ) → k < row_height s r → length (get_or (row_lines s y r) k []) + 1 ≡ n
-  pub most : (k : ℕ) → k < row_height s r → length (get_or (row_lines s y r) k []) + 1 ≤ most_bytes plain n view.count
+  pub most : (k : ℕ) → k < row_height s r → length (get_or (row_lines s y r) k []) + 1 ≤ most_bytes plain n (length view)
   pub shown : (k : ℕ) → k < row_height s r
-      → length (get_or (row_lines s y r) k []) + 1 ≡ n + added_up_to (pairs_shown (table_of s).indicator r.limit k 1) r.cells view view.count
+      → length (get_or (row_lines s y r) k []) + 1 ≡ n + added_up_to (pairs_shown (table_of s).indicator r.limit k 1) r.cells view (length view)
 
 -- whether a row has line j, which is then pending
 pub record StandsAt (s : List ℕ) (view : View) (r : Row) (j : ℕ) (more : Bool) (ts : List Pending) : Type 0 where

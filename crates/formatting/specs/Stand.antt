@@ -18,7 +18,7 @@ pub record StandsCell (s : List ℕ) (t : Table) (ws : List ℕ) (r : Row) (v : 
 
 pub record StandsRow (s : List ℕ) (t : Table) (ws : List ℕ) (r : Row) (view : View) (j : ℕ) (ts : List Pending) : Type 0 where
   pub size : length ts ≡ most_columns
-  pub each : (i : ℕ) → i < view.count → StandsCell s t ws r (visible_at view i) i j (pending_at ts i)
+  pub each : (i : ℕ) → i < length view → StandsCell s t ws r (visible_at view i) i j (pending_at ts i)
 
 -- line j is within a row's limit, 0 being none; it is the last one
 abbrev pub in_limit : ℕ → ℕ → Bool

@@ -1,27 +1,26 @@
 // The text lines of a row, drawn one after another. A cell's next wrapped line is found one line ahead, so that each is found once.
 ghost use Rattle.std.specs.Prelude.{◌≡◌, ◌++◌, true, not, ◌&&◌, ◌+◌, ◌-◌, ◌≤◌, ◌<◌, length, take, drop, leb};
-ghost use Rattle.rules.specs.Limits.{most_lines, longest_line, Printable};
+ghost use Rattle.rules.specs.Limits.{most_lines, longest_line, Plain, Printable};
 ghost use Rattle.rules.specs.Text.{text_width};
 ghost use Rattle.rules.specs.Sheet.{most_columns};
 ghost use Rattle.rules.specs.Page.{before};
 ghost use Rattle.table.specs.Walk.{first_row};
 ghost use Rattle.buffer.specs.Put.{over, put_at, byte_if};
 ghost use Rattle.cells.specs.Cell.{Inside};
-ghost use Rattle.formatting.specs.Area.{area_in, marks_shown, IndicatorIs, LineIn, ShownIs, shown_text, After, column_piece};
+ghost use Rattle.formatting.specs.Area.{area_in, marks_shown, LineIn, ShownIs, shown_text, After, column_piece};
 ghost use Rattle.row.specs.Height.{added_up_to};
 ghost use Rattle.row.specs.Pending.{InSheet, Ready, any_found};
 ghost use Rattle.formatting.specs.Line.{line_bytes, ReadyAll, AfterAll};
 ghost use Rattle.formatting.specs.Stand.{in_limit, last_of};
-ghost use Rattle.row.specs.Packed.{view_of, pendings_of};
 ghost use Rattle.formatting.specs.Part.{PartIs};
 ghost use Rattle.formatting.specs.RowText.{Drawable, row_lines, EnteredIs, most_bytes, Sized, Marks};
 ghost use Rattle.formatting.specs.Shown.{pairs_shown};
 
 use crate::row_size;
-use cells::Next;
-use row::{Pending, VisibleColumn, packed};
+use cells::{CellCursor, Next};
+use row::{Pending, VisibleColumn};
 use rules::MOST_COLUMNS;
-use table::records::{Indicator, Rows};
+use table::records::{Lines, Rows};
 use table::walk;
 
 // The spaces left of a text that leaves some columns free.
@@ -108,17 +107,17 @@ fn draw_cell(
     sheet: &[u8],
     v: VisibleColumn,
     t: Pending,
-    indicator: Indicator,
+    indicator: &[u8],
     cut: bool,
 ) -> usize
-    requires in_sheet { InSheet sheet.now v.width t × IndicatorIs indicator }
-    requires t_in_bounds { at + length (area_in v t.alignment (shown_text sheet.now v.width (take indicator.count indicator.characters) cut t)) ≤ length page.old }
-    ensures value { result ≡ at + length (area_in v t.alignment (shown_text sheet.now v.width (take indicator.count indicator.characters) cut t)) }
+    requires in_sheet { InSheet sheet.now v.width t × Plain indicator.now }
+    requires t_in_bounds { at + length (area_in v t.alignment (shown_text sheet.now v.width indicator.now cut t)) ≤ length page.old }
+    ensures value { result ≡ at + length (area_in v t.alignment (shown_text sheet.now v.width indicator.now cut t)) }
     ensures page_after { page.new ≡ put_at page.old at
-        (area_in v t.alignment (shown_text sheet.now v.width (take indicator.count indicator.characters) cut t)) }
+        (area_in v t.alignment (shown_text sheet.now v.width indicator.now cut t)) }
 {
     let width = v.width;
-    let m = marks_shown(cut, indicator.count, width);
+    let m = marks_shown(cut, indicator.len(), width);
     let line = t.line;
     let cursor = line.cursor;
     let lines = cursor.lines;
@@ -126,16 +125,38 @@ fn draw_cell(
     let shown = shorten(text, line, width - m);
     let start = line.start;
     let end = shown.end;
-    let characters = indicator.characters;
     align_line(
         page,
         at,
         &text[start..end],
-        &characters[..m],
+        &indicator[..m],
         v,
         t.alignment,
         width - m - shown.columns,
     )
+}
+
+// The same line, field by field. Copied as a whole it takes its padding along, and a page of short lines takes half as long again.
+fn copied(l: Next) -> Next
+    ensures { result ≡ l }
+{
+    let c = l.cursor;
+    let lines = Lines {
+        at: c.lines.at,
+        left: c.lines.left,
+    };
+    let cursor = CellCursor {
+        lines,
+        from: c.from,
+        plain: c.plain,
+    };
+    Next {
+        found: l.found,
+        start: l.start,
+        end: l.end,
+        columns: l.columns,
+        cursor,
+    }
 }
 
 // The cell's next line.
@@ -143,11 +164,9 @@ pub fn advance(sheet: &[u8], width: usize, t: Pending) -> Pending
     requires { Inside sheet.now t.line.cursor × ((0 < width) × Printable t.delimiter) }
     ensures { After sheet.now width t result }
 {
-    let line = t.line;
-    let cursor = line.cursor;
-    let next = cells::next_line(sheet, cursor, width, t.delimiter);
+    let next = cells::next_line(sheet, t.line.cursor, width, t.delimiter);
     Pending {
-        line: next,
+        line: copied(next),
         delimiter: t.delimiter,
         alignment: t.alignment,
     }
@@ -167,21 +186,20 @@ fn draw_column(
     sheet: &[u8],
     v: VisibleColumn,
     t: Pending,
-    indicator: Indicator,
+    indicator: &[u8],
     last: bool,
     joins: bool,
     junction: u8,
 ) -> Drawn
-    requires ready { Ready sheet.now v t × IndicatorIs indicator }
-    requires last_in_bounds { at + (length (byte_if joins junction) + length (column_piece sheet.now v t (take indicator.count indicator.characters) last)) ≤ length page.old }
-    ensures place { (result.at ≡ at + (length (byte_if joins junction) + length (column_piece sheet.now v t (take indicator.count indicator.characters) last)))
+    requires ready { Ready sheet.now v t × Plain indicator.now }
+    requires last_in_bounds { at + (length (byte_if joins junction) + length (column_piece sheet.now v t indicator.now last)) ≤ length page.old }
+    ensures place { (result.at ≡ at + (length (byte_if joins junction) + length (column_piece sheet.now v t indicator.now last)))
         × After sheet.now v.width t result.pending }
     ensures page_after { page.new ≡ put_at page.old at
-        (byte_if joins junction ++ column_piece sheet.now v t (take indicator.count indicator.characters) last) }
+        (byte_if joins junction ++ column_piece sheet.now v t indicator.now last) }
 {
     let next = advance(sheet, v.width, t);
-    let line = next.line;
-    let cut = numbers::both(last, line.found);
+    let cut = last & next.line.found;
     let p = buffer::draw_edge(page, at, joins, junction);
     let q = draw_cell(page, p, sheet, v, t, indicator, cut);
     Drawn {
@@ -212,51 +230,40 @@ pub struct Lined {
 fn write_line(
     page: &mut [u8],
     sheet: &[u8],
-    columns: &[[usize; 6]; MOST_COLUMNS],
-    count: usize,
-    indicator: Indicator,
+    columns: &[VisibleColumn],
+    indicator: &[u8],
     style: TextStyle,
     last: bool,
-    plain: bool,
-    state: &mut [[usize; 9]; MOST_COLUMNS],
+    state: &mut [Pending; MOST_COLUMNS],
 ) -> Lined
-    requires ready_all { ReadyAll sheet.now (view_of columns.now count) (pendings_of plain state.old) × IndicatorIs indicator }
-    requires last_in_bounds { length (line_bytes sheet.now (view_of columns.now count) (take indicator.count indicator.characters) style (pendings_of plain state.old) last)
+    requires ready_all { ReadyAll sheet.now columns.now state.old × Plain indicator.now }
+    requires last_in_bounds { length (line_bytes sheet.now columns.now indicator.now style state.old last)
         ≤ length page.old }
-    ensures written { result.written ≡ length (line_bytes sheet.now (view_of columns.now count) (take indicator.count indicator.characters) style
-        (pendings_of plain state.old) last) }
-    ensures after_all { AfterAll sheet.now (view_of columns.now count) (pendings_of plain state.old) (pendings_of plain state.new)
-        × (result.more ≡ any_found (pendings_of plain state.new) count) }
-    ensures page_after { page.new ≡ over (line_bytes sheet.now (view_of columns.now count) (take indicator.count indicator.characters)
-        style (pendings_of plain state.old) last) page.old }
+    ensures written { result.written ≡ length (line_bytes sheet.now columns.now indicator.now style
+        state.old last) }
+    ensures after_all { AfterAll sheet.now columns.now state.old state.new
+        × (result.more ≡ any_found state.new (length columns.now)) }
+    ensures page_after { page.new ≡ over (line_bytes sheet.now columns.now indicator.now
+        style state.old last) page.old }
 {
     let mut more = false;
     let mut at = buffer::draw_edge(page, 0, style.opens, style.left);
-    let mut i: usize = 0;
-    while i < count {
-        let y = columns[i];
-        let v = packed::column_from(y);
-        let x = state[i];
-        let t = packed::pending_from(x, plain);
+    for (i, &v) in columns.iter().enumerate() {
         let joins = buffer::joins_before(i, style.joined);
         let d = draw_column(
             page,
             at,
             sheet,
             v,
-            t,
+            state[i],
             indicator,
             last,
             joins,
             style.junction,
         );
         at = d.at;
-        let u = d.pending;
-        let line = u.line;
-        more = numbers::either(more, line.found);
-        let z = packed::repack_pending(x, u);
-        state[i] = z;
-        i += 1;
+        more |= d.pending.line.found;
+        state[i] = d.pending;
     }
     let e = buffer::draw_edge(page, at, style.closes, style.right);
     page[e] = 10;
@@ -297,19 +304,18 @@ pub struct Entered {
 // The first of some rows, at its line n.
 pub fn enter_row(
     sheet: &[u8],
-    columns: &[[usize; 6]; MOST_COLUMNS],
-    count: usize,
+    columns: &[VisibleColumn],
     here: Rows,
     n: usize,
     plain: bool,
-    state: &mut [[usize; 9]; MOST_COLUMNS],
+    state: &mut [Pending; MOST_COLUMNS],
 ) -> Entered
-    requires { Drawable sheet.now (view_of columns.now count) plain here × (length state.old ≡ most_columns) }
-    ensures { EnteredIs sheet.now (view_of columns.now count) (first_row sheet.now here) n result (pendings_of plain state.new) }
+    requires { Drawable sheet.now columns.now plain here × (length state.old ≡ most_columns) }
+    ensures { EnteredIs sheet.now columns.now (first_row sheet.now here) n result state.new }
 {
     let r = walk::row(sheet, here);
     let cells = r.cells;
-    let found = row::format_row(sheet, columns, count, cells, n, plain, state);
+    let found = row::format_row(sheet, columns, cells, n, plain, state);
     Entered {
         limit: r.limit,
         more: has_line(r.limit, n, found),
@@ -330,7 +336,7 @@ fn most_bytes(plain: bool, size: usize, count: usize) -> usize
     requires { (size ≤ longest_line + 1) × (count ≤ most_columns) }
     ensures { result ≡ most_bytes plain size count }
 {
-    let pairs = numbers::lesser(size, 100 * count);
+    let pairs = size.min(100 * count);
     if plain {
         return size;
     }
@@ -340,33 +346,23 @@ fn most_bytes(plain: bool, size: usize, count: usize) -> usize
 // Whether line `line` of the first of some rows fits, where the most that a line takes wouldn't.
 fn fits_after_all(
     sheet: &[u8],
-    columns: &[[usize; 6]; MOST_COLUMNS],
-    count: usize,
-    indicator: Indicator,
+    columns: &[VisibleColumn],
+    indicator: &[u8],
     here: Rows,
     line: usize,
     plain: bool,
     size: usize,
     room: usize,
 ) -> bool
-    requires { Drawable sheet.now (view_of columns.now count) plain here × (IndicatorIs indicator × ((line ≤ most_lines) × (size ≤ longest_line + 1))) }
+    requires { Drawable sheet.now columns.now plain here × (Plain indicator.now × ((line ≤ most_lines) × (size ≤ longest_line + 1))) }
     ensures { result ≡ (not plain && leb (size + added_up_to
-        (pairs_shown (take indicator.count indicator.characters) (first_row sheet.now here).limit line 1)
-        (first_row sheet.now here).cells (view_of columns.now count) count) room) }
+        (pairs_shown indicator.now (first_row sheet.now here).limit line 1)
+        (first_row sheet.now here).cells columns.now (length columns.now)) room) }
 {
     if plain {
         return false;
     }
-    let pairs = row_size::row_shown(
-        sheet,
-        columns,
-        count,
-        indicator,
-        here,
-        line,
-        line + 1,
-        plain,
-    );
+    let pairs = row_size::row_shown(sheet, columns, indicator, here, line, line + 1, plain);
     size + pairs <= room
 }
 
@@ -375,23 +371,22 @@ fn fits_after_all(
 pub fn draw_row(
     page: &mut [u8],
     sheet: &[u8],
-    columns: &[[usize; 6]; MOST_COLUMNS],
-    count: usize,
-    indicator: Indicator,
+    columns: &[VisibleColumn],
+    indicator: &[u8],
     style: TextStyle,
     here: Rows,
     first: usize,
     plain: bool,
     size: usize,
 ) -> Part
-    requires drawable { Drawable sheet.now (view_of columns.now count) plain here × Marks sheet.now indicator }
-    requires sized { Sized sheet.now style (first_row sheet.now here) plain (view_of columns.now count) size }
+    requires drawable { Drawable sheet.now columns.now plain here × Marks sheet.now indicator.now }
+    requires sized { Sized sheet.now style (first_row sheet.now here) plain columns.now size }
     ensures { PartIs (drop first (row_lines sheet.now style (first_row sheet.now here))) page.old page.new result }
 {
-    let mut state = [[0usize; 9]; MOST_COLUMNS];
-    let entered = enter_row(sheet, columns, count, here, first, plain, &mut state);
+    let mut state = [Pending::default(); MOST_COLUMNS];
+    let entered = enter_row(sheet, columns, here, first, plain, &mut state);
     let limit = entered.limit;
-    let most = most_bytes(plain, size, count);
+    let most = most_bytes(plain, size, columns.len());
     let mut more = entered.more;
     let mut at: usize = 0;
     let mut line = first;
@@ -399,9 +394,7 @@ pub fn draw_row(
         let last = is_last(limit, line);
         let room = page.len() - at;
         if room < most {
-            let fits = fits_after_all(
-                sheet, columns, count, indicator, here, line, plain, size, room,
-            );
+            let fits = fits_after_all(sheet, columns, indicator, here, line, plain, size, room);
             if !fits {
                 return Part {
                     lines: line - first,
@@ -414,11 +407,9 @@ pub fn draw_row(
             &mut page[at..],
             sheet,
             columns,
-            count,
             indicator,
             style,
             last,
-            plain,
             &mut state,
         );
         at += l.written;

@@ -21,7 +21,7 @@ use Rattle.parts.specs.Ahead.{lines_of}
 use Rattle.lines.specs.declared.Found.{Found}
 use Rattle.lines.specs.Walk.{FoundIs, LongestIs}
 
-module _ (s : List ℕ) (cols : List (List ℕ)) (p : Page) (O : Opened s cols p) (l : Lengths) (L : LengthsAre s l) where
+module _ (s : List ℕ) (p : Page) (O : Opened s p) (l : Lengths) (L : LengthsAre s l) where
   optional : All Optional (table_of s).style
   optional = (limits_of s O.passes).style_characters_fit
 

@@ -31,12 +31,12 @@ pub record Counting (s : List ℕ) (p : Page) (c : Cursor) (lines bytes : ℕ) :
   pub counted : lines + length (ahead s p c) ≡ length (lines_of s p)
   pub sized : bytes + length (closed (ahead s p c)) ≡ length (closed (lines_of s p))
 
-pub counting_begins : (s : List ℕ) (cols : List (List ℕ)) (p : Page) → Opened s cols p → (c : Cursor) → c ≡ first_cursor p → Counting s p c 0 0
-counting_begins s cols p O c e = rw e (record {
-  at = first-at s cols p O;
+pub counting_begins : (s : List ℕ) (p : Page) → Opened s p → (c : Cursor) → c ≡ first_cursor p → Counting s p c 0 0
+counting_begins s p O c e = rw e (record {
+  at = first-at s p O;
   start = refl;
-  counted = omega (arith, ap length (first-ahead s cols p O));
-  sized = omega (arith, ap (λ ls. length (closed ls)) (first-ahead s cols p O));
+  counted = omega (arith, ap length (first-ahead s p O));
+  sized = omega (arith, ap (λ ls. length (closed ls)) (first-ahead s p O));
 })
 
 module _ (s : List ℕ) (p : Page) (c : Cursor) (lines bytes : ℕ) (C : Counting s p c lines bytes) where
@@ -81,14 +81,14 @@ pub record Reaching (s : List ℕ) (p : Page) (k : ℕ) (c : Cursor) (left : ℕ
   pub lines : ahead s p c ≡ drop (k - left) (lines_of s p)
   pub passed : k - left ≤ length (lines_of s p)
 
-pub reaching_begins : (s : List ℕ) (cols : List (List ℕ)) (p : Page) → Opened s cols p → (k : ℕ) (c : Cursor) → c ≡ first_cursor p → Reaching s p k c k
-reaching_begins s cols p O k c e =
+pub reaching_begins : (s : List ℕ) (p : Page) → Opened s p → (k : ℕ) (c : Cursor) → c ≡ first_cursor p → Reaching s p k c k
+reaching_begins s p O k c e =
     let z : k - k ≡ 0 = omega arith in
     rw e (record {
-      at = first-at s cols p O;
+      at = first-at s p O;
       start = refl;
       within = omega arith;
-      lines = first-ahead s cols p O ∙ ap (λ n. drop n (lines_of s p)) (sym z);
+      lines = first-ahead s p O ∙ ap (λ n. drop n (lines_of s p)) (sym z);
       passed = omega arith;
     })
 

@@ -10,7 +10,6 @@ ghost use Rattle.lines.specs.Walk.{TotalsAre, SoughtIs, LongestIs, FoundIs, Wrot
 use display_info::Page;
 use parts::cursor::Cursor;
 use parts::{cursor, lengths, part, sizes};
-use rules::MOST_COLUMNS;
 
 // A page's lines and bytes.
 #[derive(Clone, Copy)]
@@ -20,17 +19,17 @@ pub struct Totals {
 }
 
 // A page's lines and bytes, part after part.
-pub fn count(sheet: &[u8], columns: &[[usize; 6]; MOST_COLUMNS], p: Page) -> Totals
-    requires { Opened sheet.now columns.now p }
-    ensures { TotalsAre sheet.now p result }
+pub fn count(sheet: &[u8], p: &Page) -> Totals
+    requires { Opened sheet.now p.now }
+    ensures { TotalsAre sheet.now p.now result }
 {
-    let l = lengths::measure(sheet, columns, p);
+    let l = lengths::measure(sheet, p);
     let mut c = cursor::first(p);
     let mut lines: usize = 0;
     let mut bytes: usize = 0;
     while !cursor::is_end(c) {
-        let n = part::lines(sheet, columns, p, c);
-        let more = sizes::bytes(sheet, columns, p, l, c, n);
+        let n = part::lines(sheet, p, c);
+        let more = sizes::bytes(sheet, p, l, c, n);
         lines += n;
         bytes += more;
         c = cursor::next(sheet, p, c);
@@ -46,14 +45,14 @@ pub struct Sought {
 }
 
 // The cursor at line k, or at the end, where the lines before it are all there are.
-pub fn seek(sheet: &[u8], columns: &[[usize; 6]; MOST_COLUMNS], p: Page, k: usize) -> Sought
-    requires { Opened sheet.now columns.now p }
-    ensures { SoughtIs sheet.now p k result }
+pub fn seek(sheet: &[u8], p: &Page, k: usize) -> Sought
+    requires { Opened sheet.now p.now }
+    ensures { SoughtIs sheet.now p.now k result }
 {
     let mut c = cursor::first(p);
     let mut left = k;
     while !cursor::is_end(c) {
-        let n = part::lines(sheet, columns, p, c);
+        let n = part::lines(sheet, p, c);
         if left < n {
             let cursor = cursor::further(c, left);
             return Sought { cursor, passed: k };
@@ -75,17 +74,11 @@ pub struct Found {
     pub cursor: Cursor,
 }
 
-pub fn find(
-    sheet: &[u8],
-    columns: &[[usize; 6]; MOST_COLUMNS],
-    p: Page,
-    k: usize,
-    room: usize,
-) -> Found
-    requires { Opened sheet.now columns.now p }
-    ensures { FoundIs sheet.now p k room result }
+pub fn find(sheet: &[u8], p: &Page, k: usize, room: usize) -> Found
+    requires { Opened sheet.now p.now }
+    ensures { FoundIs sheet.now p.now k room result }
 {
-    let sought = seek(sheet, columns, p, k);
+    let sought = seek(sheet, p, k);
     let cursor = sought.cursor;
     if cursor::is_end(cursor) {
         return Found {
@@ -94,8 +87,8 @@ pub fn find(
             cursor,
         };
     }
-    let l = lengths::measure(sheet, columns, p);
-    let needed = sizes::line_size(sheet, columns, p, l, cursor);
+    let l = lengths::measure(sheet, p);
+    let needed = sizes::line_size(sheet, p, l, cursor);
     if room < needed {
         return Found {
             number: 20,
@@ -111,11 +104,11 @@ pub fn find(
 }
 
 // The longest of a page's lines, in columns: a border is as long as any line, and without borders all lines are equally long.
-pub fn longest_line(sheet: &[u8], columns: &[[usize; 6]; MOST_COLUMNS], p: Page) -> usize
-    requires { Opened sheet.now columns.now p }
-    ensures { LongestIs sheet.now p result }
+pub fn longest_line(sheet: &[u8], p: &Page) -> usize
+    requires { Opened sheet.now p.now }
+    ensures { LongestIs sheet.now p.now result }
 {
-    let l = lengths::measure(sheet, columns, p);
+    let l = lengths::measure(sheet, p);
     let styles = p.styles;
     if styles.has_top {
         return l.border;
@@ -123,7 +116,7 @@ pub fn longest_line(sheet: &[u8], columns: &[[usize; 6]; MOST_COLUMNS], p: Page)
     if styles.has_bottom {
         return l.border;
     }
-    let first = find(sheet, columns, p, 0, 0);
+    let first = find(sheet, p, 0, 0);
     if first.number == 21 {
         return 0;
     }
@@ -139,22 +132,16 @@ pub struct Written {
 }
 
 // Lines from the cursor's on, one after another, as many as there is room for.
-pub fn write(
-    page: &mut [u8],
-    sheet: &[u8],
-    columns: &[[usize; 6]; MOST_COLUMNS],
-    p: Page,
-    from: Cursor,
-) -> Written
-    requires { Opened sheet.now columns.now p × (At sheet.now p from × (length (ahead sheet.now p from) ≤ most_lines)) }
-    ensures { WroteIs sheet.now p from page.old page.new result }
+pub fn write(page: &mut [u8], sheet: &[u8], p: &Page, from: Cursor) -> Written
+    requires { Opened sheet.now p.now × (At sheet.now p.now from × (length (ahead sheet.now p.now from) ≤ most_lines)) }
+    ensures { WroteIs sheet.now p.now from page.old page.new result }
 {
-    let l = lengths::measure(sheet, columns, p);
+    let l = lengths::measure(sheet, p);
     let mut c = from;
     let mut lines: usize = 0;
     let mut bytes: usize = 0;
     while !cursor::is_end(c) {
-        let drawn = part::draw(&mut page[bytes..], sheet, columns, p, l, c);
+        let drawn = part::draw(&mut page[bytes..], sheet, p, l, c);
         lines += drawn.lines;
         bytes += drawn.bytes;
         if !drawn.whole {

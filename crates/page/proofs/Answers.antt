@@ -186,8 +186,8 @@ module _ (s : List ℕ) (h : IsAccepted s) where
     unfolding line_count
     lines-bound c k e = omega (arith, ap length e, length-drop k (lines_of s p), ap length lines-all, line-count-bound (table_of s) (limits_of s h))
 
-    pub lines-bound-first : (cols : List (List ℕ)) → Opened s cols p → length (ahead s p (first_cursor p)) ≤ most_lines
-    lines-bound-first cols O = lines-bound (first_cursor p) 0 (first-ahead s cols p O)
+    pub lines-bound-first : Opened s p → length (ahead s p (first_cursor p)) ≤ most_lines
+    lines-bound-first O = lines-bound (first_cursor p) 0 (first-ahead s p O)
 
     pub lines_few : (c : Cursor) (k : ℕ) (r : Written) {b a : List ℕ} → ahead s p c ≡ drop k (lines_of s p) → WroteIs s p c b a r → r.lines ≤ most_lines
     lines_few c k r {b} {a} e W = omega (arith, W.lines, fitting_few (length b) (ahead s p c), lines-bound c k e)

@@ -56,9 +56,8 @@ fn difference(sheet: &[u8], plain: bool, widths: Widths, target: u16) -> i32
     if target == 0 {
         return 0;
     }
-    let mut columns = [[0usize; 6]; MOST_COLUMNS];
-    let p = display_info::open_by(sheet, plain, widths, &mut columns);
-    let longest = lines::longest_line(sheet, &columns, p);
+    let p = display_info::open_by(sheet, plain, widths);
+    let longest = lines::longest_line(sheet, &p);
     width_steps::difference(target, longest)
 }
 
@@ -114,9 +113,8 @@ pub fn count(sheet: &[u8]) -> Counted
             bytes: 0,
         };
     }
-    let mut columns = [[0usize; 6]; MOST_COLUMNS];
-    let p = display_info::open(sheet, examined.plain, &mut columns);
-    let totals = lines::count(sheet, &columns, p);
+    let p = display_info::open(sheet, examined.plain);
+    let totals = lines::count(sheet, &p);
     Counted {
         number: 0,
         place: 0,
@@ -145,13 +143,12 @@ pub fn print_page(sheet: &[u8], page: &mut [u8]) -> Printed
     if examined.number != 0 {
         return turned_down(examined.number, examined.place);
     }
-    let mut columns = [[0usize; 6]; MOST_COLUMNS];
-    let p = display_info::open(sheet, examined.plain, &mut columns);
-    let totals = lines::count(sheet, &columns, p);
+    let p = display_info::open(sheet, examined.plain);
+    let totals = lines::count(sheet, &p);
     if page.len() < totals.bytes {
         return turned_down(20, totals.bytes as u64);
     }
-    let wrote = lines::write(page, sheet, &columns, p, cursor::first(p));
+    let wrote = lines::write(page, sheet, &p, cursor::first(&p));
     Printed {
         number: 0,
         place: 0,
@@ -168,15 +165,14 @@ pub fn print_line(sheet: &[u8], line: usize, page: &mut [u8]) -> Printed
     if examined.number != 0 {
         return turned_down(examined.number, examined.place);
     }
-    let mut columns = [[0usize; 6]; MOST_COLUMNS];
-    let p = display_info::open(sheet, examined.plain, &mut columns);
-    let found = lines::find(sheet, &columns, p, line, page.len());
+    let p = display_info::open(sheet, examined.plain);
+    let found = lines::find(sheet, &p, line, page.len());
     if found.number != 0 {
         return turned_down(found.number, found.place as u64);
     }
     let needed = found.place;
     let c = found.cursor;
-    let drawn = lines::write(&mut page[..needed], sheet, &columns, p, c);
+    let drawn = lines::write(&mut page[..needed], sheet, &p, c);
     Printed {
         number: 0,
         place: 0,
@@ -214,14 +210,13 @@ pub fn print_lines(sheet: &[u8], line: usize, page: &mut [u8]) -> PrintedLines
     if examined.number != 0 {
         return no_lines(examined.number, examined.place);
     }
-    let mut columns = [[0usize; 6]; MOST_COLUMNS];
-    let p = display_info::open(sheet, examined.plain, &mut columns);
-    let found = lines::find(sheet, &columns, p, line, page.len());
+    let p = display_info::open(sheet, examined.plain);
+    let found = lines::find(sheet, &p, line, page.len());
     if found.number != 0 {
         return no_lines(found.number, found.place as u64);
     }
     let c = found.cursor;
-    let wrote = lines::write(page, sheet, &columns, p, c);
+    let wrote = lines::write(page, sheet, &p, c);
     PrintedLines {
         number: 0,
         place: 0,

@@ -28,7 +28,6 @@ use Rattle.buffer.specs.Put.{over}
 use Rattle.row.specs.Height.{height_up_to, added_up_to, pairs_held, limited}
 use Rattle.formatting.specs.Shown.{pairs_shown}
 use Rattle.row.specs.View.{View}
-use Rattle.row.specs.Packed.{view_of}
 use Rattle.formatting.specs.Part.{PartIs}
 use Rattle.formatting.specs.RowText.{row_lines, row_height, Sized, Drawable}
 use Rattle.borders.specs.Rule.{rule_text, rule_bytes}
@@ -78,7 +77,7 @@ limited-some zero n h = absurd (h refl)
 limited-some (suc l) n h = refl
 
 pub row-lines_are : (s : List ℕ) (view : View) (here : Rows) (r : records.Row) (n m : ℕ) (plain : Bool) → Drawable s view plain here → RowIs s here r → n ≡ height_up_to
-    (cells_in s r.cells) view view.count
+    (cells_in s r.cells) view (length view)
     → m ≡ limited r.limit n → m ≡ row_height s (first_row s here)
 row-lines_are s view here r n m plain D R e f = f ∙ rw (e, R.limit, R.cells) (limited-height (table_of s) (widths_in s) (first_row s here) view D.views)
 
@@ -224,7 +223,7 @@ module _ (s : List ℕ) (view : View) (y : RowStyle) (here : Rows) (plain : Bool
 
     -- without a limit those that its cells hold
     pub bytes-held : (first_row s here).limit ≡ 0 → (n q : ℕ) → n ≡ length (band_lines s view y (rows_in s here))
-        → q ≡ added_up_to pairs_held (first_row s here).cells view view.count → n * size + q ≡ length (closed (band_lines s view y (rows_in s here)))
+        → q ≡ added_up_to pairs_held (first_row s here).cells view (length view) → n * size + q ≡ length (closed (band_lines s view y (rows_in s here)))
     bytes-held u n q f g = bytes-and n q f (rw g (B.held (omega (arith, rows_number s here)) u))
 
     band-height : row_height s (first_row s here) ≤ length (band_lines s view y (rows_in s here))
@@ -234,7 +233,7 @@ module _ (s : List ℕ) (view : View) (y : RowStyle) (here : Rows) (plain : Bool
 
     -- else those that its lines show
     pub bytes-shown : (n q : ℕ) → n ≡ length (band_lines s view y (rows_in s here))
-        → q ≡ added_up_to (pairs_shown (table_of s).indicator (first_row s here).limit 0 n) (first_row s here).cells view view.count
+        → q ≡ added_up_to (pairs_shown (table_of s).indicator (first_row s here).limit 0 n) (first_row s here).cells view (length view)
         → n * size + q ≡ length (closed (band_lines s view y (rows_in s here)))
     bytes-shown n q f g = bytes-and n q f (rw g (B.shown (omega (arith, rows_number s here)) n (omega (arith, f, band-height))))
 
@@ -277,7 +276,7 @@ module _ (s : List ℕ) (view : View) (y : RowStyle) (here : Rows) (plain : Bool
         (omega (arith, lines-count s y.lines (first_row s here)))
 
     pub line-shown : (n q : ℕ) → n < row_height s (first_row s here)
-        → q ≡ added_up_to (pairs_shown (table_of s).indicator (first_row s here).limit n 1) (first_row s here).cells view view.count
+        → q ≡ added_up_to (pairs_shown (table_of s).indicator (first_row s here).limit n 1) (first_row s here).cells view (length view)
         → size + q ≡ length (get_or (band_lines s view y (rows_in s here)) n []) + 1
     line-shown n q h g = omega (arith, g, ap length (line_text n h), (B.text (omega (arith, rows_number s here))).shown n h)
 
@@ -383,21 +382,21 @@ module _ (s : List ℕ) (view : View) (y : RowStyle) (here : Rows) (first : ℕ)
 
 -- ---- a part drawn
 
-module _ (s : List ℕ) (cols : List (List ℕ)) (p : Page) (O : Opened s cols p) (c : Cursor) (A : At s p c) where
-  header-part : c.stage ≡ Header → part_lines s p c ≡ band_lines s (view_of cols p.count) p.styles.header (rows_in s p.header)
+module _ (s : List ℕ) (p : Page) (O : Opened s p) (c : Cursor) (A : At s p c) where
+  header-part : c.stage ≡ Header → part_lines s p c ≡ band_lines s p.columns.items p.styles.header (rows_in s p.header)
   unfolding part_lines
-  header-part e = rw e (sym (header-drawn s cols p O))
+  header-part e = rw e (sym (header-drawn s p O))
 
   body-part : (y : RowStyle) → c.stage ≡ Body → y ≡ body_style p.styles.body c.here.left → part_lines s p c ≡ band_lines s
-      (view_of cols p.count) y (rows_in s c.here)
+      p.columns.items y (rows_in s c.here)
   unfolding part_lines
-  body-part y e f = rw e (sym (body-drawn s cols p O c.here y f))
+  body-part y e f = rw e (sym (body-drawn s p O c.here y f))
 
-  pub header-within : c.stage ≡ Header → c.line ≤ length (band_lines s (view_of cols p.count) p.styles.header (rows_in s p.header)) - 1
+  pub header-within : c.stage ≡ Header → c.line ≤ length (band_lines s p.columns.items p.styles.header (rows_in s p.header)) - 1
   header-within e = rw (← header-part e) A.within
 
   pub body-within : (y : RowStyle) → c.stage ≡ Body → y ≡ body_style p.styles.body c.here.left → c.line ≤ length
-      (band_lines s (view_of cols p.count) y (rows_in s c.here)) - 1
+      (band_lines s p.columns.items y (rows_in s c.here)) - 1
   body-within y e f = rw (← body-part y e f) A.within
 
   -- a border has one line or none, so the cursor is at its start
@@ -405,22 +404,22 @@ module _ (s : List ℕ) (cols : List (List ℕ)) (p : Page) (O : Opened s cols p
   border-start k e = let z : c.line ≡ 0 = omega (arith, A.within, ap length e, border_few s k) in ap (λ n. drop n (part_lines s p c)) z ∙ e
 
   module _ (b a : List ℕ) (r : Part) where
-    pub draw_top : c.stage ≡ Top → PartIs (cond p.styles.has_top (rule_text (view_of cols p.count) p.styles.top ∷ []) []) b a r → PartIs
+    pub draw_top : c.stage ≡ Top → PartIs (cond p.styles.has_top (rule_text p.columns.items p.styles.top ∷ []) []) b a r → PartIs
         (drop c.line (part_lines s p c)) b a r
     unfolding part_lines
-    draw_top e P = rw (border-start top_border (rw e), ← top-drawn s cols p O) P
+    draw_top e P = rw (border-start top_border (rw e), ← top-drawn s p O) P
 
-    pub draw_bottom : c.stage ≡ Bottom → PartIs (cond p.styles.has_bottom (rule_text (view_of cols p.count) p.styles.bottom ∷ []) []) b a
+    pub draw_bottom : c.stage ≡ Bottom → PartIs (cond p.styles.has_bottom (rule_text p.columns.items p.styles.bottom ∷ []) []) b a
         r → PartIs (drop c.line (part_lines s p c)) b a r
     unfolding part_lines
-    draw_bottom e P = rw (border-start bottom_border (rw e), ← bottom-drawn s cols p O) P
+    draw_bottom e P = rw (border-start bottom_border (rw e), ← bottom-drawn s p O) P
 
-    pub draw_header : c.stage ≡ Header → PartIs (drop c.line (band_lines s (view_of cols p.count) p.styles.header (rows_in s p.header))) b
+    pub draw_header : c.stage ≡ Header → PartIs (drop c.line (band_lines s p.columns.items p.styles.header (rows_in s p.header))) b
         a r → PartIs (drop c.line (part_lines s p c)) b a r
     draw_header e P = rw (header-part e) P
 
     pub draw-body : (y : RowStyle) → c.stage ≡ Body → y ≡ body_style p.styles.body c.here.left
-        → PartIs (drop c.line (band_lines s (view_of cols p.count) y (rows_in s c.here))) b a r → PartIs (drop c.line (part_lines s p c)) b a
+        → PartIs (drop c.line (band_lines s p.columns.items y (rows_in s c.here))) b a r → PartIs (drop c.line (part_lines s p c)) b a
         r
     draw-body y e f P = rw (body-part y e f) P
 
@@ -430,7 +429,7 @@ module _ (s : List ℕ) (cols : List (List ℕ)) (p : Page) (O : Opened s cols p
 
 -- ---- a part's bytes, and those of one of its lines
 
-module _ (s : List ℕ) (cols : List (List ℕ)) (p : Page) (O : Opened s cols p) (c : Cursor) where
+module _ (s : List ℕ) (p : Page) (O : Opened s p) (c : Cursor) where
   border_bytes : (k n m : ℕ) → part_lines s p c ≡ rule_lines s true k → n ≡ length (part_lines s p c) → m ≡ border_length (table_of s) (widths_in s) + 1
       → n * m ≡ length (closed (part_lines s p c))
   border_bytes k n m e f g =
@@ -449,14 +448,14 @@ module _ (s : List ℕ) (cols : List (List ℕ)) (p : Page) (O : Opened s cols p
   unfolding part_lines
   part_bottom e = rw e
 
-  part_header : c.stage ≡ Header → part_lines s p c ≡ band_lines s (view_of cols p.count) p.styles.header (rows_in s p.header)
+  part_header : c.stage ≡ Header → part_lines s p c ≡ band_lines s p.columns.items p.styles.header (rows_in s p.header)
   unfolding part_lines
-  part_header e = rw e (sym (header-drawn s cols p O))
+  part_header e = rw e (sym (header-drawn s p O))
 
   part_body : (y : RowStyle) → c.stage ≡ Body → y ≡ body_style p.styles.body c.here.left
-      → part_lines s p c ≡ band_lines s (view_of cols p.count) y (rows_in s c.here)
+      → part_lines s p c ≡ band_lines s p.columns.items y (rows_in s c.here)
   unfolding part_lines
-  part_body y e f = rw e (sym (body-drawn s cols p O c.here y f))
+  part_body y e f = rw e (sym (body-drawn s p O c.here y f))
 
   module _ (l : Lengths) (L : LengthsAre s l) (n : ℕ) (h : n ≡ length (part_lines s p c)) where
     pub top-most : c.stage ≡ Top → n * (l.border + 1) ≤ longest_line + 1
@@ -480,19 +479,19 @@ module _ (s : List ℕ) (cols : List (List ℕ)) (p : Page) (O : Opened s cols p
   end_bytes e = rw e (sym no_bytes)
 
   pub header-here : c.stage ≡ Header → (n : ℕ) → n ≡ length (part_lines s p c)
-      → n ≡ length (band_lines s (view_of cols p.count) p.styles.header (rows_in s p.header))
+      → n ≡ length (band_lines s p.columns.items p.styles.header (rows_in s p.header))
   header-here e n h = h ∙ ap length (part_header e)
 
   pub body-here : (y : RowStyle) → c.stage ≡ Body → y ≡ body_style p.styles.body c.here.left → (n : ℕ) → n ≡ length (part_lines s p c)
-      → n ≡ length (band_lines s (view_of cols p.count) y (rows_in s c.here))
+      → n ≡ length (band_lines s p.columns.items y (rows_in s c.here))
   body-here y e f n h = h ∙ ap length (part_body y e f)
 
-  pub header_bytes : c.stage ≡ Header → (r : ℕ) → r ≡ length (closed (band_lines s (view_of cols p.count) p.styles.header (rows_in s p.header)))
+  pub header_bytes : c.stage ≡ Header → (r : ℕ) → r ≡ length (closed (band_lines s p.columns.items p.styles.header (rows_in s p.header)))
       → r ≡ length (closed (part_lines s p c))
   header_bytes e r h = h ∙ ap (λ ls. length (closed ls)) (sym (part_header e))
 
   pub body_bytes : (y : RowStyle) → c.stage ≡ Body → y ≡ body_style p.styles.body c.here.left → (r : ℕ)
-      → r ≡ length (closed (band_lines s (view_of cols p.count) y (rows_in s c.here))) → r ≡ length (closed (part_lines s p c))
+      → r ≡ length (closed (band_lines s p.columns.items y (rows_in s c.here))) → r ≡ length (closed (part_lines s p c))
   body_bytes y e f r h = h ∙ ap (λ ls. length (closed ls)) (sym (part_body y e f))
 
   module _ (h : c.line < length (part_lines s p c)) where
@@ -502,23 +501,23 @@ module _ (s : List ℕ) (cols : List (List ℕ)) (p : Page) (O : Opened s cols p
     pub bottom-line : (l : Lengths) → LengthsAre s l → c.stage ≡ Bottom → l.border + 1 ≡ length (get_or (part_lines s p c) c.line []) + 1
     bottom-line l L e = border-line bottom_border (l.border + 1) (part_bottom e) (rw L.border) h
 
-    pub header_there : c.stage ≡ Header → c.line < length (band_lines s (view_of cols p.count) p.styles.header (rows_in s p.header))
+    pub header_there : c.stage ≡ Header → c.line < length (band_lines s p.columns.items p.styles.header (rows_in s p.header))
     header_there e = rw (part_header e) at h
 
     pub body_there : (y : RowStyle) → c.stage ≡ Body → y ≡ body_style p.styles.body c.here.left
-        → c.line < length (band_lines s (view_of cols p.count) y (rows_in s c.here))
+        → c.line < length (band_lines s p.columns.items y (rows_in s c.here))
     body_there y e f = rw (part_body y e f) at h
 
     pub end_line : c.stage ≡ End → 1 ≡ length (get_or (part_lines s p c) c.line []) + 1
     unfolding part_lines
     end_line e = absurd (omega (arith, rw e at h))
 
-  pub header-line : c.stage ≡ Header → (r : ℕ) → r ≡ length (get_or (band_lines s (view_of cols p.count) p.styles.header (rows_in s p.header)) c.line []) + 1
+  pub header-line : c.stage ≡ Header → (r : ℕ) → r ≡ length (get_or (band_lines s p.columns.items p.styles.header (rows_in s p.header)) c.line []) + 1
       → r ≡ length (get_or (part_lines s p c) c.line []) + 1
   header-line e r h = h ∙ ap (λ ls. length (get_or ls c.line []) + 1) (sym (part_header e))
 
   pub body-line : (y : RowStyle) → c.stage ≡ Body → y ≡ body_style p.styles.body c.here.left → (r : ℕ)
-      → r ≡ length (get_or (band_lines s (view_of cols p.count) y (rows_in s c.here)) c.line []) + 1
+      → r ≡ length (get_or (band_lines s p.columns.items y (rows_in s c.here)) c.line []) + 1
       → r ≡ length (get_or (part_lines s p c) c.line []) + 1
   body-line y e f r h = h ∙ ap (λ ls. length (get_or ls c.line []) + 1) (sym (part_body y e f))
 
@@ -531,7 +530,7 @@ pub rule_few : (view : View) (y : RuleStyle) (visible : Bool) → length (cond v
 rule_few view y true = omega arith
 rule_few view y false = omega arith
 
-module _ (s : List ℕ) (cols : List (List ℕ)) (p : Page) (O : Opened s cols p) where
+module _ (s : List ℕ) (p : Page) (O : Opened s p) where
   rows_left : length (rows_in s p.rows) ≤ 100
   rows_left = omega (arith, rows_number s p.rows, O.rows_few)
 
@@ -562,8 +561,8 @@ module _ (s : List ℕ) (cols : List (List ℕ)) (p : Page) (O : Opened s cols p
   lines_few c A = go c.stage refl
     where
       go : (g : Stage) → c.stage ≡ g → length (part_lines s p c) ≤ 6449
-      go Top e = omega (arith, top_count s cols p O c _ e refl, one p.styles.has_top)
-      go Header e = omega (arith, header-count s cols p O c _ e refl, band_few p.styles.header.ruled p.header O.header_at)
-      go Body e = omega (arith, body-count s cols p O c _ _ e refl refl, band_few (p.styles.body.ruled && ltb 1 c.here.left) c.here A)
-      go Bottom e = omega (arith, bottom-count s cols p O c _ e refl, one p.styles.has_bottom)
-      go End e = omega (arith, end-count s cols p O c 0 e refl)
+      go Top e = omega (arith, top_count s p O c _ e refl, one p.styles.has_top)
+      go Header e = omega (arith, header-count s p O c _ e refl, band_few p.styles.header.ruled p.header O.header_at)
+      go Body e = omega (arith, body-count s p O c _ _ e refl refl, band_few (p.styles.body.ruled && ltb 1 c.here.left) c.here A)
+      go Bottom e = omega (arith, bottom-count s p O c _ e refl, one p.styles.has_bottom)
+      go End e = omega (arith, end-count s p O c 0 e refl)

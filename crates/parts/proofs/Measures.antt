@@ -18,12 +18,10 @@ use Rattle.laws.proofs.RowBytes.{pairs_of, pairs_at, all-greatest}
 use Rattle.table.specs.Held.{table_of}
 use Rattle.row.specs.View.{View, visible_at, Views, shown_of, number_of}
 use Rattle.row.specs.Height.{added_up_to, pairs_held}
-use Rattle.row.specs.Packed.{column_from, view_of}
 use Rattle.formatting.specs.Shown.{shown_in, kept_lines, pairs_shown}
 use Rattle.formatting.proofs.Shown.{shown-one, shown-all}
-use Rattle.borders.specs.Rule.{NarrowAll, rule_style_of}
+use Rattle.borders.specs.Rule.{rule_style_of}
 use Rattle.row.specs.declared.VisibleColumn.{VisibleColumn}
-use Rattle.row.proofs.Lent.{column-at}
 use Rattle.row.proofs.Joined.{map_numbered}
 use Rattle.display_info.specs.Opened.{widths_in, styles_of, Opened}
 use Rattle.parts.specs.Lengths.{width_up_to, LengthsAre}
@@ -37,17 +35,10 @@ pub width-none : (view : View) → 0 ≡ width_up_to view 0
 unfolding width_up_to
 width-none view = refl
 
-pub width-on : (cols : List (List ℕ)) (m i n : ℕ) (v : VisibleColumn) → v ≡ column_from (get_or cols i []) → n ≡ width_up_to (view_of cols m) i → n +
-    (v.left + (v.width + v.right)) ≡ width_up_to (view_of cols m) (i + 1)
+pub width-on : (view : View) (i n : ℕ) → n ≡ width_up_to view i
+    → n + ((visible_at view i).left + ((visible_at view i).width + (visible_at view i).right)) ≡ width_up_to view (i + 1)
 unfolding width_up_to
-width-on cols m i n v f e = rw (add-one i, f, ← column-at cols m i) (omega arith)
-
-pub column_narrow : (cols : List (List ℕ)) (m : ℕ) → NarrowAll (view_of cols m) → (i : ℕ) → i < m → (v : VisibleColumn) → v ≡ column_from
-    (get_or cols i []) → v.left + (v.width + v.right) < 65536
-column_narrow cols m N i h v f = rw (f, ← column-at cols m i) (N.each i h)
-
-pub width_done : (view : View) (i n m : ℕ) → i ≤ n → n ≤ i → m ≡ width_up_to view i → m ≡ width_up_to view n
-width_done view i n m h k e = let z : i ≡ n = omega arith in rw z at e
+width-on view i n e = rw (add-one i) (omega arith)
 
 sum_snoc : (ns : List ℕ) (n : ℕ) → sum (ns ++ (n ∷ [])) ≡ sum ns + n
 unfolding sum
@@ -62,11 +53,11 @@ module _ (t : Table) (ws : List ℕ) (view : View) (W : Views t ws view) where
   here : ℕ → ℕ
   here i = visible_width t ws (number_of t i)
 
-  shown-here : (i : ℕ) → i < view.count → (visible_at view i).left + ((visible_at view i).width + (visible_at view i).right) ≡ here i
+  shown-here : (i : ℕ) → i < length view → (visible_at view i).left + ((visible_at view i).width + (visible_at view i).right) ≡ here i
   unfolding here shown_of
   shown-here i h = rw (W.each i h) (omega arith)
 
-  up_to : (n : ℕ) → n ≤ view.count → width_up_to view n ≡ sum (map here (up_from 0 n))
+  up_to : (n : ℕ) → n ≤ length view → width_up_to view n ≡ sum (map here (up_from 0 n))
   unfolding width_up_to
   up_to zero h = none
     where
@@ -78,21 +69,21 @@ module _ (t : Table) (ws : List ℕ) (view : View) (W : Views t ws view) where
       (up_from-last 0 n ∙ ap (λ m. up_from 0 n ++ (m ∷ [])) z) ∙ map-append here (up_from 0 n) (n ∷ []) in
       omega (arith, up_to n (omega arith), shown-here n (omega arith), ap sum e, sum_snoc (map here (up_from 0 n)) (here n))
 
-  pub width-sum : width_up_to view view.count ≡ sum (visible_widths t ws)
+  pub width-sum : width_up_to view (length view) ≡ sum (visible_widths t ws)
   unfolding visible_widths here
-  width-sum = up_to view.count (omega arith) ∙ sym (ap sum (map_numbered (visible_width t ws) 0 (visible t) ∙ ap (λ n. map here (up_from 0 n))
+  width-sum = up_to (length view) (omega arith) ∙ sym (ap sum (map_numbered (visible_width t ws) 0 (visible t) ∙ ap (λ n. map here (up_from 0 n))
       (sym W.count)))
 
 -- the lengths from their parts
-pub lengths_are : (s : List ℕ) (cols : List (List ℕ)) (p : Page) → Opened s cols p → (a b i j n : ℕ) → a ≡ cond p.styles.body.rule.opens 1 0 → b
+pub lengths_are : (s : List ℕ) (p : Page) → Opened s p → (a b i j n : ℕ) → a ≡ cond p.styles.body.rule.opens 1 0 → b
     ≡ cond p.styles.body.rule.closes 1 0
-    → i ≡ p.count - 1 → j ≡ cond p.styles.body.rule.joined i 0 → n ≡ width_up_to (view_of cols p.count) p.count → LengthsAre s
+    → i ≡ length p.columns.items - 1 → j ≡ cond p.styles.body.rule.joined i 0 → n ≡ width_up_to p.columns.items (length p.columns.items) → LengthsAre s
     (record { line = a + b + j + n; border = a + b + i + n })
 unfolding line_length border_length borders borders_of styles_of rule_style_of
-lengths_are s cols p O a b i j n ea eb ei ej en =
+lengths_are s p O a b i j n ea eb ei ej en =
     let S = (table_of s).style in
     let L = limits_of s O.passes in
-    let w : n ≡ sum (visible_widths (table_of s) (widths_in s)) = en ∙ width-sum (table_of s) (widths_in s) (view_of cols p.count) O.views in
+    let w : n ≡ sum (visible_widths (table_of s) (widths_in s)) = en ∙ width-sum (table_of s) (widths_in s) p.columns.items O.views in
     let x : a ≡ one_if (any_left S) = ea ∙ ap (λ (l : LineStyles). cond l.body.rule.opens 1 0) O.styles ∙ one_if-cond (any_left S) in
     let y : b ≡ one_if (any_right S) = eb ∙ ap (λ (l : LineStyles). cond l.body.rule.closes 1 0) O.styles ∙ one_if-cond (any_right S) in
     let v : i ≡ length (visible (table_of s)) - 1 = ei ∙ ap (λ k. k - 1) O.views.count in
@@ -112,11 +103,11 @@ lengths_are s cols p O a b i j n ea eb ei ej en =
 module _ (t : Table) (ws : List ℕ) (view : View) (W : Views t ws view) (r : Row) where
   -- what is counted in the visible columns' cells, by the columns' numbers
   module _ (f : Cell → VisibleColumn → ℕ) (g : ℕ → ℕ)
-      (same : (i : ℕ) → i < view.count → f (get_or r.cells (visible_at view i).number no_cell) (visible_at view i) ≡ g (number_of t i)) where
+      (same : (i : ℕ) → i < length view → f (get_or r.cells (visible_at view i).number no_cell) (visible_at view i) ≡ g (number_of t i)) where
     numbered : ℕ → ℕ
     numbered i = g (number_of t i)
 
-    added_up-to : (n : ℕ) → n ≤ view.count → added_up_to f r.cells view n ≡ sum (map numbered (up_from 0 n))
+    added_up-to : (n : ℕ) → n ≤ length view → added_up_to f r.cells view n ≡ sum (map numbered (up_from 0 n))
     unfolding added_up_to numbered
     added_up-to zero h = sym (no-sum numbered)
     added_up-to (suc n) h =
@@ -125,31 +116,31 @@ module _ (t : Table) (ws : List ℕ) (view : View) (W : Views t ws view) (r : Ro
         (up_from-last 0 n ∙ ap (λ m. up_from 0 n ++ (m ∷ [])) z) ∙ map-append numbered (up_from 0 n) (n ∷ []) in
         omega (arith, added_up-to n (omega arith), same n (omega arith), ap sum e, sum_snoc (map numbered (up_from 0 n)) (numbered n))
 
-    added-sum : added_up_to f r.cells view view.count ≡ sum (map g (visible t))
+    added-sum : added_up_to f r.cells view (length view) ≡ sum (map g (visible t))
     unfolding numbered
-    added-sum = added_up-to view.count (omega arith) ∙ sym (ap sum (map_numbered g 0 (visible t) ∙ ap
+    added-sum = added_up-to (length view) (omega arith) ∙ sym (ap sum (map_numbered g 0 (visible t) ∙ ap
         (λ n. map numbered (up_from 0 n)) (sym W.count)))
 
   -- the pairs that visible cells hold
-  pub held-sum : added_up_to pairs_held r.cells view view.count ≡ sum (map (λ j. pairs_of (cell_at r j).lines) (visible t))
+  pub held-sum : added_up_to pairs_held r.cells view (length view) ≡ sum (map (λ j. pairs_of (cell_at r j).lines) (visible t))
   unfolding shown_of
   held-sum = added-sum pairs_held (λ j. pairs_of (cell_at r j).lines)
       (λ i h. ap (λ (v : VisibleColumn). pairs_of (get_or r.cells v.number no_cell).lines) (W.each i h))
 
-  kept_is : (i : ℕ) → i < view.count
+  kept_is : (i : ℕ) → i < length view
       → kept_lines t.indicator r.limit (get_or r.cells (visible_at view i).number no_cell) (visible_at view i) ≡ cell_lines t ws r (number_of t i)
   unfolding shown_of wrapped cell_lines
   kept_is i h = rw (W.each i h)
 
   -- those that they show in line k
-  pub line-sum : (k : ℕ) → added_up_to (pairs_shown t.indicator r.limit k 1) r.cells view view.count
+  pub line-sum : (k : ℕ) → added_up_to (pairs_shown t.indicator r.limit k 1) r.cells view (length view)
       ≡ sum (map (λ j. pairs_at (cell_lines t ws r j) k) (visible t))
   line-sum k = added-sum (pairs_shown t.indicator r.limit k 1) (λ j. pairs_at (cell_lines t ws r j) k)
       (λ i h. shown-one (kept_lines t.indicator r.limit (get_or r.cells (visible_at view i).number no_cell) (visible_at view i)) k
       ∙ ap (λ ls. pairs_at ls k) (kept_is i h))
 
   -- and in all lines
-  pub shown-sum : (n : ℕ) → height t ws r ≤ n → added_up_to (pairs_shown t.indicator r.limit 0 n) r.cells view view.count
+  pub shown-sum : (n : ℕ) → height t ws r ≤ n → added_up_to (pairs_shown t.indicator r.limit 0 n) r.cells view (length view)
       ≡ sum (map (λ j. pairs_of (cell_lines t ws r j)) (visible t))
   unfolding height
   shown-sum n h = added-sum (pairs_shown t.indicator r.limit 0 n) (λ j. pairs_of (cell_lines t ws r j))

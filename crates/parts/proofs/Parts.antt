@@ -26,7 +26,6 @@ use Rattle.laws.proofs.Accepted.{accepted}
 use Rattle.table.specs.Walk.{rows_in, first_row, RowsNext}
 use Rattle.table.specs.declared.records.Rows.{Rows}
 use Rattle.table.proofs.Walks.{rows_number}
-use Rattle.row.specs.Packed.{view_of}
 use Rattle.cells.specs.Cell.{TextIs}
 use Rattle.row.specs.Open.{CellKnown}
 use Rattle.row.specs.Height.{added_up_to, pairs_held}
@@ -97,9 +96,9 @@ cells_known plain (x ∷ xs) a h = (
 pub accepted_short : (s : List ℕ) → IsAccepted s → length s ≤ 32768
 accepted_short s h = let r = held s h in (accepted s (table_of s) r.end r.reads).short
 
-pub drawable : (s : List ℕ) (cols : List (List ℕ)) (p : Page) → Opened s cols p → (c : Rows) → RowsAt s c → 0 < c.left
-    → Drawable s (view_of cols p.count) p.plain c
-drawable s cols p O c A h = record {
+pub drawable : (s : List ℕ) (p : Page) → Opened s p → (c : Rows) → RowsAt s c → 0 < c.left
+    → Drawable s p.columns.items p.plain c
+drawable s p O c A h = record {
   some = h;
   ends = A.ends;
   views = O.views;
@@ -130,12 +129,12 @@ ahead-start s p c e = rw e
 at-start : (s : List ℕ) (p : Page) (c : Cursor) → RowsAt s c.here → c.line ≡ 0 → At s p c
 at-start s p c A e = record { rows = A; within = omega arith }
 
-pub first-at : (s : List ℕ) (cols : List (List ℕ)) (p : Page) → Opened s cols p → At s p (first_cursor p)
-first-at s cols p O = at-start s p (first_cursor p) O.rows_at refl
+pub first-at : (s : List ℕ) (p : Page) → Opened s p → At s p (first_cursor p)
+first-at s p O = at-start s p (first_cursor p) O.rows_at refl
 
-pub first-ahead : (s : List ℕ) (cols : List (List ℕ)) (p : Page) → Opened s cols p → ahead s p (first_cursor p) ≡ lines_of s p
+pub first-ahead : (s : List ℕ) (p : Page) → Opened s p → ahead s p (first_cursor p) ≡ lines_of s p
 unfolding ahead part_lines rest_lines lines_of framed rule_lines header_lines_of row_lines_of
-first-ahead s cols p O = rw O.header
+first-ahead s p O = rw O.header
 
 -- the rows from their first part on
 body-ahead : (s : List ℕ) (p : Page) (here : Rows)
@@ -240,52 +239,52 @@ unfolding row_lines row_text
 text-styled s k r = same_map (styled (text_style_of (table_of s).style k)) (text_line (table_of s).style k) (styled_text (table_of s).style k)
     (areas (table_of s) (widths_in s) r)
 
-module _ (s : List ℕ) (cols : List (List ℕ)) (p : Page) (O : Opened s cols p) where
-  border-styled : (k : ℕ) → cond (is_visible (table_of s).style k) (rule_text (view_of cols p.count) (rule_style_of (table_of s).style true k) ∷ []) []
+module _ (s : List ℕ) (p : Page) (O : Opened s p) where
+  border-styled : (k : ℕ) → cond (is_visible (table_of s).style k) (rule_text p.columns.items (rule_style_of (table_of s).style true k) ∷ []) []
       ≡ rule_lines s true k
   unfolding rule_lines shown
   border-styled k = go (is_visible (table_of s).style k)
     where
-      go : (b : Bool) → cond b (rule_text (view_of cols p.count) (rule_style_of (table_of s).style true k) ∷ []) []
+      go : (b : Bool) → cond b (rule_text p.columns.items (rule_style_of (table_of s).style true k) ∷ []) []
           ≡ elim b as (λ x. List (List ℕ)) [ true ↦ ruled (table_of s).style true k (visible_widths (table_of s) (widths_in s)) ∷ [] | false ↦ [] ]
-      go true = ap (λ l. l ∷ []) (rule-drawn (table_of s) (widths_in s) (view_of cols p.count) O.views (table_of s).style true k)
+      go true = ap (λ l. l ∷ []) (rule-drawn (table_of s) (widths_in s) p.columns.items O.views (table_of s).style true k)
       go false = refl
 
-  rule-styled : (k : ℕ) → cond (is_visible (table_of s).style k) (rule_text (view_of cols p.count)
+  rule-styled : (k : ℕ) → cond (is_visible (table_of s).style k) (rule_text p.columns.items
       (rule_style_of (table_of s).style (any_junction (table_of s).style) k) ∷ []) [] ≡ rule_lines s false k
   unfolding rule_lines shown
   rule-styled k = go (is_visible (table_of s).style k)
     where
-      go : (b : Bool) → cond b (rule_text (view_of cols p.count) (rule_style_of (table_of s).style (any_junction (table_of s).style) k) ∷ []) []
+      go : (b : Bool) → cond b (rule_text p.columns.items (rule_style_of (table_of s).style (any_junction (table_of s).style) k) ∷ []) []
           ≡ elim b as (λ x. List (List ℕ)) [ true ↦ ruled (table_of s).style false k (visible_widths (table_of s) (widths_in s)) ∷ [] | false ↦ [] ]
-      go true = ap (λ l. l ∷ []) (rule-drawn (table_of s) (widths_in s) (view_of cols p.count) O.views (table_of s).style false k)
+      go true = ap (λ l. l ∷ []) (rule-drawn (table_of s) (widths_in s) p.columns.items O.views (table_of s).style false k)
       go false = refl
 
   -- the top border and the bottom border
-  pub top-drawn : cond p.styles.has_top (rule_text (view_of cols p.count) p.styles.top ∷ []) [] ≡ rule_lines s true top_border
+  pub top-drawn : cond p.styles.has_top (rule_text p.columns.items p.styles.top ∷ []) [] ≡ rule_lines s true top_border
   unfolding styles_of
   top-drawn = rw O.styles (border-styled top_border)
 
-  pub bottom-drawn : cond p.styles.has_bottom (rule_text (view_of cols p.count) p.styles.bottom ∷ []) [] ≡ rule_lines s true bottom_border
+  pub bottom-drawn : cond p.styles.has_bottom (rule_text p.columns.items p.styles.bottom ∷ []) [] ≡ rule_lines s true bottom_border
   unfolding styles_of
   bottom-drawn = rw O.styles (border-styled bottom_border)
 
   -- the header with its rule
-  pub header-drawn : band_lines s (view_of cols p.count) p.styles.header (rows_in s p.header) ≡ header_lines_of s (rows_in s p.header)
+  pub header-drawn : band_lines s p.columns.items p.styles.header (rows_in s p.header) ≡ header_lines_of s (rows_in s p.header)
   unfolding styles_of band_lines header_lines_of headed
   header-drawn = rw O.styles (go (rows_in s p.header) (omega (arith, rows_number s p.header, O.header_one)))
     where
-      go : (rs : List Row) → length rs ≤ 1 → band_lines s (view_of cols p.count) (styles_of (table_of s).style).header rs ≡ header_lines_of s rs
+      go : (rs : List Row) → length rs ≤ 1 → band_lines s p.columns.items (styles_of (table_of s).style).header rs ≡ header_lines_of s rs
       go [] h = refl
       go (r ∷ []) h = rw (text-styled s header_lines r, rule-styled header_rule, append-nil)
       go (r ∷ q ∷ rs) h = absurd (omega arith)
 
   -- a row with the rule after it
-  pub body-drawn : (here : Rows) (y : RowStyle) → y ≡ body_style p.styles.body here.left → band_lines s (view_of cols p.count) y
+  pub body-drawn : (here : Rows) (y : RowStyle) → y ≡ body_style p.styles.body here.left → band_lines s p.columns.items y
       (rows_in s here) ≡ body_lines s (rows_in s here)
   unfolding styles_of band_lines body_lines first_ruled
   body-drawn here y e =
-      rw (e, O.styles) (ap (λ n. band_lines s (view_of cols p.count) (body_style (styles_of (table_of s).style).body n) (rows_in s here))
+      rw (e, O.styles) (ap (λ n. band_lines s p.columns.items (body_style (styles_of (table_of s).style).body n) (rows_in s here))
       (sym (rows_number s here)) ∙ go (rows_in s here))
     where
       out : (b : Bool) (x : List (List ℕ)) → cond (b && false) x [] ≡ []
@@ -296,7 +295,7 @@ module _ (s : List ℕ) (cols : List (List ℕ)) (p : Page) (O : Opened s cols p
       kept true = refl
       kept false = refl
 
-      go : (rs : List Row) → band_lines s (view_of cols p.count) (body_style (styles_of (table_of s).style).body (length rs)) rs ≡ body_lines s rs
+      go : (rs : List Row) → band_lines s p.columns.items (body_style (styles_of (table_of s).style).body (length rs)) rs ≡ body_lines s rs
       go [] = refl
       go (r ∷ []) = rw (text-styled s content_lines r, le-ltb 1 1 (omega arith), out, append-nil)
       go (r ∷ q ∷ rs) = rw (text-styled s content_lines r, lt-ltb 1 (suc (suc (length rs))) (omega arith), kept, rule-styled row_rule)
@@ -325,13 +324,13 @@ module _ (s : List ℕ) (cols : List (List ℕ)) (p : Page) (O : Opened s cols p
     unfolding part_lines
     end-count e f = f ∙ rw e
 
-  band-count : (y : RowStyle) (rs : List Row) → band_count s y.ruled rs ≡ length (band_lines s (view_of cols p.count) y rs)
+  band-count : (y : RowStyle) (rs : List Row) → band_count s y.ruled rs ≡ length (band_lines s p.columns.items y rs)
   unfolding band_count band_lines
   band-count y [] = refl
-  band-count y (r ∷ rs) = sym (length-append (row_lines s y.lines r) (cond y.ruled (rule_text (view_of cols p.count) y.rule ∷ []) []) ∙ rw
+  band-count y (r ∷ rs) = sym (length-append (row_lines s y.lines r) (cond y.ruled (rule_text p.columns.items y.rule ∷ []) []) ∙ rw
       (lines-count s y.lines r, one y.ruled))
     where
-      one : (b : Bool) → length (cond b (rule_text (view_of cols p.count) y.rule ∷ []) []) ≡ cond b 1 0
+      one : (b : Bool) → length (cond b (rule_text p.columns.items y.rule ∷ []) []) ≡ cond b 1 0
       one true = refl
       one false = refl
 
@@ -370,7 +369,7 @@ module _ (s : List ℕ) (cols : List (List ℕ)) (p : Page) (O : Opened s cols p
         )
 
     text_sized : (k : ℕ) (here : Rows) → RowsAt s here → 0 < here.left
-        → Sized s (text_style_of (table_of s).style k) (first_row s here) p.plain (view_of cols p.count) (l.line + 1)
+        → Sized s (text_style_of (table_of s).style k) (first_row s here) p.plain p.columns.items (l.line + 1)
     text_sized k here A h =
         let T = limits_of s O.passes in
         let r = first_row s here in
@@ -388,13 +387,13 @@ module _ (s : List ℕ) (cols : List (List ℕ)) (p : Page) (O : Opened s cols p
                 arith,
                 ap length (text_at k r j i),
                 line_bytes (table_of s) (widths_in s) r k j,
-                line-sum (table_of s) (widths_in s) (view_of cols p.count) O.views r j,
+                line-sum (table_of s) (widths_in s) p.columns.items O.views r j,
                 L.line,
               );
         }
       where
         most_of : (b : Bool) → p.plain ≡ b → (j : ℕ) → j < row_height s (first_row s here)
-            → length (get_or (row_lines s (text_style_of (table_of s).style k) (first_row s here)) j []) + 1 ≤ most_bytes b (l.line + 1) p.count
+            → length (get_or (row_lines s (text_style_of (table_of s).style k) (first_row s here)) j []) + 1 ≤ most_bytes b (l.line + 1) (length p.columns.items)
         most_of true e j i = omega (arith, plain-each k here A h e j i)
         most_of false e j i =
             let r = first_row s here in
@@ -406,50 +405,50 @@ module _ (s : List ℕ) (cols : List (List ℕ)) (p : Page) (O : Opened s cols p
 
     text-pairs : (k : ℕ) (here : Rows) → RowsAt s here → 0 < here.left → (first_row s here).limit ≡ 0
         → length (closed (row_lines s (text_style_of (table_of s).style k) (first_row s here)))
-        ≡ row_height s (first_row s here) * (l.line + 1) + added_up_to pairs_held (first_row s here).cells (view_of cols p.count) p.count
+        ≡ row_height s (first_row s here) * (l.line + 1) + added_up_to pairs_held (first_row s here).cells p.columns.items (length p.columns.items)
     text-pairs k here A h u =
         let t = table_of s in
         let r = first_row s here in
         let e = row_bytes t (limits_of s O.passes) (widths_in s) (visible-some t) r (first_limits s here A h).each u k in
         ap (λ ls. length (closed ls)) (text-styled s k r) ∙ e
-        ∙ rw (← held-sum t (widths_in s) (view_of cols p.count) O.views r, ← L.line)
+        ∙ rw (← held-sum t (widths_in s) p.columns.items O.views r, ← L.line)
 
     text-shown : (k : ℕ) (here : Rows) (n : ℕ) → row_height s (first_row s here) ≤ n
         → length (closed (row_lines s (text_style_of (table_of s).style k) (first_row s here)))
         ≡ row_height s (first_row s here) * (l.line + 1)
-        + added_up_to (pairs_shown (table_of s).indicator (first_row s here).limit 0 n) (first_row s here).cells (view_of cols p.count) p.count
+        + added_up_to (pairs_shown (table_of s).indicator (first_row s here).limit 0 n) (first_row s here).cells p.columns.items (length p.columns.items)
     text-shown k here n h =
         let t = table_of s in
         let r = first_row s here in
         ap (λ ls. length (closed ls)) (text-styled s k r) ∙ row-shown t (widths_in s) r k
-        ∙ rw (← shown-sum t (widths_in s) (view_of cols p.count) O.views r n h, ← L.line)
+        ∙ rw (← shown-sum t (widths_in s) p.columns.items O.views r n h, ← L.line)
 
-    rule_sized : (k : ℕ) → l.line + 1 ≡ length (rule_text (view_of cols p.count)
+    rule_sized : (k : ℕ) → l.line + 1 ≡ length (rule_text p.columns.items
         (rule_style_of (table_of s).style (any_junction (table_of s).style) k)) + 1
     rule_sized k = rw (
-      rule-drawn (table_of s) (widths_in s) (view_of cols p.count) O.views (table_of s).style false k,
+      rule-drawn (table_of s) (widths_in s) p.columns.items O.views (table_of s).style false k,
       rule-length (table_of s)
           (widths_in s) k,
       L.line,
     )
 
-    pub border_sized : (k : ℕ) → l.border + 1 ≡ length (rule_text (view_of cols p.count) (rule_style_of (table_of s).style true k)) + 1
+    pub border_sized : (k : ℕ) → l.border + 1 ≡ length (rule_text p.columns.items (rule_style_of (table_of s).style true k)) + 1
     border_sized k = rw (
-      rule-drawn (table_of s) (widths_in s) (view_of cols p.count) O.views (table_of s).style true k,
+      rule-drawn (table_of s) (widths_in s) p.columns.items O.views (table_of s).style true k,
       border-length (table_of s)
           (widths_in s) k,
       L.border,
     )
 
-    pub top_sized : l.border + 1 ≡ length (rule_text (view_of cols p.count) p.styles.top) + 1
+    pub top_sized : l.border + 1 ≡ length (rule_text p.columns.items p.styles.top) + 1
     unfolding styles_of
     top_sized = rw O.styles (border_sized top_border)
 
-    pub bottom_sized : l.border + 1 ≡ length (rule_text (view_of cols p.count) p.styles.bottom) + 1
+    pub bottom_sized : l.border + 1 ≡ length (rule_text p.columns.items p.styles.bottom) + 1
     unfolding styles_of
     bottom_sized = rw O.styles (border_sized bottom_border)
 
-    pub header_sized : SizedBand s (view_of cols p.count) p.styles.header (rows_in s p.header) p.plain (l.line + 1)
+    pub header_sized : SizedBand s p.columns.items p.styles.header (rows_in s p.header) p.plain (l.line + 1)
     unfolding styles_of
     header_sized = rw O.styles (record {
       text = λ h. text_sized header_lines p.header O.header_at (omega (arith, rows_number s p.header));
@@ -460,7 +459,7 @@ module _ (s : List ℕ) (cols : List (List ℕ)) (p : Page) (O : Opened s cols p
     })
 
     pub body_sized : (here : Rows) (y : RowStyle) → RowsAt s here → y ≡ body_style p.styles.body here.left → SizedBand s
-        (view_of cols p.count) y (rows_in s here) p.plain (l.line + 1)
+        p.columns.items y (rows_in s here) p.plain (l.line + 1)
     unfolding styles_of
     body_sized here y A e = rw (e, O.styles) (record {
       text = λ h. text_sized content_lines here A (omega (arith, rows_number s here));

@@ -30,10 +30,10 @@ pub record SizedBand (s : List ℕ) (view : View) (y : RowStyle) (rs : List Row)
   pub text : 0 < length rs → Sized s y.lines (get_or rs 0 no_row) plain view n
   pub held : 0 < length rs → (get_or rs 0 no_row).limit ≡ 0
       → length (closed (row_lines s y.lines (get_or rs 0 no_row)))
-      ≡ row_height s (get_or rs 0 no_row) * n + added_up_to pairs_held (get_or rs 0 no_row).cells view view.count
+      ≡ row_height s (get_or rs 0 no_row) * n + added_up_to pairs_held (get_or rs 0 no_row).cells view (length view)
   pub shown : 0 < length rs → (k : ℕ) → row_height s (get_or rs 0 no_row) ≤ k
       → length (closed (row_lines s y.lines (get_or rs 0 no_row)))
       ≡ row_height s (get_or rs 0 no_row) * n
-      + added_up_to (pairs_shown (table_of s).indicator (get_or rs 0 no_row).limit 0 k) (get_or rs 0 no_row).cells view view.count
+      + added_up_to (pairs_shown (table_of s).indicator (get_or rs 0 no_row).limit 0 k) (get_or rs 0 no_row).cells view (length view)
   pub rule : n ≡ length (rule_text view y.rule) + 1
   pub small : n ≤ longest_line + 1

@@ -28,29 +28,17 @@ pub struct Cursor {
 }
 
 // Before the page's first part.
-pub fn first(p: Page) -> Cursor
-    ensures { result ≡ first_cursor p }
+pub fn first(p: &Page) -> Cursor
+    ensures { result ≡ first_cursor p.now }
 {
-    let here = p.rows;
-    Cursor {
-        stage: Stage::Top,
-        here,
-        line: 0,
-    }
+    start(Stage::Top, p.rows)
 }
 
 // No part comes next.
 pub fn is_end(c: Cursor) -> bool
     ensures { result ≡ is_end c.stage }
 {
-    let stage = c.stage;
-    match stage {
-        Stage::Top => false,
-        Stage::Header => false,
-        Stage::Body => false,
-        Stage::Bottom => false,
-        Stage::End => true,
-    }
+    matches!(c.stage, Stage::End)
 }
 
 // The same part, n lines further.
@@ -58,12 +46,20 @@ pub fn further(c: Cursor, n: usize) -> Cursor
     requires { c.line + n ≤ most_lines }
     ensures { result ≡ further_on c n }
 {
-    let stage = c.stage;
-    let here = c.here;
+    Cursor {
+        line: c.line + n,
+        ..c
+    }
+}
+
+// Before a part's first line.
+fn start(stage: Stage, here: Rows) -> Cursor
+    ensures { result ≡ record { stage = stage; here = here; line = 0 } }
+{
     Cursor {
         stage,
         here,
-        line: c.line + n,
+        line: 0,
     }
 }
 
@@ -73,48 +69,21 @@ fn after_row(sheet: &[u8], here: Rows) -> Cursor
     ensures { AfterRow sheet.now here result }
 {
     if here.left <= 1 {
-        return Cursor {
-            stage: Stage::Bottom,
-            here,
-            line: 0,
-        };
+        return start(Stage::Bottom, here);
     }
-    let here = walk::next_row(sheet, here);
-    Cursor {
-        stage: Stage::Body,
-        here,
-        line: 0,
-    }
+    start(Stage::Body, walk::next_row(sheet, here))
 }
 
 // Before the next part.
-pub fn next(sheet: &[u8], p: Page, c: Cursor) -> Cursor
+pub fn next(sheet: &[u8], p: &Page, c: Cursor) -> Cursor
     requires { RowsAt sheet.now c.here }
-    ensures { Next sheet.now p c result }
+    ensures { Next sheet.now p.now c result }
 {
-    let stage = c.stage;
-    let here = c.here;
-    match stage {
-        Stage::Top => Cursor {
-            stage: Stage::Header,
-            here,
-            line: 0,
-        },
-        Stage::Header => Cursor {
-            stage: Stage::Body,
-            here,
-            line: 0,
-        },
-        Stage::Body => after_row(sheet, here),
-        Stage::Bottom => Cursor {
-            stage: Stage::End,
-            here,
-            line: 0,
-        },
-        Stage::End => Cursor {
-            stage: Stage::End,
-            here,
-            line: 0,
-        },
+    match c.stage {
+        Stage::Top => start(Stage::Header, c.here),
+        Stage::Header => start(Stage::Body, c.here),
+        Stage::Body => after_row(sheet, c.here),
+        Stage::Bottom => start(Stage::End, c.here),
+        Stage::End => start(Stage::End, c.here),
     }
 }

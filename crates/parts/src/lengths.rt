@@ -1,13 +1,11 @@
 // How long a page's lines are.
-ghost use Rattle.std.specs.Prelude.{◌≡◌, cond, ◌-◌, ◌*◌, ◌≤◌};
-ghost use Rattle.row.specs.Packed.{view_of};
+ghost use Rattle.std.specs.Prelude.{◌≡◌, cond, ◌*◌, ◌≤◌, length};
 ghost use Rattle.borders.specs.Rule.{NarrowAll};
 ghost use Rattle.display_info.specs.Opened.{Opened};
 ghost use Rattle.parts.specs.Lengths.{width_up_to, LengthsAre};
 
 use display_info::Page;
-use row::packed;
-use rules::MOST_COLUMNS;
+use row::VisibleColumn;
 
 // How long lines are, without their 0A: text lines in columns and rules, and borders.
 #[derive(Clone, Copy)]
@@ -23,43 +21,28 @@ pub fn where_drawn(drawn: bool, n: usize) -> usize
     if drawn { n } else { 0 }
 }
 
-// The places between n columns.
-fn between(n: usize) -> usize
-    ensures { (result ≡ n - 1) × (result ≤ n) }
-{
-    if n == 0 {
-        return 0;
-    }
-    n - 1
-}
-
 // The visible widths of the columns.
-fn visible_width(columns: &[[usize; 6]; MOST_COLUMNS], count: usize) -> usize
-    requires { NarrowAll (view_of columns.now count) }
-    ensures { (result ≡ width_up_to (view_of columns.now count) count) × (result ≤ 65536 * count) }
+fn visible_width(columns: &[VisibleColumn]) -> usize
+    requires { NarrowAll columns.now }
+    ensures { (result ≡ width_up_to columns.now (length columns.now)) × (result ≤ 65536 * length columns.now) }
 {
     let mut sum: usize = 0;
-    let mut i: usize = 0;
-    while i < count {
-        let x = columns[i];
-        let v = packed::column_from(x);
+    for v in columns {
         sum += v.left + (v.width + v.right);
-        i += 1;
     }
     sum
 }
 
 // How long the lines of a page are.
-pub fn measure(sheet: &[u8], columns: &[[usize; 6]; MOST_COLUMNS], p: Page) -> Lengths
-    requires { Opened sheet.now columns.now p }
+pub fn measure(sheet: &[u8], p: &Page) -> Lengths
+    requires { Opened sheet.now p.now }
     ensures { LengthsAre sheet.now result }
 {
-    let styles = p.styles;
-    let body = styles.body;
-    let style = body.rule;
-    let inside = between(p.count);
+    let style = p.styles.body.rule;
+    let columns = p.columns.as_slice();
+    let inside = columns.len().saturating_sub(1);
     let edges = where_drawn(style.opens, 1) + where_drawn(style.closes, 1);
-    let sum = visible_width(columns, p.count);
+    let sum = visible_width(columns);
     let line = edges + where_drawn(style.joined, inside) + sum;
     let border = edges + inside + sum;
     Lengths { line, border }

@@ -1,7 +1,6 @@
 // A part of a page: how many lines it has, and the part drawn from one of its lines on, for as many lines as there is room for.
 ghost use Rattle.std.specs.Prelude.{◌≡◌, [], ◌∷◌, cond, ◌+◌, ◌-◌, ◌≤◌, ◌<◌, length, drop};
 ghost use Rattle.table.specs.Walk.{rows_in, first_row};
-ghost use Rattle.row.specs.Packed.{view_of};
 ghost use Rattle.formatting.specs.Part.{PartIs};
 ghost use Rattle.borders.specs.Rule.{rule_text, NarrowAll};
 ghost use Rattle.display_info.specs.Opened.{RowsAt, Opened};
@@ -18,9 +17,9 @@ use borders::RuleStyle;
 use display_info::{Page, RowStyle};
 use formatting::content_format;
 use formatting::content_format::Part;
-use rules::MOST_COLUMNS;
+use row::VisibleColumn;
 use table::records::Rows;
-use table::walk;
+use table::{settings, walk};
 
 // The lines that a row's limit leaves, 0 being none.
 fn within_limit(limit: usize, lines: usize) -> usize
@@ -29,64 +28,42 @@ fn within_limit(limit: usize, lines: usize) -> usize
     if limit == 0 {
         return lines;
     }
-    numbers::lesser(limit, lines)
+    limit.min(lines)
 }
 
 // The text lines of the first of some rows.
-pub fn row_lines(
-    sheet: &[u8],
-    columns: &[[usize; 6]; MOST_COLUMNS],
-    count: usize,
-    here: Rows,
-    plain: bool,
-) -> usize
-    requires { Drawable sheet.now (view_of columns.now count) plain here }
+pub fn row_lines(sheet: &[u8], columns: &[VisibleColumn], here: Rows, plain: bool) -> usize
+    requires { Drawable sheet.now columns.now plain here }
     ensures { result ≡ row_height sheet.now (first_row sheet.now here) }
 {
     let r = walk::row(sheet, here);
     let cells = r.cells;
-    let most = row::row_height(sheet, columns, count, cells, plain);
+    let most = row::row_height(sheet, columns, cells, plain);
     within_limit(r.limit, most)
 }
 
 // The lines of the first of some rows and of the rule after it.
-fn band_lines(
-    sheet: &[u8],
-    columns: &[[usize; 6]; MOST_COLUMNS],
-    p: Page,
-    ruled: bool,
-    here: Rows,
-) -> usize
-    requires { Opened sheet.now columns.now p × RowsAt sheet.now here }
+fn band_lines(sheet: &[u8], p: &Page, ruled: bool, here: Rows) -> usize
+    requires { Opened sheet.now p.now × RowsAt sheet.now here }
     ensures { result ≡ band_count sheet.now ruled (rows_in sheet.now here) }
 {
     if here.left == 0 {
         return 0;
     }
-    row_lines(sheet, columns, p.count, here, p.plain) + lengths::where_drawn(ruled, 1)
+    let columns = p.columns.as_slice();
+    row_lines(sheet, columns, here, p.plain) + lengths::where_drawn(ruled, 1)
 }
 
 // The lines of the part that the cursor stands before.
-pub fn lines(sheet: &[u8], columns: &[[usize; 6]; MOST_COLUMNS], p: Page, c: Cursor) -> usize
-    requires { Opened sheet.now columns.now p × RowsAt sheet.now c.here }
-    ensures { result ≡ length (part_lines sheet.now p c) }
+pub fn lines(sheet: &[u8], p: &Page, c: Cursor) -> usize
+    requires { Opened sheet.now p.now × RowsAt sheet.now c.here }
+    ensures { result ≡ length (part_lines sheet.now p.now c) }
 {
-    let stage = c.stage;
     let styles = p.styles;
-    let header = styles.header;
-    let body = styles.body;
-    let above = p.header;
-    let here = c.here;
-    match stage {
+    match c.stage {
         Stage::Top => lengths::where_drawn(styles.has_top, 1),
-        Stage::Header => band_lines(sheet, columns, p, header.ruled, above),
-        Stage::Body => band_lines(
-            sheet,
-            columns,
-            p,
-            numbers::both(body.ruled, 1 < here.left),
-            here,
-        ),
+        Stage::Header => band_lines(sheet, p, styles.header.ruled, p.header),
+        Stage::Body => band_lines(sheet, p, styles.body.ruled & (1 < c.here.left), c.here),
         Stage::Bottom => lengths::where_drawn(styles.has_bottom, 1),
         Stage::End => 0,
     }
@@ -105,14 +82,13 @@ fn nothing(whole: bool) -> Part
 // A border or a rule, where it is visible. It takes `size` bytes, its 0A included.
 fn draw_rule(
     page: &mut [u8],
-    columns: &[[usize; 6]; MOST_COLUMNS],
-    count: usize,
+    columns: &[VisibleColumn],
     style: RuleStyle,
     visible: bool,
     size: usize,
 ) -> Part
-    requires { NarrowAll (view_of columns.now count) × (size ≡ length (rule_text (view_of columns.now count) style) + 1) }
-    ensures { PartIs (cond visible (rule_text (view_of columns.now count) style ∷ []) []) page.old page.new result }
+    requires { NarrowAll columns.now × (size ≡ length (rule_text columns.now style) + 1) }
+    ensures { PartIs (cond visible (rule_text columns.now style ∷ []) []) page.old page.new result }
 {
     if !visible {
         return nothing(true);
@@ -120,7 +96,7 @@ fn draw_rule(
     if page.len() < size {
         return nothing(false);
     }
-    let bytes = borders::draw_line(page, columns, count, style);
+    let bytes = borders::draw_line(page, columns, style);
     Part {
         lines: 1,
         bytes,
@@ -132,33 +108,39 @@ fn draw_rule(
 fn draw_band(
     page: &mut [u8],
     sheet: &[u8],
-    columns: &[[usize; 6]; MOST_COLUMNS],
-    p: Page,
+    p: &Page,
     style: RowStyle,
     here: Rows,
     first: usize,
     size: usize,
 ) -> Part
-    requires opened { Opened sheet.now columns.now p × (RowsAt sheet.now here
-        × SizedBand sheet.now (view_of columns.now p.count) style (rows_in sheet.now here) p.plain size) }
-    requires first_in_bounds { first ≤ length (band_lines sheet.now (view_of columns.now p.count) style (rows_in sheet.now here)) - 1 }
-    ensures { PartIs (drop first (band_lines sheet.now (view_of columns.now p.count) style (rows_in sheet.now here)))
+    requires opened { Opened sheet.now p.now × (RowsAt sheet.now here
+        × SizedBand sheet.now p.now.columns.items style (rows_in sheet.now here) p.now.plain size) }
+    requires first_in_bounds { first ≤ length (band_lines sheet.now p.now.columns.items style (rows_in sheet.now here)) - 1 }
+    ensures { PartIs (drop first (band_lines sheet.now p.now.columns.items style (rows_in sheet.now here)))
         page.old page.new result }
 {
     if here.left == 0 {
         return nothing(true);
     }
-    let indicator = p.indicator;
-    let lines = style.lines;
+    let columns = p.columns.as_slice();
+    let indicator = settings::indicator(sheet);
     let text = content_format::draw_row(
-        page, sheet, columns, p.count, indicator, lines, here, first, p.plain, size,
+        page,
+        sheet,
+        columns,
+        indicator,
+        style.lines,
+        here,
+        first,
+        p.plain,
+        size,
     );
     if !text.whole {
         return text;
     }
     let at = text.bytes;
-    let rule = style.rule;
-    let drawn = draw_rule(&mut page[at..], columns, p.count, rule, style.ruled, size);
+    let drawn = draw_rule(&mut page[at..], columns, style.rule, style.ruled, size);
     Part {
         lines: text.lines + drawn.lines,
         bytes: at + drawn.bytes,
@@ -170,56 +152,28 @@ fn draw_band(
 pub fn body_style(style: RowStyle, left: usize) -> RowStyle
     ensures { result ≡ body_style style left }
 {
-    let lines = style.lines;
-    let rule = style.rule;
     RowStyle {
-        lines,
-        rule,
-        ruled: numbers::both(style.ruled, 1 < left),
+        ruled: style.ruled & (1 < left),
+        ..style
     }
 }
 
 // The part that the cursor stands before, from its line on.
-pub fn draw(
-    page: &mut [u8],
-    sheet: &[u8],
-    columns: &[[usize; 6]; MOST_COLUMNS],
-    p: Page,
-    l: Lengths,
-    c: Cursor,
-) -> Part
-    requires { Opened sheet.now columns.now p × (At sheet.now p c × LengthsAre sheet.now l) }
-    ensures { PartIs (drop c.line (part_lines sheet.now p c)) page.old page.new result }
+pub fn draw(page: &mut [u8], sheet: &[u8], p: &Page, l: Lengths, c: Cursor) -> Part
+    requires { Opened sheet.now p.now × (At sheet.now p.now c × LengthsAre sheet.now l) }
+    ensures { PartIs (drop c.line (part_lines sheet.now p.now c)) page.old page.new result }
 {
-    let stage = c.stage;
     let styles = p.styles;
-    let top = styles.top;
-    let header = styles.header;
-    let body = styles.body;
-    let bottom = styles.bottom;
-    let above = p.header;
-    let here = c.here;
-    match stage {
-        Stage::Top => draw_rule(page, columns, p.count, top, styles.has_top, l.border + 1),
-        Stage::Header => draw_band(page, sheet, columns, p, header, above, c.line, l.line + 1),
-        Stage::Body => draw_band(
-            page,
-            sheet,
-            columns,
-            p,
-            body_style(body, here.left),
-            here,
-            c.line,
-            l.line + 1,
-        ),
-        Stage::Bottom => draw_rule(
-            page,
-            columns,
-            p.count,
-            bottom,
-            styles.has_bottom,
-            l.border + 1,
-        ),
+    let columns = p.columns.as_slice();
+    let (line, border) = (l.line + 1, l.border + 1);
+    match c.stage {
+        Stage::Top => draw_rule(page, columns, styles.top, styles.has_top, border),
+        Stage::Header => draw_band(page, sheet, p, styles.header, p.header, c.line, line),
+        Stage::Body => {
+            let body = body_style(styles.body, c.here.left);
+            draw_band(page, sheet, p, body, c.here, c.line, line)
+        }
+        Stage::Bottom => draw_rule(page, columns, styles.bottom, styles.has_bottom, border),
         Stage::End => nothing(true),
     }
 }

@@ -38,13 +38,13 @@ pub record Standing (s : List ℕ) (p : Page) (c : Cursor) : Type 0 where
   pub passed : ℕ
   pub lines : ahead s p c ≡ drop passed (lines_of s p)
 
-pub standing-first : (s : List ℕ) (cols : List (List ℕ)) (p : Page) → Opened s cols p → (c : Cursor) → c ≡ first_cursor p → Standing s p c
-standing-first s cols p O c e = rw e (record { at = first-at s cols p O; passed = 0; lines = first-ahead s cols p O })
+pub standing-first : (s : List ℕ) (p : Page) → Opened s p → (c : Cursor) → c ≡ first_cursor p → Standing s p c
+standing-first s p O c e = rw e (record { at = first-at s p O; passed = 0; lines = first-ahead s p O })
 
-pub standing_few : (s : List ℕ) (cols : List (List ℕ)) (p : Page) → Opened s cols p → (c : Cursor) → Standing s p c → length (ahead s p c) ≤ most_lines
-standing_few s cols p O c S = omega (arith, ap length S.lines, length-drop S.passed (lines_of s p), total-lines s cols p O)
+pub standing_few : (s : List ℕ) (p : Page) → Opened s p → (c : Cursor) → Standing s p c → length (ahead s p c) ≤ most_lines
+standing_few s p O c S = omega (arith, ap length S.lines, length-drop S.passed (lines_of s p), total-lines s p O)
 
-module _ (s : List ℕ) (cols : List (List ℕ)) (p : Page) (O : Opened s cols p) (c : Cursor) (S : Standing s p c) (b a : List ℕ) (r : Written)
+module _ (s : List ℕ) (p : Page) (O : Opened s p) (c : Cursor) (S : Standing s p c) (b a : List ℕ) (r : Written)
     (W : WroteIs s p c b a r) where
   pub round_bytes : r.bytes ≤ length b
   round_bytes = omega (arith, W.bytes, fitted (length b) (ahead s p c))

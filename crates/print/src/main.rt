@@ -7,7 +7,6 @@ ghost use Rattle.std.specs.Prelude.{◌+◌, ◌≤◌, length};
 ghost use Rattle.rules.specs.Limits.{longest_line};
 
 use parts::cursor;
-use rules::MOST_COLUMNS;
 use std::fmt;
 use std::io::Cursor;
 use std::io::prelude::*;
@@ -51,11 +50,10 @@ fn print<R: Print + Clock>(rt: &R, sheet: &[u8], space: &mut [u8]) -> Result<(),
     if examined.number != 0 {
         return write_refusal(rt, examined.number, examined.place).map_err(Error::Untold);
     }
-    let mut columns = [[0usize; 6]; MOST_COLUMNS];
-    let p = display_info::open(sheet, examined.plain, &mut columns);
-    let mut c = cursor::first(p);
+    let p = display_info::open(sheet, examined.plain);
+    let mut c = cursor::first(&p);
     while !cursor::is_end(c) {
-        let part = lines::write(space, sheet, &columns, p, c);
+        let part = lines::write(space, sheet, &p, c);
         let n = part.bytes;
         stream::write_all(rt, &space[..n]).map_err(Error::Cut)?;
         c = part.next;

@@ -46,7 +46,7 @@ unfolding height_up_to
 measuring_begins s view c h = record { passing = passing_begins s view c h; tall = refl }
 
 pub measuring-on : (s : List ℕ) (view : View) → Rising view → (xs : List Cell) (left : Cells) (passed most i : ℕ) → Measuring s view xs left passed
-    most i → i < view.count
+    most i → i < length view
     → (next : Cells) (n m : ℕ) → cells_in s next ≡ drop ((visible_at view i).number - passed) (cells_in s left) → cells_end s next ≡ cells_end s left
     → n ≡ cell_height (first_cell s next) (visible_at view i) → m ≡ max most n → Measuring s view xs next (visible_at view i).number m (i + 1)
 unfolding height_up_to
@@ -58,8 +58,8 @@ measuring-on s view R xs left passed most i M h next n m e f o x =
     }
 
 pub measuring_done : (s : List ℕ) (view : View) (xs : List Cell) (left : Cells) (passed most i : ℕ) → Measuring s view xs left passed most i →
-    view.count ≤ i → most ≡ height_up_to xs view view.count
-measuring_done s view xs left passed most i M h = let w = M.passing.within in let e : i ≡ view.count = omega arith in rw e at M.tall
+    length view ≤ i → most ≡ height_up_to xs view (length view)
+measuring_done s view xs left passed most i M h = let w = M.passing.within in let e : i ≡ length view = omega arith in rw e at M.tall
 
 -- ---- pairs
 
@@ -79,7 +79,7 @@ module _ (f : Cell → VisibleColumn → ℕ) (most : ℕ) (s : List ℕ) (view 
   adding_begins c h = record { passing = passing_begins s view c h; total = refl; small = omega arith }
 
   module _ (xs : List Cell) (left : Cells) (passed sum i : ℕ) (A : Adding f most s view xs left passed sum i) where
-    pub adding-on : Rising view → i < view.count → (next : Cells) (n : ℕ) → cells_in s next ≡ drop ((visible_at view i).number - passed) (cells_in s left)
+    pub adding-on : Rising view → i < length view → (next : Cells) (n : ℕ) → cells_in s next ≡ drop ((visible_at view i).number - passed) (cells_in s left)
         → cells_end s next ≡ cells_end s left → (n ≡ f (first_cell s next) (visible_at view i)) × (n ≤ most)
         → Adding f most s view xs next (visible_at view i).number (sum + n) (i + 1)
     unfolding added_up_to
@@ -94,8 +94,8 @@ module _ (f : Cell → VisibleColumn → ℕ) (most : ℕ) (s : List ℕ) (view 
         more_room : (m i : ℕ) → sum + n ≤ m * i + m → sum + n ≤ m * (i + 1)
         more_room m i h = rw (add-one i, mul-suc m i) (omega arith)
 
-    pub adding_done : view.count ≤ i → (sum ≡ added_up_to f xs view view.count) × (sum ≤ most * view.count)
+    pub adding_done : length view ≤ i → (sum ≡ added_up_to f xs view (length view)) × (sum ≤ most * length view)
     adding_done h =
         let w = A.passing.within in
-        let e : i ≡ view.count = omega arith in
+        let e : i ≡ length view = omega arith in
         (rw e at A.total, rw e at A.small)

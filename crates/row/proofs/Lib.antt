@@ -2,4 +2,3 @@ pub mod Stand
 pub mod Joined
 pub mod Open
 pub mod Heights
-pub mod Lent

@@ -118,15 +118,15 @@ opened-cell s c x X v n plain wide first r prints e f g m =
 
 -- before visible column i, `passed` cells of xs are passed
 pub record Passing (s : List ℕ) (view : View) (xs : List Cell) (left : Cells) (passed i : ℕ) : Type 0 where
-  pub within : i ≤ view.count
+  pub within : i ≤ length view
   pub cells : cells_in s left ≡ drop passed xs
   pub ends : cells_end s left ≤ length s
-  pub order : (k : ℕ) → i ≤ k → k < view.count → passed ≤ (visible_at view k).number
+  pub order : (k : ℕ) → i ≤ k → k < length view → passed ≤ (visible_at view k).number
 
 pub passing_begins : (s : List ℕ) (view : View) (c : Cells) → cells_end s c ≤ length s → Passing s view (cells_in s c) c 0 0
 passing_begins s view c h = record { within = omega arith; cells = refl; ends = h; order = λ k x y. omega arith }
 
-module _ (s : List ℕ) (view : View) (xs : List Cell) (left : Cells) (passed i : ℕ) (P : Passing s view xs left passed i) (h : i < view.count)
+module _ (s : List ℕ) (view : View) (xs : List Cell) (left : Cells) (passed i : ℕ) (P : Passing s view xs left passed i) (h : i < length view)
     (next : Cells) (e : cells_in s next ≡ drop ((visible_at view i).number - passed) (cells_in s left)) where
   cells-here : cells_in s next ≡ drop (visible_at view i).number xs
   cells-here =
@@ -163,7 +163,7 @@ unfolding any_found
 opening_begins s view c n ts l h = record { passing = passing_begins s view c h; size = l; done = λ k x. absurd (omega arith); found = refl }
 
 module _ (s : List ℕ) (view : View) (R : Rising view) (xs : List Cell) (n : ℕ) (ts : List Pending) (left : Cells) (passed : ℕ) (more : Bool) (i : ℕ)
-    (O : Opening s view xs n ts left passed more i) (h : i < view.count) where
+    (O : Opening s view xs n ts left passed more i) (h : i < length view) where
   pub opening_on : (next : Cells) (t : Pending) (m : Bool) → cells_in s next ≡ drop ((visible_at view i).number - passed) (cells_in s left) → cells_end s
       next ≡ cells_end s left
       → OpenedAt s (first_cell s next) (visible_at view i) n t → m ≡ (more || t.line.found) → Opening s view xs n (set ts i t) next
@@ -184,8 +184,8 @@ module _ (s : List ℕ) (view : View) (R : Rising view) (xs : List Cell) (n : �
       }
 
 pub opening_done : (s : List ℕ) (view : View) (xs : List Cell) (n : ℕ) (ts : List Pending) (left : Cells) (passed : ℕ) (more : Bool) (i : ℕ)
-    → Opening s view xs n ts left passed more i → view.count ≤ i → OpenedRow s xs view n ts × (more ≡ any_found ts view.count)
+    → Opening s view xs n ts left passed more i → length view ≤ i → OpenedRow s xs view n ts × (more ≡ any_found ts (length view))
 opening_done s view xs n ts left passed more i O h =
     let w = O.passing.within in
-    let e : i ≡ view.count = omega arith in
+    let e : i ≡ length view = omega arith in
     (record { size = O.size; each = λ k l. O.done k (omega arith) }, rw e at O.found)

@@ -1,5 +1,4 @@
 pub mod View
 pub mod Pending
-pub mod Packed
 pub mod Open
 pub mod Height

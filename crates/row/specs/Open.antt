@@ -38,13 +38,13 @@ pub record OpenedAt (s : List ℕ) (x : Cell) (v : VisibleColumn) (n : ℕ) (t :
 -- each visible column's cell at its line n, missing where the row has none
 pub record OpenedRow (s : List ℕ) (xs : List Cell) (view : View) (n : ℕ) (ts : List Pending) : Type 0 where
   pub size : length ts ≡ most_columns
-  pub each : (i : ℕ) → i < view.count → OpenedAt s (get_or xs (visible_at view i).number no_cell) (visible_at view i) n (pending_at ts i)
+  pub each : (i : ℕ) → i < length view → OpenedAt s (get_or xs (visible_at view i).number no_cell) (visible_at view i) n (pending_at ts i)
 
 -- columns stand in the sheet's order
 pub record Rising (view : View) : Type 0 where
-  pub most : view.count ≤ most_columns
-  pub order : (i k : ℕ) → i ≤ k → k < view.count → (visible_at view i).number ≤ (visible_at view k).number
+  pub most : length view ≤ most_columns
+  pub order : (i k : ℕ) → i ≤ k → k < length view → (visible_at view i).number ≤ (visible_at view k).number
 
 -- a column has a width, and a delimiter for the cells that choose none
 abbrev pub UsableAll : View → Type 0
-UsableAll view = (i : ℕ) → i < view.count → (0 < (visible_at view i).width) × Printable (visible_at view i).delimiter
+UsableAll view = (i : ℕ) → i < length view → (0 < (visible_at view i).width) × Printable (visible_at view i).delimiter

@@ -5,17 +5,16 @@ use Rattle.rules.specs.Text.{or_else}
 use Rattle.rules.specs.Widths.{visible}
 use Rattle.row.specs.declared.VisibleColumn.{VisibleColumn}
 
--- what lines are drawn from: the visible columns from left to right, the first `count` of these
-pub record View : Type 0 where
-  pub count : ℕ
-  pub columns : List VisibleColumn
+-- what lines are drawn from: the visible columns from left to right
+abbrev pub View : Type 0
+View = List VisibleColumn
 
 -- what a list has past its end
 abbrev pub no_column : VisibleColumn
 no_column = record { number = 0; width = 0; left = 0; right = 0; delimiter = 0; alignment = 0 }
 
 abbrev pub visible_at : View → ℕ → VisibleColumn
-visible_at view i = get_or view.columns i no_column
+visible_at view i = get_or view i no_column
 
 -- column j of a table as it is drawn, ws being the content widths
 unfoldable pub shown_of : Table → List ℕ → ℕ → VisibleColumn
@@ -34,6 +33,6 @@ number_of t i = get_or (visible t) i 0
 
 -- a view shows a table's visible columns, from left to right
 pub record Views (t : Table) (ws : List ℕ) (view : View) : Type 0 where
-  pub count : view.count ≡ length (visible t)
-  pub most : view.count ≤ most_columns
-  pub each : (i : ℕ) → i < view.count → visible_at view i ≡ shown_of t ws (number_of t i)
+  pub count : length view ≡ length (visible t)
+  pub most : length view ≤ most_columns
+  pub each : (i : ℕ) → i < length view → visible_at view i ≡ shown_of t ws (number_of t i)

@@ -1,8 +1,6 @@
 // A row's cells opened at one of its lines, comfy-table's `format_row`, and their heights.
 #![tactic(auto)]
 
-pub mod packed;
-
 ghost use Rattle.std.specs.Prelude.{◌≡◌, ◌*◌, ◌≤◌, ◌<◌, length};
 ghost use Rattle.rules.specs.Text.{All};
 ghost use Rattle.rules.specs.Sheet.{most_columns};
@@ -12,7 +10,6 @@ ghost use Rattle.laws.proofs.RowBytes.{pairs_of};
 ghost use Rattle.row.specs.Height.{cell_height, height_up_to, added_up_to, pairs_held};
 ghost use Rattle.row.specs.Pending.{any_found};
 ghost use Rattle.row.specs.Open.{CellKnown, OpenedAt, OpenedRow, Rising, UsableAll, missing};
-ghost use Rattle.row.specs.Packed.{view_of, pendings_of};
 
 use cells::{CellCursor, Next};
 use rules::MOST_COLUMNS;
@@ -20,7 +17,7 @@ use table::records::{Cells, Lines};
 use table::walk;
 
 // A visible column as it is drawn: its number in the sheet, its content width and paddings, and what a cell takes that chooses nothing.
-#[derive(Clone, Copy)]
+#[derive(Clone, Copy, Default)]
 pub struct VisibleColumn {
     pub number: usize,
     pub width: usize,
@@ -31,7 +28,7 @@ pub struct VisibleColumn {
 }
 
 // A cell's pending line: the one that is drawn next, and where the line after it is looked for.
-#[derive(Clone, Copy)]
+#[derive(Clone, Copy, Default)]
 pub struct Pending {
     pub line: Next,
     pub delimiter: u8,
@@ -87,34 +84,26 @@ pub fn open_cell(sheet: &[u8], cells: Cells, v: VisibleColumn, n: usize, plain: 
 // Every visible column's cell of a row at its line n; whether there is one.
 pub fn format_row(
     sheet: &[u8],
-    columns: &[[usize; 6]; MOST_COLUMNS],
-    count: usize,
+    columns: &[VisibleColumn],
     cells: Cells,
     n: usize,
     plain: bool,
-    state: &mut [[usize; 9]; MOST_COLUMNS],
+    state: &mut [Pending; MOST_COLUMNS],
 ) -> bool
-    requires rising { Rising (view_of columns.now count) × (UsableAll (view_of columns.now count) × (length state.old ≡ most_columns)) }
+    requires rising { Rising columns.now × (UsableAll columns.now × (length state.old ≡ most_columns)) }
     requires cells_in_bounds { (cells_end sheet.now cells ≤ length sheet.now) × All (CellKnown plain) (cells_in sheet.now cells) }
-    ensures { OpenedRow sheet.now (cells_in sheet.now cells) (view_of columns.now count) n (pendings_of plain state.new)
-        × (result ≡ any_found (pendings_of plain state.new) count) }
+    ensures { OpenedRow sheet.now (cells_in sheet.now cells) columns.now n state.new
+        × (result ≡ any_found state.new (length columns.now)) }
 {
     let mut left = cells;
     let mut passed: usize = 0;
     let mut more = false;
-    let mut i: usize = 0;
-    while i < count {
-        let y = columns[i];
-        let v = packed::column_from(y);
-        let number = v.number;
-        left = walk::skip_cells(sheet, left, number - passed);
-        passed = number;
+    for (i, &v) in columns.iter().enumerate() {
+        left = walk::skip_cells(sheet, left, v.number - passed);
+        passed = v.number;
         let t = open_cell(sheet, left, v, n, plain);
-        let line = t.line;
-        more = numbers::either(more, line.found);
-        let z = packed::pack_pending(t);
-        state[i] = z;
-        i += 1;
+        more |= t.line.found;
+        state[i] = t;
     }
     more
 }
@@ -135,30 +124,19 @@ fn open_height(sheet: &[u8], from: Cells, v: VisibleColumn, plain: bool) -> usiz
 }
 
 // The most lines of a visible column's cell, the row's limit left aside.
-pub fn row_height(
-    sheet: &[u8],
-    columns: &[[usize; 6]; MOST_COLUMNS],
-    count: usize,
-    from: Cells,
-    plain: bool,
-) -> usize
-    requires rising { Rising (view_of columns.now count) × UsableAll (view_of columns.now count) }
+pub fn row_height(sheet: &[u8], columns: &[VisibleColumn], from: Cells, plain: bool) -> usize
+    requires rising { Rising columns.now × UsableAll columns.now }
     requires from_in_bounds { (cells_end sheet.now from ≤ length sheet.now) × All (CellKnown plain) (cells_in sheet.now from) }
-    ensures { result ≡ height_up_to (cells_in sheet.now from) (view_of columns.now count) count }
+    ensures { result ≡ height_up_to (cells_in sheet.now from) columns.now (length columns.now) }
 {
     let mut left = from;
     let mut passed: usize = 0;
     let mut most: usize = 0;
-    let mut i: usize = 0;
-    while i < count {
-        let y = columns[i];
-        let v = packed::column_from(y);
-        let number = v.number;
-        left = walk::skip_cells(sheet, left, number - passed);
-        passed = number;
+    for &v in columns {
+        left = walk::skip_cells(sheet, left, v.number - passed);
+        passed = v.number;
         let lines = open_height(sheet, left, v, plain);
-        most = numbers::greater(most, lines);
-        i += 1;
+        most = most.max(lines);
     }
     most
 }
@@ -177,28 +155,18 @@ fn open_pairs(sheet: &[u8], from: Cells) -> usize
 }
 
 // The pairs of a row's cells in the visible columns.
-pub fn row_pairs(
-    sheet: &[u8],
-    columns: &[[usize; 6]; MOST_COLUMNS],
-    count: usize,
-    from: Cells,
-) -> usize
-    requires { Rising (view_of columns.now count) × ((cells_end sheet.now from ≤ length sheet.now) × (length sheet.now ≤ 32768)) }
-    ensures { (result ≡ added_up_to pairs_held (cells_in sheet.now from) (view_of columns.now count) count) × (result ≤ 32768 * count) }
+pub fn row_pairs(sheet: &[u8], columns: &[VisibleColumn], from: Cells) -> usize
+    requires { Rising columns.now × ((cells_end sheet.now from ≤ length sheet.now) × (length sheet.now ≤ 32768)) }
+    ensures { (result ≡ added_up_to pairs_held (cells_in sheet.now from) columns.now (length columns.now)) × (result ≤ 32768 * length columns.now) }
 {
     let mut left = from;
     let mut passed: usize = 0;
     let mut sum: usize = 0;
-    let mut i: usize = 0;
-    while i < count {
-        let y = columns[i];
-        let v = packed::column_from(y);
-        let number = v.number;
-        left = walk::skip_cells(sheet, left, number - passed);
-        passed = number;
+    for &v in columns {
+        left = walk::skip_cells(sheet, left, v.number - passed);
+        passed = v.number;
         let more = open_pairs(sheet, left);
         sum += more;
-        i += 1;
     }
     sum
 }

@@ -1,6 +1,6 @@
 -- Heads passed and a line taken: the lines ahead are the same, but for the one that is taken. Assumes nothing.
 use Prim.Native.Nat.{ℕ, zero, suc, ◌+◌, ◌-◌, ◌≤◌, ◌<◌, max}
-use mathlib.Core.Path.{◌≡◌, refl, ap, sym, subst, ◌∙◌}
+use mathlib.Core.Path.{◌≡◌, refl, ap, sym, ◌∙◌}
 use mathlib.Core.List.{List, [], ◌∷◌, ◌++◌, map, append_assoc}
 use native.Mathlib.Omega.{arith}
 use lib.ListN.{length, get_or, take, drop}
@@ -13,12 +13,10 @@ use Rattle.rules.specs.Places.{byte_at, past, parts, text_at, line_stop, cell_st
 use Rattle.laws.proofs.Text.{width_whole, width-le}
 use Rattle.laws.proofs.CellLines.{rows_append}
 use Rattle.laws.proofs.Stands.{Onward, past-onward, cell-stop, row-stop, cell-onward, row-onward, lines-onward, cells-onward, rows-onward}
-use Rattle.table.specs.Step.{lines_at, cells_at, rows_at, section_stop, in_sections, in_rows, in_cells, ahead, ahead_end, Ready, SameAhead, HeadIs, Takes, AllNarrow}
+use Rattle.table.specs.Step.{lines_at, cells_at, rows_at, section_stop, in_sections, in_rows, in_cells, ahead, ahead_end, Ready, SameAhead, Takes, AllNarrow}
 use Rattle.table.specs.declared.step.Left.{Left}
 use Rattle.table.specs.declared.step.Stand.{Stand}
 use Rattle.table.specs.declared.step.Taken.{Taken}
-use Rattle.table.specs.declared.step.Head.{Head}
-use Rattle.table.specs.declared.step.Head.TheVariants.{To, Nothing}
 use Rattle.table.proofs.Walks.{other-past}
 
 -- ---- what is left goes on from where it stands
@@ -217,13 +215,6 @@ nothing-ahead s p c l i j h =
     let m : c.rows ≡ 0 = omega arith in
     let n : c.sections ≡ 0 = omega arith in
     rw (l, k, m, n)
-
--- what is ensured of a head whose case is known
-pub head-to : (s : List ℕ) (p : ℕ) (c : Left) (r : Head) (q : Stand) → r ≡ To q → HeadIs s p c r → SameAhead s p c q × (p < q.at)
-head-to s p c r q e h = subst (λ (x : Head). HeadIs s p c x) e h
-
-pub head_nothing : (s : List ℕ) (p : ℕ) (c : Left) (r : Head) → r ≡ Nothing → HeadIs s p c r → ahead s p c ≡ []
-head_nothing s p c r e h = subst (λ (x : Head). HeadIs s p c x) e h
 
 pub step-takes : (s before : List ℕ) (c : Left) (a : Stand) (t : Taken) → SameAhead s 0 c a → Takes s before a.at a.left t → Takes s before 0 c t
 step-takes s before c a t h k = record {

@@ -1,9 +1,9 @@
 -- The table of a sheet that is accepted stands in its bytes. Assumes nothing.
-use Prim.Native.Nat.{ℕ, ◌+◌, ◌*◌, ◌≤◌, ◌<◌}
+use Prim.Native.Nat.{ℕ, ◌+◌, ◌-◌, ◌*◌, ◌≤◌, ◌<◌}
 use mathlib.Core.Path.{◌≡◌, ap, sym, ◌∙◌}
-use mathlib.Core.List.{List, append-nil}
+use mathlib.Core.List.{List}
 use native.Mathlib.Omega.{arith}
-use lib.ListN.{length, get_or, drop, replicate}
+use lib.ListN.{length, get_or, take, drop, replicate}
 use lib.Seq.{get_or-take, get_or-drop}
 use Rattle.rules.specs.Sheet.{Table, no_column, most_columns}
 use Rattle.rules.specs.declared.Column.{Column}
@@ -16,7 +16,7 @@ use Rattle.rules.specs.Places.{byte_at, word_at, text_at, column_here, columns_p
 use Rattle.laws.proofs.Accepted.{accepted, accepted_limits, accepted_places, checked-reading}
 use Rattle.laws.proofs.Stands as stands
 use Rattle.table.proofs.Copies.{Copied, copied_done, drop-replicate}
-use Rattle.table.specs.Held.{IsAccepted, table_of, settings_of, indicator_of, columns_of}
+use Rattle.table.specs.Held.{IsAccepted, table_of, settings_of, columns_of}
 
 -- a caller that has asked the check knows that the sheet is accepted
 pub is_accepted : (s : List ℕ) (r : Checked) → r ≡ check s → r.number ≡ 0 → IsAccepted s
@@ -88,6 +88,18 @@ indicator-held s h = rw (table_here_lem s h) (stands.indicator-here s)
 pub style-held : (s : List ℕ) → IsAccepted s → (table_of s).style ≡ text_at s (style_place s)
 style-held s h = rw (table_here_lem s h) (stands.style-here s)
 
+-- the same as the code lends them
+pub indicator-lent : (s : List ℕ) (n : ℕ) → IsAccepted s → n ≡ byte_at s 5 → take (6 + n - 6) (drop 6 s) ≡ (table_of s).indicator
+unfolding text_at
+indicator-lent s n h e = let z : 6 + n - 6 ≡ n = omega arith in rw (z, e) (sym (indicator-held s h))
+
+pub style-lent : (s : List ℕ) (p : ℕ) → IsAccepted s → p ≡ style_place s → take (p + 1 + 22 - (p + 1)) (drop (p + 1) s) ≡ (table_of s).style
+unfolding text_at
+style-lent s p h e =
+    let r = room s h in
+    let z : p + 1 + 22 - (p + 1) ≡ byte_at s (style_place s) = omega (arith, r.style) in
+    rw z (rw e (sym (style-held s h)))
+
 -- character i of a text is the byte i after its length
 pub character-at : (s : List ℕ) (p i : ℕ) → i < byte_at s p → get_or (text_at s p) i 0 ≡ get_or s (p + 1 + i) 0
 unfolding text_at
@@ -101,21 +113,6 @@ text_inside s h = let r = room s h in stands.text-length s 5 (omega arith)
 pub style_inside : (s : List ℕ) → IsAccepted s → length (text_at s (style_place s)) ≡ 22
 unfolding line_stop
 style_inside s h = let r = room s h in stands.text-length s (style_place s) (omega arith) ∙ r.style
-
--- once all is copied
-pub indicator_whole : (s : List ℕ) (n i : ℕ) (a : List ℕ) → IsAccepted s → n ≡ byte_at s 5 → i ≤ n → n ≤ i → Copied (text_at s 5) (replicate 8 0) i a →
-    record { count = n; characters = a } ≡ indicator_of (table_of s)
-unfolding indicator_of
-indicator_whole s n i a h e j k c =
-    let l = text_inside s h in
-    let m : n ≡ length (text_at s 5) = omega arith in
-    rw (indicator-held s h, m, copied_done (text_at s 5) (replicate 8 0) i a (omega arith) c, drop-replicate {A = ℕ} (length (text_at s 5)) 8 0)
-
-pub style_whole : (s : List ℕ) (i : ℕ) (a : List ℕ) → IsAccepted s → i ≡ 22 → Copied (text_at s (style_place s)) (replicate 22 0) i a → a ≡ (table_of s).style
-style_whole s i a h e c =
-    let l = style_inside s h in
-    copied_done (text_at s (style_place s)) (replicate 22 0) i a (omega arith) c
-    ∙ rw (style-held s h, l) (append-nil _)
 
 -- the columns of the table
 pub columns_inside : (s : List ℕ) → IsAccepted s → length (table_of s).columns ≡ byte_at s (columns_place s)
@@ -133,10 +130,6 @@ columns_whole s n i a h e j k c =
       drop-replicate (length (table_of s).columns)
           most_columns no_column,
     )
-
-pub style_character : (s : List ℕ) (first i : ℕ) → IsAccepted s → first ≡ style_place s + 1 → i < 22 → get_or s (first + i) 0 ≡ get_or
-    (text_at s (style_place s)) i 0
-style_character s first i h e l = let r = room s h in rw e (sym (character-at s (style_place s) i (omega (arith, r.style))))
 
 pub column_copied : (s : List ℕ) (p j : ℕ) (v : Column) → IsAccepted s → j < byte_at s (columns_place s) → p ≡ columns_place s + 1 + 11 * j → v ≡ column_here
     s p → v ≡ get_or (table_of s).columns j no_column

@@ -1,6 +1,6 @@
 -- The pass: steps one after another take the cell lines in order, each once, and find each column's longest line. Assumes nothing.
 use Prim.Native.Nat.{ℕ, ◌+◌, ◌-◌, ◌≤◌, ◌<◌, max}
-use mathlib.Core.Path.{◌≡◌, refl, ap, sym, subst, ◌∙◌}
+use mathlib.Core.Path.{◌≡◌, refl, ap, sym, ◌∙◌}
 use mathlib.Core.List.{List, [], ◌∷◌, ◌++◌, map, append_assoc, append-nil, cons≢nil}
 use mathlib.Core.Bool.{Bool, true, false}
 use native.Mathlib.Omega.{arith}
@@ -19,11 +19,9 @@ use Rattle.laws.proofs.Accepted.{accepted_limits}
 use Rattle.laws.proofs.Lists.{all_unmap, all_right, map-append, get_d_map, length-up_from, get_d-up_from}
 use Rattle.laws.proofs.CellLines.{longest-append, longest-here, longest-other, longest-lines, lines_narrow}
 use Rattle.table.specs.Held.{IsAccepted, table_of}
-use Rattle.table.specs.Step.{ahead, ahead_end, Counted, Ready, Takes, StepIs, AllNarrow}
+use Rattle.table.specs.Step.{ahead, ahead_end, Counted, Ready, Takes, AllNarrow}
 use Rattle.table.specs.Pass.{State, start, after, Steps, none, then, Rising, Passed, Edges}
 use Rattle.table.specs.declared.step.Taken.{Taken}
-use Rattle.table.specs.declared.step.Stepped.{Stepped}
-use Rattle.table.specs.declared.step.Stepped.TheVariants.{Line, End}
 use Rattle.table.proofs.Held.{held}
 use Rattle.table.proofs.Heads.{ahead_end_lem}
 use Rattle.table.proofs.Rest.{text-rest, line-rest, ahead-rest, end_rest, all_read, all_inside}
@@ -168,13 +166,12 @@ module _ (s : List ℕ) (a : State) (so : Passing s a) where
   pub pass_asks : Ready (lent s a.at) 0 a.left × AllNarrow (ahead (lent s a.at) 0 a.left)
   pass_asks = rw (rest-lent s a.at) (pass_ready, pass_narrow)
 
-  -- what is ensured of it where its case is known
-  pub is-taken : (r : Stepped) (t : Taken) → r ≡ Line t → StepIs (lent s a.at) a.left a.longest r
-      → Takes (drop a.at s) a.longest 0 a.left t
-  is-taken r t e h = rw (rest-lent s a.at) at (subst (λ (q : Stepped). StepIs (lent s a.at) a.left a.longest q) e h)
+  -- what is ensured of it, of the sheet from there on
+  pub is-taken : (t : Taken) → Takes (lent s a.at) a.longest 0 a.left t → Takes (drop a.at s) a.longest 0 a.left t
+  is-taken t h = rw (rest-lent s a.at) at h
 
-  pub is-ended : (r : Stepped) → r ≡ End → StepIs (lent s a.at) a.left a.longest r → ahead (drop a.at s) 0 a.left ≡ []
-  is-ended r e h = rw (rest-lent s a.at) at (subst (λ (q : Stepped). StepIs (lent s a.at) a.left a.longest q) e h)
+  pub is-ended : ahead (lent s a.at) 0 a.left ≡ [] → ahead (drop a.at s) 0 a.left ≡ []
+  is-ended h = rw (rest-lent s a.at) at h
 
   -- the line taken is of a column that there can be, and ends farther on, inside the sheet
   module _ (t : Taken) (takes : Takes (drop a.at s) a.longest 0 a.left t) where

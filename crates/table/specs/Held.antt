@@ -1,11 +1,10 @@
 -- What an accepted sheet holds, and the records that the code hands out of it. Assumes nothing.
-use Rattle.std.specs.Prelude.{ℕ, ◌-◌, ◌≡◌, List, [], ◌++◌, length, replicate}
+use Rattle.std.specs.Prelude.{ℕ, ◌≡◌, List, [], length}
 use Rattle.rules.specs.Sheet.{Table, no_column}
 use Rattle.rules.specs.Field.{Read, got, refused}
 use Rattle.rules.specs.Format.{sheet}
 use Rattle.rules.specs.Calls.{check, as_array}
 use Rattle.table.specs.declared.records.Settings.{Settings}
-use Rattle.table.specs.declared.records.Indicator.{Indicator}
 use Rattle.table.specs.declared.records.Columns.{Columns}
 
 -- the check answers 0
@@ -26,10 +25,6 @@ table_of s = held_by (sheet s)
 -- the settings of the whole table
 unfoldable pub settings_of : Table → Settings
 settings_of t = record { arrangement = t.arrangement; target = t.target; delimiter = t.delimiter }
-
--- the indicator, 0 past its characters
-unfoldable pub indicator_of : Table → Indicator
-indicator_of t = record { count = length t.indicator; characters = t.indicator ++ replicate (8 - length t.indicator) 0 }
 
 -- the columns, an empty one past them
 unfoldable pub columns_of : Table → Columns

@@ -1,5 +1,5 @@
 -- The cell lines ahead of a place in the sheet, and what a step over them takes. Assumes nothing.
-use Rattle.std.specs.Prelude.{ℕ, ◌+◌, ◌-◌, ◌≤◌, ◌<◌, max, ◌≡◌, List, [], ◌∷◌, ◌++◌, map, length, get_or}
+use Rattle.std.specs.Prelude.{ℕ, ◌+◌, ◌-◌, ◌≤◌, ◌<◌, max, ◌≡◌, List, [], ◌∷◌, ◌++◌, map, length, get_or, Option, Some, None}
 use Rattle.rules.specs.Text.{All, text_width, flat}
 use Rattle.rules.specs.Sheet.{most_columns}
 use Rattle.rules.specs.Widths.{lifted}
@@ -8,10 +8,6 @@ use Rattle.rules.specs.Places.{byte_at, past, parts, text_at, line_stop, cell_st
 use Rattle.table.specs.declared.step.Left.{Left}
 use Rattle.table.specs.declared.step.Stand.{Stand}
 use Rattle.table.specs.declared.step.Taken.{Taken}
-use Rattle.table.specs.declared.step.Head.{Head}
-use Rattle.table.specs.declared.step.Head.TheVariants.{To, Nothing}
-use Rattle.table.specs.declared.step.Stepped.{Stepped}
-use Rattle.table.specs.declared.step.Stepped.TheVariants.{Line, End}
 
 -- where the lines of the cell at p stand: behind delimiter, alignment and their count
 unfoldable pub lines_at : List ℕ → ℕ → List ℕ
@@ -65,9 +61,9 @@ pub record SameAhead (s : List ℕ) (p : ℕ) (c : Left) (r : Stand) : Type 0 wh
   pub counted : Counted r.left
 
 -- a head was passed, with the same lines ahead of where it leads to, farther on; or no line is ahead
-abbrev pub HeadIs : List ℕ → ℕ → Left → Head → Type 0
-HeadIs s p c (To r) = SameAhead s p c r × (p < r.at)
-HeadIs s p c Nothing = ahead s p c ≡ []
+abbrev pub HeadIs : List ℕ → ℕ → Left → Option Stand → Type 0
+HeadIs s p c (Some r) = SameAhead s p c r × (p < r.at)
+HeadIs s p c None = ahead s p c ≡ []
 
 -- t is the first line ahead of p: its column, its place and its end; its column, which had `before`, is lifted to the characters it has, or to 1 by an
 -- empty line; and the other lines are ahead of its end
@@ -80,9 +76,9 @@ pub record Takes (s before : List ℕ) (p : ℕ) (c : Left) (t : Taken) : Type 0
   pub counted : Counted t.left
 
 -- a step from the first byte of what it is given: it takes the first line ahead, or there is none
-abbrev pub StepIs : List ℕ → Left → List ℕ → Stepped → Type 0
-StepIs s c before (Line t) = Takes s before 0 c t
-StepIs s c before End = ahead s 0 c ≡ []
+abbrev pub StepIs : List ℕ → Left → List ℕ → Option Taken → Type 0
+StepIs s c before (Some t) = Takes s before 0 c t
+StepIs s c before None = ahead s 0 c ≡ []
 
 -- the lines ahead are of columns that there can be
 abbrev pub AllNarrow : List (InColumn ℕ) → Type 0

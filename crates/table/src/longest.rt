@@ -2,7 +2,7 @@
 ghost use Rattle.table.specs.Held.{IsAccepted};
 ghost use Rattle.table.specs.Pass.{Passed};
 
-use super::step::{Left, Stepped};
+use super::step::Left;
 use super::{places, step};
 use rules::MOST_COLUMNS;
 
@@ -12,7 +12,7 @@ pub fn longest(sheet: &[u8]) -> [u16; MOST_COLUMNS]
     ensures { Passed sheet.now result }
 {
     let header = places::header_place(sheet);
-    let rows = numbers::size(sheet[header]);
+    let rows = usize::from(sheet[header]);
     let mut at = header + 1;
     let mut left = Left {
         sections: 1,
@@ -22,13 +22,10 @@ pub fn longest(sheet: &[u8]) -> [u16; MOST_COLUMNS]
         lines: 0,
     };
     let mut longest = [0u16; MOST_COLUMNS];
-    loop {
-        let Stepped::Line(taken) = step::step(&sheet[at..], left, &longest) else {
-            return longest;
-        };
-        let j = taken.column;
-        longest[j] = taken.longest;
+    while let Some(taken) = step::step(&sheet[at..], left, &longest) {
+        longest[taken.column] = taken.longest;
         at += taken.end;
         left = taken.left;
     }
+    longest
 }

@@ -8,7 +8,7 @@ pub fn style_place(sheet: &[u8]) -> usize
     requires { IsAccepted sheet.now }
     ensures { result ≡ style_place sheet.now }
 {
-    6 + numbers::size(sheet[5])
+    6 + usize::from(sheet[5])
 }
 
 // The columns' count, behind the style's 22 characters.
@@ -25,5 +25,5 @@ pub fn header_place(sheet: &[u8]) -> usize
     ensures { result ≡ header_place sheet.now }
 {
     let columns = columns_place(sheet);
-    columns + 1 + 11 * numbers::size(sheet[columns])
+    columns + 1 + 11 * usize::from(sheet[columns])
 }

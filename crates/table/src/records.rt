@@ -9,13 +9,6 @@ pub struct Settings {
     pub delimiter: u8,
 }
 
-// The first `count` characters are the indicator.
-#[derive(Clone, Copy)]
-pub struct Indicator {
-    pub count: usize,
-    pub characters: [u8; 8],
-}
-
 // The first `count` columns are the sheet's.
 #[derive(Clone, Copy)]
 pub struct Columns {
@@ -38,7 +31,7 @@ pub struct Cells {
 }
 
 // Lines of a cell still to come.
-#[derive(Clone, Copy)]
+#[derive(Clone, Copy, Default)]
 pub struct Lines {
     pub at: usize,
     pub left: usize,

@@ -1,10 +1,10 @@
 // What an accepted sheet says of the whole table, by value.
 ghost use Rattle.std.specs.Prelude.{◌≡◌, ◌+◌, ◌<◌, length};
 ghost use Rattle.rules.specs.Places.{word_at, width_here, column_here};
-ghost use Rattle.table.specs.Held.{IsAccepted, table_of, settings_of, indicator_of, columns_of};
+ghost use Rattle.table.specs.Held.{IsAccepted, table_of, settings_of, columns_of};
 
 use super::places;
-use super::records::{Columns, Indicator, Settings};
+use super::records::{Columns, Settings};
 use rules::{Column, MOST_COLUMNS, STYLE_CHARACTERS, Width};
 
 // Two bytes, low byte first.
@@ -12,9 +12,7 @@ fn word_at(sheet: &[u8], at: usize) -> u16
     requires { at + 1 < length sheet.now }
     ensures { result ≡ word_at sheet.now at }
 {
-    let low = numbers::wide(sheet[at]);
-    let high = numbers::wide(sheet[at + 1]);
-    low + high * 256
+    u16::from_le_bytes([sheet[at], sheet[at + 1]])
 }
 
 // Arrangement, target and table delimiter stand at fixed places, so no byte before them is read.
@@ -29,20 +27,13 @@ pub fn settings(sheet: &[u8]) -> Settings
     }
 }
 
-// The indicator is copied, since every cut cell is ended by it.
-pub fn indicator(sheet: &[u8]) -> Indicator
+// The indicator, a part of the sheet.
+pub fn indicator(sheet: &[u8]) -> &[u8]
     requires { IsAccepted sheet.now }
-    ensures { result ≡ indicator_of (table_of sheet.now) }
+    ensures { result.now ≡ (table_of sheet.now).indicator }
 {
-    let count = numbers::size(sheet[5]);
-    let mut characters = [0u8; 8];
-    let mut i: usize = 0;
-    while i < count {
-        let at = 6 + i;
-        characters[i] = sheet[at];
-        i += 1;
-    }
-    Indicator { count, characters }
+    let end = 6 + usize::from(sheet[5]);
+    &sheet[6..end]
 }
 
 // The style's characters, in the order of the record `TableStyle`.
@@ -51,13 +42,8 @@ pub fn style(sheet: &[u8]) -> [u8; STYLE_CHARACTERS]
     ensures { result ≡ (table_of sheet.now).style }
 {
     let first = places::style_place(sheet) + 1;
-    let mut characters = [0u8; STYLE_CHARACTERS];
-    let mut i: usize = 0;
-    while i < STYLE_CHARACTERS {
-        let at = first + i;
-        characters[i] = sheet[at];
-        i += 1;
-    }
+    let mut characters = [0; STYLE_CHARACTERS];
+    characters.copy_from_slice(&sheet[first..first + STYLE_CHARACTERS]);
     characters
 }
 
@@ -105,14 +91,10 @@ pub fn columns(sheet: &[u8]) -> Columns
     ensures { result ≡ columns_of (table_of sheet.now) }
 {
     let place = places::columns_place(sheet);
-    let count = numbers::size(sheet[place]);
+    let count = usize::from(sheet[place]);
     let mut each = [NONE; MOST_COLUMNS];
-    let mut at = place + 1;
-    let mut i: usize = 0;
-    while i < count {
-        each[i] = column_at(sheet, at);
-        at += 11;
-        i += 1;
+    for i in 0..count {
+        each[i] = column_at(sheet, place + 1 + 11 * i);
     }
     Columns { count, each }
 }

@@ -37,34 +37,19 @@ pub struct Taken {
     pub left: Left,
 }
 
-// What a head leads to, where one comes next.
-#[derive(Clone, Copy)]
-pub enum Head {
-    To(Stand),
-    Nothing,
-}
-
-// What a step did: it took a line, or there was none.
-#[derive(Clone, Copy)]
-pub enum Stepped {
-    Line(Taken),
-    End,
-}
-
 // A cell's head: delimiter, alignment and line count.
 fn cell_head(rest: &[u8], at: usize, c: Left) -> Stand
     requires { Ready rest.now at c × ((c.lines ≡ 0) × (0 < c.cells)) }
     ensures { SameAhead rest.now at c result × (at < result.at) }
 {
-    let lines = numbers::size(rest[at + 2]);
+    let lines = usize::from(rest[at + 2]);
     Stand {
         at: at + 3,
         left: Left {
-            sections: c.sections,
-            rows: c.rows,
             cells: c.cells - 1,
             begun: c.begun + 1,
             lines,
+            ..c
         },
     }
 }
@@ -74,15 +59,15 @@ fn row_head(rest: &[u8], at: usize, c: Left) -> Stand
     requires { Ready rest.now at c × ((c.lines ≡ 0) × ((c.cells ≡ 0) × (0 < c.rows))) }
     ensures { SameAhead rest.now at c result × (at < result.at) }
 {
-    let cells = numbers::size(rest[at + 1]);
+    let cells = usize::from(rest[at + 1]);
     Stand {
         at: at + 2,
         left: Left {
-            sections: c.sections,
             rows: c.rows - 1,
             cells,
             begun: 0,
             lines: 0,
+            ..c
         },
     }
 }
@@ -92,7 +77,7 @@ fn section_head(rest: &[u8], at: usize, c: Left) -> Stand
     requires { Ready rest.now at c × ((c.lines ≡ 0) × ((c.cells ≡ 0) × ((c.rows ≡ 0) × (0 < c.sections)))) }
     ensures { SameAhead rest.now at c result × (at < result.at) }
 {
-    let rows = numbers::size(rest[at]);
+    let rows = usize::from(rest[at]);
     Stand {
         at: at + 1,
         left: Left {
@@ -106,21 +91,21 @@ fn section_head(rest: &[u8], at: usize, c: Left) -> Stand
 }
 
 // The head of what comes next: of a cell, else of a row, else of a section.
-fn pass_head(rest: &[u8], p: Stand) -> Head
+fn pass_head(rest: &[u8], p: Stand) -> Option<Stand>
     requires { Ready rest.now p.at p.left × (p.left.lines ≡ 0) }
     ensures { HeadIs rest.now p.at p.left result }
 {
     let c = p.left;
     if 0 < c.cells {
-        return Head::To(cell_head(rest, p.at, c));
+        return Some(cell_head(rest, p.at, c));
     }
     if 0 < c.rows {
-        return Head::To(row_head(rest, p.at, c));
+        return Some(row_head(rest, p.at, c));
     }
     if 0 < c.sections {
-        return Head::To(section_head(rest, p.at, c));
+        return Some(section_head(rest, p.at, c));
     }
-    Head::Nothing
+    None
 }
 
 // The longest of some lines and another one, an empty one counting 1. No text has more characters than bytes, so that few lines are counted.
@@ -129,11 +114,11 @@ fn longer(longest: u16, line: &[u8]) -> u16
     ensures { result ≡ max longest (lifted (text_width line.now)) }
 {
     let bytes = line.len();
-    if numbers::greater(1, bytes) <= longest as usize {
+    if bytes.max(1) <= usize::from(longest) {
         return longest;
     }
     let characters = text_width::columns(line, 0, bytes, false);
-    numbers::greater_u16(longest, numbers::greater(1, characters) as u16)
+    longest.max(characters.max(1) as u16)
 }
 
 // The line that begins where the step stands.
@@ -144,7 +129,7 @@ fn take_line(rest: &[u8], p: Stand, longest: &[u16; MOST_COLUMNS]) -> Taken
     let at = p.at;
     let c = p.left;
     let start = at + 1;
-    let end = start + numbers::size(rest[at]);
+    let end = start + usize::from(rest[at]);
     let j = c.begun - 1;
     let found = longer(longest[j], &rest[start..end]);
     Taken {
@@ -153,26 +138,20 @@ fn take_line(rest: &[u8], p: Stand, longest: &[u16; MOST_COLUMNS]) -> Taken
         column: j,
         longest: found,
         left: Left {
-            sections: c.sections,
-            rows: c.rows,
-            cells: c.cells,
-            begun: c.begun,
             lines: c.lines - 1,
+            ..c
         },
     }
 }
 
 // The next line, if there is one. Heads are passed up to it, and a row without cells by its head.
-pub fn step(rest: &[u8], left: Left, longest: &[u16; MOST_COLUMNS]) -> Stepped
+pub fn step(rest: &[u8], left: Left, longest: &[u16; MOST_COLUMNS]) -> Option<Taken>
     requires { Ready rest.now 0 left × AllNarrow (ahead rest.now 0 left) }
     ensures { StepIs rest.now left longest.now result }
 {
     let mut p = Stand { at: 0, left };
     while p.left.lines == 0 {
-        let Head::To(next) = pass_head(rest, p) else {
-            return Stepped::End;
-        };
-        p = next;
+        p = pass_head(rest, p)?;
     }
-    Stepped::Line(take_line(rest, p, longest))
+    Some(take_line(rest, p, longest))
 }

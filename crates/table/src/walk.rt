@@ -12,7 +12,7 @@ fn line_end(sheet: &[u8], at: usize) -> usize
     requires { line_stop sheet.now at ≤ length sheet.now }
     ensures { result ≡ line_stop sheet.now at }
 {
-    at + 1 + numbers::size(sheet[at])
+    at + 1 + usize::from(sheet[at])
 }
 
 // Where the cell at `at` ends: its lines are passed, and none of their characters is looked at.
@@ -20,12 +20,10 @@ fn cell_end(sheet: &[u8], at: usize) -> usize
     requires { cell_stop sheet.now at ≤ length sheet.now }
     ensures { result ≡ cell_stop sheet.now at }
 {
-    let n = numbers::size(sheet[at + 2]);
+    let lines = usize::from(sheet[at + 2]);
     let mut p = at + 3;
-    let mut i: usize = 0;
-    while i < n {
+    for _ in 0..lines {
         p = line_end(sheet, p);
-        i += 1;
     }
     p
 }
@@ -35,12 +33,10 @@ fn row_end(sheet: &[u8], at: usize) -> usize
     requires { row_stop sheet.now at ≤ length sheet.now }
     ensures { result ≡ row_stop sheet.now at }
 {
-    let n = numbers::size(sheet[at + 1]);
+    let cells = usize::from(sheet[at + 1]);
     let mut p = at + 2;
-    let mut i: usize = 0;
-    while i < n {
+    for _ in 0..cells {
         p = cell_end(sheet, p);
-        i += 1;
     }
     p
 }
@@ -51,8 +47,8 @@ pub fn row(sheet: &[u8], c: Rows) -> Row
     ensures { RowIs sheet.now c result }
 {
     let at = c.at;
-    let limit = numbers::size(sheet[at]);
-    let left = numbers::size(sheet[at + 1]);
+    let limit = usize::from(sheet[at]);
+    let left = usize::from(sheet[at + 1]);
     Row {
         limit,
         cells: Cells { at: at + 2, left },
@@ -77,7 +73,7 @@ pub fn cell(sheet: &[u8], c: Cells) -> Cell
     ensures { CellIs sheet.now c result }
 {
     let at = c.at;
-    let left = numbers::size(sheet[at + 2]);
+    let left = usize::from(sheet[at + 2]);
     Cell {
         delimiter: sheet[at],
         alignment: sheet[at + 1],
@@ -103,13 +99,11 @@ pub fn skip_cells(sheet: &[u8], cells: Cells, n: usize) -> Cells
     ensures { CellsSkipped sheet.now cells n result }
 {
     let mut c = cells;
-    let mut i: usize = 0;
-    while i < n {
+    for _ in 0..n {
         if c.left == 0 {
             return c;
         }
         c = next_cell(sheet, c);
-        i += 1;
     }
     c
 }
@@ -121,7 +115,7 @@ pub fn line(sheet: &[u8], c: Lines) -> &[u8]
 {
     let at = c.at;
     let start = at + 1;
-    let end = start + numbers::size(sheet[at]);
+    let end = start + usize::from(sheet[at]);
     &sheet[start..end]
 }
 
@@ -143,7 +137,7 @@ pub fn header(sheet: &[u8]) -> Rows
     ensures { (rows_in sheet.now result ≡ (table_of sheet.now).header) × (rows_end sheet.now result ≡ rows_place sheet.now) }
 {
     let place = places::header_place(sheet);
-    let left = numbers::size(sheet[place]);
+    let left = usize::from(sheet[place]);
     Rows {
         at: place + 1,
         left,
@@ -160,7 +154,7 @@ pub fn rows(sheet: &[u8], header: Rows) -> Rows
         c = next_row(sheet, c);
     }
     let place = c.at;
-    let left = numbers::size(sheet[place]);
+    let left = usize::from(sheet[place]);
     Rows {
         at: place + 1,
         left,

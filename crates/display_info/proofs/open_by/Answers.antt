@@ -1,11 +1,11 @@
 use mathlib.Core.Path.{ap, ◌∙◌}
 use Rattle.display_info.specs.Opened.{styles_of}
-use Rattle.display_info.proofs.Opening.{marks_of, header_at, header_one, rows_at, rows_few}
+use Rattle.display_info.proofs.Opening.{header_at, header_one, rows_at, rows_few}
 use Rattle.display_info.proofs.open_by.Goals as goal
 
 pub returns : goal.returns
 returns c =
-    let v = c.show_columns-count.ensures in
+    let v = c.show_columns-columns.ensures in
     let h = c.header-header.ensures in
     let r = c.rows-rows.ensures in (
       record {
@@ -15,7 +15,6 @@ returns c =
         usable = v.1.1.0;
         plain = c.requires.plain_table;
         narrow = v.1.1.1;
-        marks = marks_of _ _ c.requires.accepted.0 c.indicator-indicator.ensures;
         styles = c.styles-styles.ensures ∙ ap styles_of c.style.ensures;
         header = h.0;
         header_at = header_at _ c.requires.accepted.0 _ h.0 h.1;

@@ -4,7 +4,7 @@ use Rattle.lines.proofs.find.Goals as goal
 
 pub returns-then-is_end : goal.returns-then-is_end
 returns-then-is_end c =
-    found-past c.args.sheet.now c.args.p c.args.k _ c.seek-sought.ensures (sym c.is_end.ensures ∙ c.if-is_end.true)
+    found-past c.args.sheet.now c.args.p.now c.args.k _ c.seek-sought.ensures (sym c.is_end.ensures ∙ c.if-is_end.true)
     c.args.room
 
 pub line_size-needed-requires : goal.line_size-needed-requires
@@ -14,12 +14,12 @@ line_size-needed-requires c =
 
 pub returns-then-room-needed : goal.returns-then-room-needed
 returns-then-room-needed c =
-    found_short c.args.sheet.now c.args.p c.args.k _ c.seek-sought.ensures
+    found_short c.args.sheet.now c.args.p.now c.args.k _ c.seek-sought.ensures
     (sym c.is_end.ensures ∙ c.if-is_end.false) _ c.line_size-needed.ensures c.args.room
     c.if-room-needed.true
 
 pub returns : goal.returns
 returns c =
-    found_there c.args.sheet.now c.args.p c.args.k _ c.seek-sought.ensures
+    found_there c.args.sheet.now c.args.p.now c.args.k _ c.seek-sought.ensures
     (sym c.is_end.ensures ∙ c.if-is_end.false) _ c.line_size-needed.ensures c.args.room
     c.if-room-needed.false

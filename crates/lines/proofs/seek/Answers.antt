@@ -4,13 +4,13 @@ use Rattle.parts.proofs.Bands.{lines_few}
 use Rattle.lines.proofs.Walks.{reaching_begins, reaching_found, reaching-on, reaching_ends}
 use Rattle.lines.proofs.seek.Goals as goal
 
-pub loop-p-init : goal.loop-p-init
-loop-p-init c =
-    reaching_begins c.args.sheet.now c.args.columns.now c.args.p c.requires c.args.k _
+pub loop-n-init : goal.loop-n-init
+loop-n-init c =
+    reaching_begins c.args.sheet.now c.args.p.now c.requires c.args.k _
     c.first-c.ensures
 
 pub lines-n-requires : goal.lines-n-requires
-lines-n-requires c = (c.requires, c.loop-p.invariant.at.rows)
+lines-n-requires c = (c.requires, c.loop-n.invariant.at.rows)
 
 pub further-cursor-requires : goal.further-cursor-requires
 further-cursor-requires c =
@@ -18,31 +18,31 @@ further-cursor-requires c =
       arith,
       c.if-left-n.true,
       c.lines-n.ensures,
-      c.loop-p.invariant.start,
-      lines_few c.args.sheet.now c.args.columns.now c.args.p
-          c.requires c.loop-p.c c.loop-p.invariant.at.rows,
+      c.loop-n.invariant.start,
+      lines_few c.args.sheet.now c.args.p.now
+          c.requires c.loop-n.c c.loop-n.invariant.at.rows,
     )
 
 pub returns-then-left-n : goal.returns-then-left-n
 returns-then-left-n c =
-    reaching_found _ _ c.args.k c.loop-p.c c.loop-p.left c.loop-p.invariant _
+    reaching_found _ _ c.args.k c.loop-n.c c.loop-n.left c.loop-n.invariant _
     c.lines-n.ensures c.if-left-n.true _ c.further-cursor.ensures
 
 pub next-c-requires : goal.next-c-requires
-next-c-requires c = c.loop-p.invariant.at.rows
+next-c-requires c = c.loop-n.invariant.at.rows
 
-pub loop-p-smaller : goal.loop-p-smaller
-loop-p-smaller c = c.next-c.ensures.fewer (sym c.is_end.ensures ∙ c.loop-p-test.true)
+pub loop-n-smaller : goal.loop-n-smaller
+loop-n-smaller c = c.next-c.ensures.fewer (sym c.is_end.ensures ∙ c.loop-n-test.true)
 
-pub loop-p-preserved : goal.loop-p-preserved
-loop-p-preserved c =
-    reaching-on _ _ c.args.k c.loop-p.c c.loop-p.left c.loop-p.invariant _
+pub loop-n-preserved : goal.loop-n-preserved
+loop-n-preserved c =
+    reaching-on _ _ c.args.k c.loop-n.c c.loop-n.left c.loop-n.invariant _
     c.lines-n.ensures c.if-left-n.false _ c.next-c.ensures
 
 pub overflow_sub-result : goal.overflow_sub-result
-overflow_sub-result c = c.loop-p.invariant.within
+overflow_sub-result c = c.loop-n.invariant.within
 
 pub returns : goal.returns
 returns c =
-    reaching_ends _ _ c.args.k c.loop-p.c c.loop-p.left
-    c.loop-p.invariant (sym c.is_end.ensures ∙ c.loop-p-test.false)
+    reaching_ends _ _ c.args.k c.loop-n.c c.loop-n.left
+    c.loop-n.invariant (sym c.is_end.ensures ∙ c.loop-n-test.false)

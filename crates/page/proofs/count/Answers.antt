@@ -9,7 +9,7 @@ returns-then-examined-ne0 c = count_refused _ _ (examined _ _ c.examine-examined
 pub open-p-requires : goal.open-p-requires
 open-p-requires c =
     let e = c.examine-examined.ensures in
-    let h = is_accepted _ _ (examined _ _ e) c.if-examined-ne0.false in record { accepted = (h, refl); plain_table = examined-plain _ _ e h }
+    let h = is_accepted _ _ (examined _ _ e) c.if-examined-ne0.false in record { accepted = h; plain_table = examined-plain _ _ e h }
 
 pub count-totals-requires : goal.count-totals-requires
 count-totals-requires c = c.open-p.ensures.0

@@ -17,7 +17,7 @@ returns-then-examined-ne0 c =
 pub open-p-requires : goal.open-p-requires
 open-p-requires c =
     let e = c.examine-examined.ensures in
-    let h = is_accepted _ _ (examined _ _ e) c.if-examined-ne0.false in record { accepted = (h, refl); plain_table = examined-plain _ _ e h }
+    let h = is_accepted _ _ (examined _ _ e) c.if-examined-ne0.false in record { accepted = h; plain_table = examined-plain _ _ e h }
 
 pub find-found-requires : goal.find-found-requires
 find-found-requires c = c.open-p.ensures.0

@@ -18,7 +18,7 @@ returns-then-examined-ne0 c =
 pub open-p-requires : goal.open-p-requires
 open-p-requires c =
     let e = c.examine-examined.ensures in
-    let h = is_accepted _ _ (examined _ _ e) c.if-examined-ne0.false in record { accepted = (h, refl); plain_table = examined-plain _ _ e h }
+    let h = is_accepted _ _ (examined _ _ e) c.if-examined-ne0.false in record { accepted = h; plain_table = examined-plain _ _ e h }
 
 pub count-totals-requires : goal.count-totals-requires
 count-totals-requires c = c.open-p.ensures.0
@@ -43,9 +43,9 @@ write-wrote-requires c =
     rw c.first.ensures (
       O,
       (
-        first-at _ _ _ O,
+        first-at _ _ O,
         lines-bound-first _ h _
-            c.open-p.ensures.1 _ O,
+            c.open-p.ensures.1 O,
       ),
     )
 
@@ -54,7 +54,7 @@ returns c =
     let o = c.open-p.ensures in
     let h = is_accepted _ _ (examined _ _ c.examine-examined.ensures) c.if-examined-ne0.false in
     let t = count-all _ h _ o.1 _ c.count-totals.ensures in
-    let e = page-written _ h _ o.1 c.args.page.now _ c.write-wrote.result (first-ahead _ _ _ o.0)
+    let e = page-written _ h _ o.1 c.args.page.now _ c.write-wrote.result (first-ahead _ _ o.0)
     (rw c.first.ensures at c.write-wrote.ensures)
     (omega (arith, t.1, c.if-page-totals.false)) in
     record {

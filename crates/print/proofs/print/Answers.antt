@@ -11,33 +11,33 @@ open-p-requires-clause-plain_table g c =
     let e = c.examine-examined.ensures in
     examined-plain _ _ e (is_accepted _ _ (examined _ _ e) c.if-examined-ne0.false)
 
-pub loop-columns-init : goal.loop-columns-init
-loop-columns-init g c = (standing-first _ _ _ c.open-p.ensures.0 _ c.first-c.ensures, refl)
+pub loop-p-init : goal.loop-p-init
+loop-p-init g c = (standing-first _ _ c.open-p.ensures.0 _ c.first-c.ensures, refl)
 
 pub write-part-requires : goal.write-part-requires
 write-part-requires g c =
     let O = c.open-p.ensures.0 in
-    let i = c.loop-columns.invariant.0 in
-    (O, (i.at, standing_few _ _ _ O _ i))
+    let i = c.loop-p.invariant.0 in
+    (O, (i.at, standing_few _ _ O _ i))
 
 pub slice_bounds-write_all-end : goal.slice_bounds-write_all-end
 slice_bounds-write_all-end g c =
     omega (
       arith,
-      round_bytes _ _ _ c.open-p.ensures.0 _ c.loop-columns.invariant.0 _ _ _ c.write-part.ensures,
+      round_bytes _ _ c.open-p.ensures.0 _ c.loop-p.invariant.0 _ _ _ c.write-part.ensures,
       c.write-part.auto.page,
     )
 
-pub slice_bounds-write_all-end-in-loop-columns : goal.slice_bounds-write_all-end-in-loop-columns
-slice_bounds-write_all-end-in-loop-columns g c =
+pub slice_bounds-write_all-end-in-loop-p : goal.slice_bounds-write_all-end-in-loop-p
+slice_bounds-write_all-end-in-loop-p g c =
     sym (length-take-le _ _ (omega (
       arith,
-      round_bytes _ _ _ c.open-p.ensures.0 _ c.loop-columns.invariant.0 _ _ _ c.write-part.ensures,
+      round_bytes _ _ c.open-p.ensures.0 _ c.loop-p.invariant.0 _ _ _ c.write-part.ensures,
       c.write-part.auto.page,
     )))
 
-pub loop-columns-smaller : goal.loop-columns-smaller
-loop-columns-smaller g c =
-    round_less _ _ _ c.open-p.ensures.0 _ c.loop-columns.invariant.0 _ _ _ c.write-part.ensures
-    (sym c.is_end.ensures ∙ c.loop-columns-test.true)
-    (omega (arith, c.requires, c.loop-columns.invariant.1))
+pub loop-p-smaller : goal.loop-p-smaller
+loop-p-smaller g c =
+    round_less _ _ c.open-p.ensures.0 _ c.loop-p.invariant.0 _ _ _ c.write-part.ensures
+    (sym c.is_end.ensures ∙ c.loop-p-test.true)
+    (omega (arith, c.requires, c.loop-p.invariant.1))

@@ -1,8 +1,7 @@
 use native.Mathlib.Omega.{arith}
-use mathlib.Core.Path.{sym, ap, ◌∙◌}
+use mathlib.Core.Path.{ap, ◌∙◌}
 use lib.ListN.{length}
 use Prim.Native.Nat.{◌+◌}
-use lib.Seq.{length-take-le}
 use Rattle.buffer.specs.Put.{put_at}
 use Rattle.formatting.specs.Area.{area_in}
 use Rattle.formatting.proofs.Area.{line_in, shown_is, shown_columns, shown_inside, shown_spare}
@@ -11,41 +10,26 @@ use Rattle.formatting.proofs.content_format.draw_cell.Goals as goal
 pub line_at-text-requires : goal.line_at-text-requires
 line_at-text-requires c = c.requires.in_sheet.0.ends
 
-pub overflow_sub-width : goal.overflow_sub-width
-overflow_sub-width c = omega (arith, c.marks_shown-m.ensures.1.1)
-
 pub shorten-shown-requires : goal.shorten-shown-requires
 shorten-shown-requires c = line_in c.args.sheet.now c.args.v.width c.args.t c.requires.in_sheet.0 _ c.line_at-text.ensures
 
-pub slice_bounds-align_line-count : goal.slice_bounds-align_line-count
-slice_bounds-align_line-count c = c.shorten-shown.ensures.order
-
-pub slice_bounds-align_line-start : goal.slice_bounds-align_line-start
-slice_bounds-align_line-start c = c.shorten-shown.ensures.order
-
 pub slice_bounds-align_line-end : goal.slice_bounds-align_line-end
 slice_bounds-align_line-end c =
-    let x = shown_inside c.args.sheet.now c.args.v.width c.args.t c.requires.in_sheet.0 _ c.line_at-text.ensures c.args.indicator c.requires.in_sheet.1 c.args.cut c.marks_shown-m.result
+    let x = shown_inside c.args.sheet.now c.args.v.width c.args.t c.requires.in_sheet.0 _ c.line_at-text.ensures c.args.indicator.now c.requires.in_sheet.1 c.args.cut c.marks_shown-m.result
     c.marks_shown-m.ensures.0 c.marks_shown-m.ensures.1.1 c.marks_shown-m.ensures.1.0 c.shorten-shown.result c.shorten-shown.ensures in
     x
 
-pub slice_bounds-align_line-end-2 : goal.slice_bounds-align_line-end-2
-slice_bounds-align_line-end-2 c = sym (length-take-le c.marks_shown-m.result c.args.indicator.characters (omega (arith, c.marks_shown-m.ensures.1.0, c.requires.in_sheet.1.within)))
-
-pub overflow_sub-width-2 : goal.overflow_sub-width-2
-overflow_sub-width-2 c = omega (arith, c.marks_shown-m.ensures.1.1)
-
 pub overflow_sub-width-3 : goal.overflow_sub-width-3
 overflow_sub-width-3 c =
-    let x = shown_columns c.args.sheet.now c.args.v.width c.args.t c.requires.in_sheet.0 _ c.line_at-text.ensures c.args.indicator c.requires.in_sheet.1 c.args.cut c.marks_shown-m.result
+    let x = shown_columns c.args.sheet.now c.args.v.width c.args.t c.requires.in_sheet.0 _ c.line_at-text.ensures c.args.indicator.now c.requires.in_sheet.1 c.args.cut c.marks_shown-m.result
     c.marks_shown-m.ensures.0 c.marks_shown-m.ensures.1.1 c.marks_shown-m.ensures.1.0 c.shorten-shown.result c.shorten-shown.ensures in
     omega (arith, x.1)
 
 pub align_line-requires : goal.align_line-requires
 align_line-requires c =
-    let x = shown_is c.args.sheet.now c.args.v.width c.args.t c.requires.in_sheet.0 _ c.line_at-text.ensures c.args.indicator c.requires.in_sheet.1 c.args.cut c.marks_shown-m.result
+    let x = shown_is c.args.sheet.now c.args.v.width c.args.t c.requires.in_sheet.0 _ c.line_at-text.ensures c.args.indicator.now c.requires.in_sheet.1 c.args.cut c.marks_shown-m.result
     c.marks_shown-m.ensures.0 c.marks_shown-m.ensures.1.1 c.marks_shown-m.ensures.1.0 c.shorten-shown.result c.shorten-shown.ensures in
-    let y = shown_spare c.args.sheet.now c.args.v.width c.args.t c.requires.in_sheet.0 _ c.line_at-text.ensures c.args.indicator c.requires.in_sheet.1 c.args.cut c.marks_shown-m.result
+    let y = shown_spare c.args.sheet.now c.args.v.width c.args.t c.requires.in_sheet.0 _ c.line_at-text.ensures c.args.indicator.now c.requires.in_sheet.1 c.args.cut c.marks_shown-m.result
     c.marks_shown-m.ensures.0 c.marks_shown-m.ensures.1.1 c.marks_shown-m.ensures.1.0 c.shorten-shown.result c.shorten-shown.ensures in
     record {
       spare = rw x y;
@@ -54,7 +38,7 @@ align_line-requires c =
 
 pub returns : goal.returns
 returns c =
-    let x = shown_is c.args.sheet.now c.args.v.width c.args.t c.requires.in_sheet.0 _ c.line_at-text.ensures c.args.indicator c.requires.in_sheet.1 c.args.cut c.marks_shown-m.result
+    let x = shown_is c.args.sheet.now c.args.v.width c.args.t c.requires.in_sheet.0 _ c.line_at-text.ensures c.args.indicator.now c.requires.in_sheet.1 c.args.cut c.marks_shown-m.result
     c.marks_shown-m.ensures.0 c.marks_shown-m.ensures.1.1 c.marks_shown-m.ensures.1.0 c.shorten-shown.result c.shorten-shown.ensures in
     record {
       value = c.align_line.ensures.value ∙ ap (λ l. c.args.at + length (area_in c.args.v c.args.t.alignment l)) x;

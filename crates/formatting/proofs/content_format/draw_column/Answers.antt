@@ -1,6 +1,6 @@
 use native.Mathlib.Omega.{arith}
-use mathlib.Core.Path.{sym, ap, ◌∙◌}
-use lib.ListN.{length, take}
+use mathlib.Core.Path.{refl, sym, ap, ◌∙◌}
+use lib.ListN.{length}
 use Rattle.buffer.specs.Put.{put_at, byte_if}
 use Rattle.formatting.specs.Area.{column_piece}
 use Rattle.buffer.proofs.Laws.{two}
@@ -15,8 +15,8 @@ draw_edge-p-requires c = omega (arith, c.requires.last_in_bounds)
 
 pub draw_cell-q-requires : goal.draw_cell-q-requires
 draw_cell-q-requires c =
-    let ind = take c.args.indicator.count c.args.indicator.characters in
-    let z = ap length (piece_is c.args.sheet.now c.args.v c.args.t c.advance-next.result ind c.args.last c.both-cut.result c.both-cut.ensures c.advance-next.ensures) in
+    let ind = c.args.indicator.now in
+    let z = ap length (piece_is c.args.sheet.now c.args.v c.args.t c.advance-next.result ind c.args.last _ refl c.advance-next.ensures) in
     record {
       in_sheet = (c.requires.ready.0.line, c.requires.ready.1);
       t_in_bounds = omega (arith, z, c.requires.last_in_bounds, c.draw_edge-p.ensures.value, c.draw_edge-p.auto.dst);
@@ -24,8 +24,8 @@ draw_cell-q-requires c =
 
 pub returns : goal.returns
 returns c =
-    let ind = take c.args.indicator.count c.args.indicator.characters in
-    let p = piece_is c.args.sheet.now c.args.v c.args.t c.advance-next.result ind c.args.last c.both-cut.result c.both-cut.ensures c.advance-next.ensures in
+    let ind = c.args.indicator.now in
+    let p = piece_is c.args.sheet.now c.args.v c.args.t c.advance-next.result ind c.args.last _ refl c.advance-next.ensures in
     record {
       place = (omega (arith, c.draw_cell-q.ensures.value, c.draw_edge-p.ensures.value, ap length p), c.advance-next.ensures);
       page_after = two c.args.page.now c.args.at (byte_if c.args.joins c.args.junction) (column_piece c.args.sheet.now c.args.v c.args.t ind c.args.last)

@@ -1,10 +1,9 @@
 use native.Mathlib.Omega.{arith}
 use Prim.Native.Nat.{◌-◌, ◌≤◌}
 use mathlib.Core.Path.{refl, sym, ap, ◌∙◌}
-use lib.ListN.{length, take, length-drop}
+use lib.ListN.{length, length-drop}
 use Rattle.table.specs.Walk.{first_row}
 use Rattle.buffer.proofs.Laws.{lent}
-use Rattle.row.specs.Packed.{view_of, pendings_of}
 use Rattle.formatting.specs.Line.{line_bytes}
 use Rattle.formatting.proofs.RowText.{running_begins, running-length, running-room, running-on, running-full, running_ends}
 use Rattle.formatting.proofs.RowText.{stands_less, stands_measurable, line-some, too_long, short_enough}
@@ -20,7 +19,7 @@ most_bytes-most-requires c = (c.requires.sized.small, c.requires.drawable.0.view
 pub loop-more-init : goal.loop-more-init
 loop-more-init c =
     let e = c.enter_row-entered.ensures in
-    running_begins c.args.sheet.now (view_of c.args.columns.now c.args.count) c.args.style (first_row c.args.sheet.now c.args.here) c.args.first
+    running_begins c.args.sheet.now c.args.columns.now c.args.style (first_row c.args.sheet.now c.args.here) c.args.first
     c.requires.drawable.0.views c.args.page.now _ _ e.stands
 
 pub is_last-last-requires : goal.is_last-last-requires
@@ -30,8 +29,8 @@ is_last-last-requires c =
     let t = c.loop-more-test.true in
     omega (
       arith,
-      stands_less c.args.sheet.now (view_of c.args.columns.now c.args.count) r c.requires.drawable.0.views c.loop-more.line c.loop-more.more
-          (pendings_of c.args.plain c.loop-more.state) c.loop-more.invariant.stands t,
+      stands_less c.args.sheet.now c.args.columns.now r c.requires.drawable.0.views c.loop-more.line c.loop-more.more
+          c.loop-more.state c.loop-more.invariant.stands t,
       c.requires.sized.bounded.few,
     )
 
@@ -39,16 +38,16 @@ pub overflow_sub-room : goal.overflow_sub-room
 overflow_sub-room c =
     let e = c.enter_row-entered.ensures in
     let r = first_row c.args.sheet.now c.args.here in
-    running-room c.args.sheet.now (view_of c.args.columns.now c.args.count) c.args.style r c.args.first c.requires.drawable.0.views c.args.page.now c.loop-more.page
-    (pendings_of c.args.plain c.loop-more.state) c.loop-more.more c.loop-more.at c.loop-more.line c.loop-more.invariant
+    running-room c.args.sheet.now c.args.columns.now c.args.style r c.args.first c.requires.drawable.0.views c.args.page.now c.loop-more.page
+    c.loop-more.state c.loop-more.more c.loop-more.at c.loop-more.line c.loop-more.invariant
 
 pub fits_after_all-fits-requires : goal.fits_after_all-fits-requires
 fits_after_all-fits-requires c =
     let e = c.enter_row-entered.ensures in
     let r = first_row c.args.sheet.now c.args.here in
     let t = c.loop-more-test.true in
-    let f = stands_less c.args.sheet.now (view_of c.args.columns.now c.args.count) r c.requires.drawable.0.views c.loop-more.line c.loop-more.more (pendings_of c.args.plain c.loop-more.state) c.loop-more.invariant.stands t in
-    (c.requires.drawable.0, (c.requires.drawable.1.indicator, (omega (arith, f, c.requires.sized.bounded.few), c.requires.sized.small)))
+    let f = stands_less c.args.sheet.now c.args.columns.now r c.requires.drawable.0.views c.loop-more.line c.loop-more.more c.loop-more.state c.loop-more.invariant.stands t in
+    (c.requires.drawable.0, (c.requires.drawable.1.plain, (omega (arith, f, c.requires.sized.bounded.few), c.requires.sized.small)))
 
 pub overflow_sub-result : goal.overflow_sub-result
 overflow_sub-result c =
@@ -60,20 +59,20 @@ pub shape_of-page-then-not-fits : goal.shape_of-page-then-not-fits
 shape_of-page-then-not-fits c =
     let e = c.enter_row-entered.ensures in
     let r = first_row c.args.sheet.now c.args.here in
-    running-length c.args.sheet.now (view_of c.args.columns.now c.args.count) c.args.style r c.args.first c.requires.drawable.0.views c.args.page.now c.loop-more.page
-    (pendings_of c.args.plain c.loop-more.state) c.loop-more.more c.loop-more.at c.loop-more.line c.loop-more.invariant
+    running-length c.args.sheet.now c.args.columns.now c.args.style r c.args.first c.requires.drawable.0.views c.args.page.now c.loop-more.page
+    c.loop-more.state c.loop-more.more c.loop-more.at c.loop-more.line c.loop-more.invariant
 
 pub returns-then-not-fits : goal.returns-then-not-fits
 returns-then-not-fits c =
     let e = c.enter_row-entered.ensures in
     let r = first_row c.args.sheet.now c.args.here in
     let t = c.loop-more-test.true in
-    let m = stands_measurable c.args.sheet.now (view_of c.args.columns.now c.args.count) r c.requires.drawable.0.views c.loop-more.line c.loop-more.more
-    (pendings_of c.args.plain c.loop-more.state) c.loop-more.invariant.stands t c.args.indicator c.requires.drawable.1 c.args.style _ e.limit
+    let m = stands_measurable c.args.sheet.now c.args.columns.now r c.requires.drawable.0.views c.loop-more.line c.loop-more.more
+    c.loop-more.state c.loop-more.invariant.stands t c.args.indicator.now c.requires.drawable.1 c.args.style _ e.limit
     c.is_last-last.result c.is_last-last.ensures c.args.plain c.args.size c.requires.sized in
-    running-full c.args.sheet.now (view_of c.args.columns.now c.args.count) c.args.style r c.args.first c.requires.drawable.0.views c.args.page.now c.loop-more.page
-    (pendings_of c.args.plain c.loop-more.state) c.loop-more.more c.loop-more.at c.loop-more.line c.loop-more.invariant t c.args.indicator c.requires.drawable.1 _ e.limit c.is_last-last.result c.is_last-last.ensures
-    (too_long c.args.plain c.args.size _ _ c.args.count _
+    running-full c.args.sheet.now c.args.columns.now c.args.style r c.args.first c.requires.drawable.0.views c.args.page.now c.loop-more.page
+    c.loop-more.state c.loop-more.more c.loop-more.at c.loop-more.line c.loop-more.invariant t c.args.indicator.now c.requires.drawable.1 _ e.limit c.is_last-last.result c.is_last-last.ensures
+    (too_long c.args.plain c.args.size _ _ (length c.args.columns.now) _
     (omega (arith, c.if-room-most.true, c.most_bytes-most.ensures))
     m.each m.shown (sym c.fits_after_all-fits.ensures ∙ c.if-not-fits.true))
 
@@ -81,26 +80,26 @@ pub slice_bounds-write_line-count : goal.slice_bounds-write_line-count
 slice_bounds-write_line-count c =
     let e = c.enter_row-entered.ensures in
     let r = first_row c.args.sheet.now c.args.here in
-    running-room c.args.sheet.now (view_of c.args.columns.now c.args.count) c.args.style r c.args.first c.requires.drawable.0.views c.args.page.now c.loop-more.page
-    (pendings_of c.args.plain c.loop-more.state) c.loop-more.more c.loop-more.at c.loop-more.line c.loop-more.invariant
+    running-room c.args.sheet.now c.args.columns.now c.args.style r c.args.first c.requires.drawable.0.views c.args.page.now c.loop-more.page
+    c.loop-more.state c.loop-more.more c.loop-more.at c.loop-more.line c.loop-more.invariant
 
 pub slice_bounds-write_line-start : goal.slice_bounds-write_line-start
 slice_bounds-write_line-start c =
     let e = c.enter_row-entered.ensures in
     let r = first_row c.args.sheet.now c.args.here in
-    running-room c.args.sheet.now (view_of c.args.columns.now c.args.count) c.args.style r c.args.first c.requires.drawable.0.views c.args.page.now c.loop-more.page
-    (pendings_of c.args.plain c.loop-more.state) c.loop-more.more c.loop-more.at c.loop-more.line c.loop-more.invariant
+    running-room c.args.sheet.now c.args.columns.now c.args.style r c.args.first c.requires.drawable.0.views c.args.page.now c.loop-more.page
+    c.loop-more.state c.loop-more.more c.loop-more.at c.loop-more.line c.loop-more.invariant
 
 pub write_line-l-requires : goal.write_line-l-requires
 write_line-l-requires c =
     let e = c.enter_row-entered.ensures in
     let r = first_row c.args.sheet.now c.args.here in
     let t = c.loop-more-test.true in
-    let m = stands_measurable c.args.sheet.now (view_of c.args.columns.now c.args.count) r c.requires.drawable.0.views c.loop-more.line c.loop-more.more
-    (pendings_of c.args.plain c.loop-more.state) c.loop-more.invariant.stands t c.args.indicator c.requires.drawable.1 c.args.style _ e.limit
+    let m = stands_measurable c.args.sheet.now c.args.columns.now r c.requires.drawable.0.views c.loop-more.line c.loop-more.more
+    c.loop-more.state c.loop-more.invariant.stands t c.args.indicator.now c.requires.drawable.1 c.args.style _ e.limit
     c.is_last-last.result c.is_last-last.ensures c.args.plain c.args.size c.requires.sized in
-    let w : length (line_bytes c.args.sheet.now (view_of c.args.columns.now c.args.count) (take c.args.indicator.count c.args.indicator.characters)
-    c.args.style (pendings_of c.args.plain c.loop-more.state) c.is_last-last.result)
+    let w : length (line_bytes c.args.sheet.now c.args.columns.now c.args.indicator.now
+    c.args.style c.loop-more.state c.is_last-last.result)
     ≤ length c.loop-more.page - c.loop-more.at =
     elim c.if-room-most.branch [
       | then-room-most+else-not-fits w ↦ short_enough c.args.plain _ _ _ m.shown (sym w.fits_after_all-fits.ensures ∙ w.if-not-fits.false)
@@ -116,11 +115,11 @@ overflow_add-at c =
     let e = c.enter_row-entered.ensures in
     let r = first_row c.args.sheet.now c.args.here in
     let t = c.loop-more-test.true in
-    let m = stands_measurable c.args.sheet.now (view_of c.args.columns.now c.args.count) r c.requires.drawable.0.views c.loop-more.line c.loop-more.more
-    (pendings_of c.args.plain c.loop-more.state) c.loop-more.invariant.stands t c.args.indicator c.requires.drawable.1 c.args.style _ e.limit
+    let m = stands_measurable c.args.sheet.now c.args.columns.now r c.requires.drawable.0.views c.loop-more.line c.loop-more.more
+    c.loop-more.state c.loop-more.invariant.stands t c.args.indicator.now c.requires.drawable.1 c.args.style _ e.limit
     c.is_last-last.result c.is_last-last.ensures c.args.plain c.args.size c.requires.sized in
-    let w : length (line_bytes c.args.sheet.now (view_of c.args.columns.now c.args.count) (take c.args.indicator.count c.args.indicator.characters)
-    c.args.style (pendings_of c.args.plain c.loop-more.state) c.is_last-last.result)
+    let w : length (line_bytes c.args.sheet.now c.args.columns.now c.args.indicator.now
+    c.args.style c.loop-more.state c.is_last-last.result)
     ≤ length c.loop-more.page - c.loop-more.at =
     elim c.if-room-most.branch [
       | then-room-most+else-not-fits w ↦ short_enough c.args.plain _ _ _ m.shown (sym w.fits_after_all-fits.ensures ∙ w.if-not-fits.false)
@@ -130,10 +129,10 @@ overflow_add-at c =
       arith,
       c.write_line-l.ensures.written,
       w,
-      running-room c.args.sheet.now (view_of c.args.columns.now c.args.count) c.args.style r c.args.first c.requires.drawable.0.views c.args.page.now c.loop-more.page
-          (pendings_of c.args.plain c.loop-more.state) c.loop-more.more c.loop-more.at c.loop-more.line c.loop-more.invariant,
-      running-length c.args.sheet.now (view_of c.args.columns.now c.args.count) c.args.style r c.args.first c.requires.drawable.0.views c.args.page.now c.loop-more.page
-          (pendings_of c.args.plain c.loop-more.state) c.loop-more.more c.loop-more.at c.loop-more.line c.loop-more.invariant,
+      running-room c.args.sheet.now c.args.columns.now c.args.style r c.args.first c.requires.drawable.0.views c.args.page.now c.loop-more.page
+          c.loop-more.state c.loop-more.more c.loop-more.at c.loop-more.line c.loop-more.invariant,
+      running-length c.args.sheet.now c.args.columns.now c.args.style r c.args.first c.requires.drawable.0.views c.args.page.now c.loop-more.page
+          c.loop-more.state c.loop-more.more c.loop-more.at c.loop-more.line c.loop-more.invariant,
       c.well_formed,
     )
 
@@ -144,8 +143,8 @@ overflow_add-line c =
     let t = c.loop-more-test.true in
     omega (
       arith,
-      stands_less c.args.sheet.now (view_of c.args.columns.now c.args.count) r c.requires.drawable.0.views c.loop-more.line c.loop-more.more
-          (pendings_of c.args.plain c.loop-more.state) c.loop-more.invariant.stands t,
+      stands_less c.args.sheet.now c.args.columns.now r c.requires.drawable.0.views c.loop-more.line c.loop-more.more
+          c.loop-more.state c.loop-more.invariant.stands t,
       c.requires.sized.bounded.few,
     )
 
@@ -154,11 +153,11 @@ loop-more-smaller c =
     let e = c.enter_row-entered.ensures in
     let r = first_row c.args.sheet.now c.args.here in
     let t = c.loop-more-test.true in
-    let m = stands_measurable c.args.sheet.now (view_of c.args.columns.now c.args.count) r c.requires.drawable.0.views c.loop-more.line c.loop-more.more
-    (pendings_of c.args.plain c.loop-more.state) c.loop-more.invariant.stands t c.args.indicator c.requires.drawable.1 c.args.style _ e.limit
+    let m = stands_measurable c.args.sheet.now c.args.columns.now r c.requires.drawable.0.views c.loop-more.line c.loop-more.more
+    c.loop-more.state c.loop-more.invariant.stands t c.args.indicator.now c.requires.drawable.1 c.args.style _ e.limit
     c.is_last-last.result c.is_last-last.ensures c.args.plain c.args.size c.requires.sized in
-    let w : length (line_bytes c.args.sheet.now (view_of c.args.columns.now c.args.count) (take c.args.indicator.count c.args.indicator.characters)
-    c.args.style (pendings_of c.args.plain c.loop-more.state) c.is_last-last.result)
+    let w : length (line_bytes c.args.sheet.now c.args.columns.now c.args.indicator.now
+    c.args.style c.loop-more.state c.is_last-last.result)
     ≤ length c.loop-more.page - c.loop-more.at =
     elim c.if-room-most.branch [
       | then-room-most+else-not-fits w ↦ short_enough c.args.plain _ _ _ m.shown (sym w.fits_after_all-fits.ensures ∙ w.if-not-fits.false)
@@ -168,12 +167,12 @@ loop-more-smaller c =
       arith,
       c.write_line-l.ensures.written,
       w,
-      line-some c.args.sheet.now (view_of c.args.columns.now c.args.count) r c.requires.drawable.0.views c.loop-more.line c.loop-more.more (pendings_of c.args.plain c.loop-more.state)
-          c.loop-more.invariant.stands t c.args.indicator c.requires.drawable.1 c.args.style _ e.limit c.is_last-last.result c.is_last-last.ensures,
-      running-room c.args.sheet.now (view_of c.args.columns.now c.args.count) c.args.style r c.args.first c.requires.drawable.0.views c.args.page.now c.loop-more.page
-          (pendings_of c.args.plain c.loop-more.state) c.loop-more.more c.loop-more.at c.loop-more.line c.loop-more.invariant,
-      running-length c.args.sheet.now (view_of c.args.columns.now c.args.count) c.args.style r c.args.first c.requires.drawable.0.views c.args.page.now c.loop-more.page
-          (pendings_of c.args.plain c.loop-more.state) c.loop-more.more c.loop-more.at c.loop-more.line c.loop-more.invariant,
+      line-some c.args.sheet.now c.args.columns.now r c.requires.drawable.0.views c.loop-more.line c.loop-more.more c.loop-more.state
+          c.loop-more.invariant.stands t c.args.indicator.now c.requires.drawable.1 c.args.style _ e.limit c.is_last-last.result c.is_last-last.ensures,
+      running-room c.args.sheet.now c.args.columns.now c.args.style r c.args.first c.requires.drawable.0.views c.args.page.now c.loop-more.page
+          c.loop-more.state c.loop-more.more c.loop-more.at c.loop-more.line c.loop-more.invariant,
+      running-length c.args.sheet.now c.args.columns.now c.args.style r c.args.first c.requires.drawable.0.views c.args.page.now c.loop-more.page
+          c.loop-more.state c.loop-more.more c.loop-more.at c.loop-more.line c.loop-more.invariant,
     )
 
 pub loop-more-preserved : goal.loop-more-preserved
@@ -181,17 +180,17 @@ loop-more-preserved c =
     let e = c.enter_row-entered.ensures in
     let t = c.loop-more-test.true in
     let q = first_row c.args.sheet.now c.args.here in
-    let m = stands_measurable c.args.sheet.now (view_of c.args.columns.now c.args.count) q c.requires.drawable.0.views c.loop-more.line c.loop-more.more (pendings_of c.args.plain c.loop-more.state)
-    c.loop-more.invariant.stands t c.args.indicator c.requires.drawable.1 c.args.style _ e.limit c.is_last-last.result c.is_last-last.ensures c.args.plain c.args.size c.requires.sized in
-    let w : length (line_bytes c.args.sheet.now (view_of c.args.columns.now c.args.count) (take c.args.indicator.count c.args.indicator.characters)
-    c.args.style (pendings_of c.args.plain c.loop-more.state) c.is_last-last.result)
+    let m = stands_measurable c.args.sheet.now c.args.columns.now q c.requires.drawable.0.views c.loop-more.line c.loop-more.more c.loop-more.state
+    c.loop-more.invariant.stands t c.args.indicator.now c.requires.drawable.1 c.args.style _ e.limit c.is_last-last.result c.is_last-last.ensures c.args.plain c.args.size c.requires.sized in
+    let w : length (line_bytes c.args.sheet.now c.args.columns.now c.args.indicator.now
+    c.args.style c.loop-more.state c.is_last-last.result)
     ≤ length c.loop-more.page - c.loop-more.at =
     elim c.if-room-most.branch [
       | then-room-most+else-not-fits w ↦ short_enough c.args.plain _ _ _ m.shown (sym w.fits_after_all-fits.ensures ∙ w.if-not-fits.false)
       | else-room-most w ↦ omega (arith, w.if-room-most.false, c.most_bytes-most.ensures, m.most)
     ] in
-    running-on c.args.sheet.now (view_of c.args.columns.now c.args.count) c.args.style q c.args.first c.requires.drawable.0.views c.args.page.now c.loop-more.page
-    (pendings_of c.args.plain c.loop-more.state) c.loop-more.more c.loop-more.at c.loop-more.line c.loop-more.invariant t c.args.indicator c.requires.drawable.1 _ e.limit c.is_last-last.result
+    running-on c.args.sheet.now c.args.columns.now c.args.style q c.args.first c.requires.drawable.0.views c.args.page.now c.loop-more.page
+    c.loop-more.state c.loop-more.more c.loop-more.at c.loop-more.line c.loop-more.invariant t c.args.indicator.now c.requires.drawable.1 _ e.limit c.is_last-last.result
     c.is_last-last.ensures w _ c.write_line-l.new.page _ c.write_line-l.result.more c.has_line-more.result c.write_line-l.result.written c.write_line-l.ensures.page_after refl c.write_line-l.ensures.written c.write_line-l.ensures.after_all.0
     c.write_line-l.ensures.after_all.1 c.has_line-more.ensures
 
@@ -205,12 +204,12 @@ pub shape_of-page : goal.shape_of-page
 shape_of-page c =
     let e = c.enter_row-entered.ensures in
     let r = first_row c.args.sheet.now c.args.here in
-    running-length c.args.sheet.now (view_of c.args.columns.now c.args.count) c.args.style r c.args.first c.requires.drawable.0.views c.args.page.now c.loop-more.page
-    (pendings_of c.args.plain c.loop-more.state) c.loop-more.more c.loop-more.at c.loop-more.line c.loop-more.invariant
+    running-length c.args.sheet.now c.args.columns.now c.args.style r c.args.first c.requires.drawable.0.views c.args.page.now c.loop-more.page
+    c.loop-more.state c.loop-more.more c.loop-more.at c.loop-more.line c.loop-more.invariant
 
 pub returns : goal.returns
 returns c =
     let e = c.enter_row-entered.ensures in
     let r = first_row c.args.sheet.now c.args.here in
-    running_ends c.args.sheet.now (view_of c.args.columns.now c.args.count) c.args.style r c.args.first c.requires.drawable.0.views c.args.page.now c.loop-more.page
-    (pendings_of c.args.plain c.loop-more.state) c.loop-more.more c.loop-more.at c.loop-more.line c.loop-more.invariant c.loop-more-test.false
+    running_ends c.args.sheet.now c.args.columns.now c.args.style r c.args.first c.requires.drawable.0.views c.args.page.now c.loop-more.page
+    c.loop-more.state c.loop-more.more c.loop-more.at c.loop-more.line c.loop-more.invariant c.loop-more-test.false

@@ -1,6 +1,5 @@
 use Rattle.table.specs.Walk.{first_row}
 use Rattle.table.proofs.Walks.{cells_inside}
-use Rattle.row.specs.Packed.{view_of, pendings_of}
 use Rattle.formatting.proofs.RowText.{enters}
 use Rattle.formatting.proofs.content_format.enter_row.Goals as goal
 
@@ -16,7 +15,7 @@ returns c =
     let D = c.requires.0 in
     record {
       limit = c.row-r.ensures.limit;
-      stands = enters c.args.sheet.now (view_of c.args.columns.now c.args.count) (first_row c.args.sheet.now c.args.here) D.views c.args.n
-          (pendings_of c.args.plain c.format_row-found.new.state) c.format_row-found.result c.has_line.result _ (rw c.row-r.ensures.cells at c.format_row-found.ensures.0) c.format_row-found.ensures.1
+      stands = enters c.args.sheet.now c.args.columns.now (first_row c.args.sheet.now c.args.here) D.views c.args.n
+          c.format_row-found.new.state c.format_row-found.result c.has_line.result _ (rw c.row-r.ensures.cells at c.format_row-found.ensures.0) c.format_row-found.ensures.1
           c.row-r.ensures.limit c.has_line.ensures;
     }

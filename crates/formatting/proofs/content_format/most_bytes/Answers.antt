@@ -8,5 +8,5 @@ returns-then-plain c = sym (ap (λ b. most_bytes b c.args.size c.args.count) c.i
 
 pub returns : goal.returns
 returns c =
-    let pairs : c.lesser-pairs.result ≡ min c.args.size (100 * c.args.count) = c.lesser-pairs.ensures in
+    let pairs : c.min-pairs.result ≡ min c.args.size (100 * c.args.count) = c.min-pairs.ensures in
     ap (λ n. c.args.size + n) pairs ∙ sym (ap (λ b. most_bytes b c.args.size c.args.count) c.if-plain.false)

@@ -54,7 +54,7 @@ loop-j-preserved c =
     let f = c.if-not-has_line.false in
     showing-on _ _ ls _ _ _ _ _ _ _ G (sym f ∙ c.has_line.ensures)
     c.loop-j-test.true _ c.advance-u.ensures _
-    (c.both-cut.ensures ∙ ap (λ b. b && c.advance-u.result.line.found) c.is_last.ensures) _ c.shown_pairs-n.ensures
+    (ap (λ b. b && c.advance-u.result.line.found) c.is_last.ensures) _ c.shown_pairs-n.ensures
 
 pub returns : goal.returns
 returns c =

@@ -22,11 +22,11 @@ overflow_sub-result-2 c = shown_less _ c.args.t.line _ c.shorten-shown.result (l
 
 pub returns : goal.returns
 returns c =
-    let x = shown_columns c.args.sheet.now c.args.v.width c.args.t c.requires.0.line _ c.line_at-text.ensures c.args.indicator c.requires.1.0 c.args.cut c.marks_shown-m.result
+    let x = shown_columns c.args.sheet.now c.args.v.width c.args.t c.requires.0.line _ c.line_at-text.ensures c.args.indicator.now c.requires.1.0 c.args.cut c.marks_shown-m.result
     c.marks_shown-m.ensures.0 c.marks_shown-m.ensures.1.1 c.marks_shown-m.ensures.1.0 c.shorten-shown.result c.shorten-shown.ensures in
-    let y = shown_bytes c.args.sheet.now c.args.v.width c.args.t c.requires.0.line _ c.line_at-text.ensures c.args.indicator c.requires.1.0 c.args.cut c.marks_shown-m.result
+    let y = shown_bytes c.args.sheet.now c.args.v.width c.args.t c.requires.0.line _ c.line_at-text.ensures c.args.indicator.now c.requires.1.0 c.args.cut c.marks_shown-m.result
     c.marks_shown-m.ensures.0 c.marks_shown-m.ensures.1.1 c.marks_shown-m.ensures.1.0 c.shorten-shown.result c.shorten-shown.ensures in
-    let z = shown_inside c.args.sheet.now c.args.v.width c.args.t c.requires.0.line _ c.line_at-text.ensures c.args.indicator c.requires.1.0 c.args.cut c.marks_shown-m.result
+    let z = shown_inside c.args.sheet.now c.args.v.width c.args.t c.requires.0.line _ c.line_at-text.ensures c.args.indicator.now c.requires.1.0 c.args.cut c.marks_shown-m.result
     c.marks_shown-m.ensures.0 c.marks_shown-m.ensures.1.1 c.marks_shown-m.ensures.1.0 c.shorten-shown.result c.shorten-shown.ensures in
     let l = line-most c.args.sheet.now c.args.t.line.cursor.lines c.requires.0.line.ends in
     (omega (arith, x.0, y), omega (arith, z, ap length c.line_at-text.ensures, l, c.requires.1.1))

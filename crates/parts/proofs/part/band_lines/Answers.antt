@@ -7,7 +7,7 @@ pub returns-then-here-eq0 : goal.returns-then-here-eq0
 returns-then-here-eq0 c = band-none _ _ _ c.if-here-eq0.true
 
 pub row_lines-requires : goal.row_lines-requires
-row_lines-requires c = drawable _ _ _ c.requires.0 _ c.requires.1 (omega (arith, c.if-here-eq0.false))
+row_lines-requires c = rw c.as_slice-columns.ensures.value (drawable _ _ c.requires.0 _ c.requires.1 (omega (arith, c.if-here-eq0.false)))
 
 pub overflow_add-result : goal.overflow_add-result
 overflow_add-result c =

@@ -6,4 +6,4 @@ pub returns-then-limit-eq0 : goal.returns-then-limit-eq0
 returns-then-limit-eq0 c = limited-none _ _ c.if-limit-eq0.true
 
 pub returns : goal.returns
-returns c = c.lesser.ensures ∙ limited-some _ _ c.if-limit-eq0.false
+returns c = c.min.ensures ∙ limited-some _ _ c.if-limit-eq0.false

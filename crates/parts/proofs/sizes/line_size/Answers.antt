@@ -12,8 +12,8 @@ overflow_add-l c = omega (arith, c.requires.opened.1.1.line_small)
 pub band_line-requires : goal.band_line-requires
 band_line-requires c =
     record {
-      opened = (c.requires.opened.0, (c.requires.opened.0.header_at, header_sized c.args.sheet.now c.args.columns.now c.args.p c.requires.opened.0 c.args.l c.requires.opened.1.1));
-      n_in_bounds = header_there c.args.sheet.now c.args.columns.now c.args.p c.requires.opened.0 c.args.c c.requires.line_in_bounds c.in-Header.is;
+      opened = (c.requires.opened.0, (c.requires.opened.0.header_at, header_sized c.args.sheet.now c.args.p.now c.requires.opened.0 c.args.l c.requires.opened.1.1));
+      n_in_bounds = header_there c.args.sheet.now c.args.p.now c.requires.opened.0 c.args.c c.requires.line_in_bounds c.in-Header.is;
     }
 
 pub overflow_add-l-in-Body : goal.overflow_add-l-in-Body
@@ -26,29 +26,29 @@ band_line-requires-in-Body c =
         c.requires.opened.0,
         (
           c.requires.opened.1.0.rows,
-          body_sized c.args.sheet.now c.args.columns.now c.args.p c.requires.opened.0 c.args.l c.requires.opened.1.1 c.args.c.here c.body_style.result c.requires.opened.1.0.rows
-              c.body_style.ensures,
+          body_sized c.args.sheet.now c.args.p.now c.requires.opened.0 c.args.l c.requires.opened.1.1 c.args.c.here c.body_style-body.result c.requires.opened.1.0.rows
+              c.body_style-body.ensures,
         ),
       );
-      n_in_bounds = body_there c.args.sheet.now c.args.columns.now c.args.p c.requires.opened.0 c.args.c c.requires.line_in_bounds c.body_style.result c.in-Body.is c.body_style.ensures;
+      n_in_bounds = body_there c.args.sheet.now c.args.p.now c.requires.opened.0 c.args.c c.requires.line_in_bounds c.body_style-body.result c.in-Body.is c.body_style-body.ensures;
     }
 
 pub overflow_add-result-in-Bottom : goal.overflow_add-result-in-Bottom
 overflow_add-result-in-Bottom c = omega (arith, c.requires.opened.1.1.border_small)
 
 pub returns-in-Top : goal.returns-in-Top
-returns-in-Top c = top-line c.args.sheet.now c.args.columns.now c.args.p c.requires.opened.0 c.args.c c.requires.line_in_bounds c.args.l c.requires.opened.1.1 c.in-Top.is
+returns-in-Top c = top-line c.args.sheet.now c.args.p.now c.requires.opened.0 c.args.c c.requires.line_in_bounds c.args.l c.requires.opened.1.1 c.in-Top.is
 
 pub returns-in-Header : goal.returns-in-Header
-returns-in-Header c = header-line c.args.sheet.now c.args.columns.now c.args.p c.requires.opened.0 c.args.c c.in-Header.is _ c.band_line.ensures
+returns-in-Header c = header-line c.args.sheet.now c.args.p.now c.requires.opened.0 c.args.c c.in-Header.is _ c.band_line.ensures
 
 pub returns-in-Body : goal.returns-in-Body
 returns-in-Body c =
-    body-line c.args.sheet.now c.args.columns.now c.args.p c.requires.opened.0 c.args.c c.body_style.result c.in-Body.is
-    c.body_style.ensures _ c.band_line-in-Body.ensures
+    body-line c.args.sheet.now c.args.p.now c.requires.opened.0 c.args.c c.body_style-body.result c.in-Body.is
+    c.body_style-body.ensures _ c.band_line-in-Body.ensures
 
 pub returns-in-Bottom : goal.returns-in-Bottom
-returns-in-Bottom c = bottom-line c.args.sheet.now c.args.columns.now c.args.p c.requires.opened.0 c.args.c c.requires.line_in_bounds c.args.l c.requires.opened.1.1 c.in-Bottom.is
+returns-in-Bottom c = bottom-line c.args.sheet.now c.args.p.now c.requires.opened.0 c.args.c c.requires.line_in_bounds c.args.l c.requires.opened.1.1 c.in-Bottom.is
 
 pub returns-in-End : goal.returns-in-End
-returns-in-End c = end_line c.args.sheet.now c.args.columns.now c.args.p c.requires.opened.0 c.args.c c.requires.line_in_bounds c.in-End.is
+returns-in-End c = end_line c.args.sheet.now c.args.p.now c.requires.opened.0 c.args.c c.requires.line_in_bounds c.in-End.is

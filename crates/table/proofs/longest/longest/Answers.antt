@@ -11,7 +11,7 @@ pub overflow_add-at : goal.overflow_add-at
 overflow_add-at c = let r = room _ c.requires in omega (arith, c.header_place-header.ensures)
 
 pub loop-taken-init : goal.loop-taken-init
-loop-taken-init c = pass_begins _ _ _ c.requires c.header_place-header.ensures c.size-rows.ensures.0
+loop-taken-init c = pass_begins _ _ _ c.requires c.header_place-header.ensures c.from-rows.ensures
 
 pub slice_bounds-step-count : goal.slice_bounds-step-count
 slice_bounds-step-count c = omega (arith, pass_inside _ _ c.loop-taken.invariant)
@@ -25,34 +25,34 @@ slice_bounds-step-end c = omega (arith, pass_inside _ _ c.loop-taken.invariant)
 pub step-requires : goal.step-requires
 step-requires c = pass_asks _ _ c.loop-taken.invariant
 
-pub returns-in_default : goal.returns-in_default
-returns-in_default c =
+pub returns : goal.returns
+returns c =
     let i = c.loop-taken.invariant in
-    pass_done _ _ i (is-ended _ _ i _ c.in_default.is c.step.ensures)
+    pass_done _ _ i (is-ended _ _ i c.in_default.ensures)
 
-pub offset_bounds-longest-j : goal.offset_bounds-longest-j
-offset_bounds-longest-j c =
+pub offset_bounds-longest-taken : goal.offset_bounds-longest-taken
+offset_bounds-longest-taken c =
     let i = c.loop-taken.invariant in
-    omega (arith, pass-column _ _ i _ (is-taken _ _ i _ _ c.in-Line.is c.step.ensures))
+    omega (arith, pass-column _ _ i _ (is-taken _ _ i _ c.in-Some.ensures))
 
-pub bounds-longest-j : goal.bounds-longest-j
-bounds-longest-j c =
+pub bounds-longest-taken : goal.bounds-longest-taken
+bounds-longest-taken c =
     let i = c.loop-taken.invariant in
-    pass-column _ _ i _ (is-taken _ _ i _ _ c.in-Line.is c.step.ensures)
+    pass-column _ _ i _ (is-taken _ _ i _ c.in-Some.ensures)
 
-pub overflow_add-at-in-loop-taken : goal.overflow_add-at-in-loop-taken
-overflow_add-at-in-loop-taken c =
+pub overflow_add-at-in-Some : goal.overflow_add-at-in-Some
+overflow_add-at-in-Some c =
     let i = c.loop-taken.invariant in
-    let o = pass-onward _ _ i _ (is-taken _ _ i _ _ c.in-Line.is c.step.ensures) in
+    let o = pass-onward _ _ i _ (is-taken _ _ i _ c.in-Some.ensures) in
     omega (arith, o.1)
 
 pub loop-taken-smaller : goal.loop-taken-smaller
 loop-taken-smaller c =
     let i = c.loop-taken.invariant in
-    let o = pass-onward _ _ i _ (is-taken _ _ i _ _ c.in-Line.is c.step.ensures) in
+    let o = pass-onward _ _ i _ (is-taken _ _ i _ c.in-Some.ensures) in
     omega (arith, o.0, o.1)
 
 pub loop-taken-preserved : goal.loop-taken-preserved
 loop-taken-preserved c =
     let i = c.loop-taken.invariant in
-    pass-again _ _ i _ (is-taken _ _ i _ _ c.in-Line.is c.step.ensures)
+    pass-again _ _ i _ (is-taken _ _ i _ c.in-Some.ensures)

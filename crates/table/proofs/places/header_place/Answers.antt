@@ -10,7 +10,7 @@ pub bounds-sheet-columns : goal.bounds-sheet-columns
 bounds-sheet-columns c = let r = room _ c.requires in omega (arith, c.columns_place-columns.ensures)
 
 pub overflow_add-result-2 : goal.overflow_add-result-2
-overflow_add-result-2 c = let r = room _ c.requires in omega (arith, c.columns_place-columns.ensures, c.size.ensures.0)
+overflow_add-result-2 c = let r = room _ c.requires in omega (arith, c.columns_place-columns.ensures, c.from.ensures)
 
 pub returns : goal.returns
-returns c = header_at _ _ _ c.requires c.columns_place-columns.ensures c.size.ensures.0
+returns c = header_at _ _ _ c.requires c.columns_place-columns.ensures c.from.ensures

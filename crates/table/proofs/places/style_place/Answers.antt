@@ -7,4 +7,4 @@ pub bounds-sheet-5 : goal.bounds-sheet-5
 bounds-sheet-5 c = let r = room _ c.requires in omega arith
 
 pub returns : goal.returns
-returns c = let r = room _ c.requires in omega (arith, c.size.ensures.0, r.style_at)
+returns c = let r = room _ c.requires in omega (arith, c.from.ensures, r.style_at)

@@ -13,4 +13,4 @@ pub overflow_add-result : goal.overflow_add-result
 overflow_add-result c = let h = cell_room _ _ _ c.requires.0 c.requires.1.0 c.requires.1.1 in omega arith
 
 pub returns : goal.returns
-returns c = (cell-headed _ _ _ c.requires.0 _ c.requires.1.0 c.requires.1.1 c.size-lines.ensures.0, omega arith)
+returns c = (cell-headed _ _ _ c.requires.0 _ c.requires.1.0 c.requires.1.1 c.from-lines.ensures, omega arith)

@@ -1,17 +1,12 @@
--- `table::step::longer` meets its contract: a line that can't be longer isn't counted. Assumes nothing.
 use native.Mathlib.Omega.{arith}
-use mathlib.Core.Bool.{false≢true}
 use Rattle.table.proofs.Heads.{line_shorter, line-counted}
 use Rattle.table.proofs.step.longer.Goals as goal
 
-pub returns-then-greater-longest : goal.returns-then-greater-longest
-returns-then-greater-longest c = line_shorter _ c.args.line.now (omega (arith, c.if-greater-longest.true, c.greater.ensures))
+pub returns-then-max-from : goal.returns-then-max-from
+returns-then-max-from c = line_shorter _ c.args.line.now (omega (arith, c.if-max-from.true, c.max.ensures, c.from.ensures))
 
-pub columns-characters-requires : goal.columns-characters-requires
-columns-characters-requires c = (omega arith, (omega arith, λ e. absurd (false≢true e)))
-
-pub overflow_cast-greater : goal.overflow_cast-greater
-overflow_cast-greater c = omega (arith, c.greater-2.ensures, (line-counted c.args.line.now _ c.columns-characters.ensures).1, c.requires)
+pub overflow_cast-max : goal.overflow_cast-max
+overflow_cast-max c = omega (arith, c.max-2.ensures, (line-counted c.args.line.now _ c.columns-characters.ensures).1, c.requires)
 
 pub returns : goal.returns
-returns c = omega (arith, c.greater_u16.ensures, c.greater-2.ensures, (line-counted c.args.line.now _ c.columns-characters.ensures).0)
+returns c = omega (arith, c.max-3.ensures, c.max-2.ensures, (line-counted c.args.line.now _ c.columns-characters.ensures).0)

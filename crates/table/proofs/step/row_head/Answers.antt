@@ -1,4 +1,5 @@
 -- `table::step::row_head` meets its contract. Assumes nothing.
+use Prim.Native.Nat.{◌+◌}
 use native.Mathlib.Omega.{arith}
 use Rattle.table.proofs.Heads.{row_room, row-headed}
 use Rattle.table.proofs.step.row_head.Goals as goal
@@ -17,4 +18,4 @@ overflow_add-result c =
     omega arith
 
 pub returns : goal.returns
-returns c = (row-headed _ _ _ c.requires.0 _ c.requires.1.0 c.requires.1.1.0 c.requires.1.1.1 c.size-cells.ensures.0 c.size-cells.ensures.1, omega arith)
+returns c = (row-headed _ _ _ c.requires.0 _ c.requires.1.0 c.requires.1.1.0 c.requires.1.1.1 c.from-cells.ensures (omega (arith, c.from-cells.ensures, (c.type_inv.rest (c.args.at + 1)).fits)), omega arith)

@@ -15,6 +15,6 @@ overflow_add-result c =
 
 pub returns : goal.returns
 returns c = (
-  section-headed _ _ _ c.requires.0 _ c.requires.1.0 c.requires.1.1.0 c.requires.1.1.1.0 c.requires.1.1.1.1 c.size-rows.ensures.0,
+  section-headed _ _ _ c.requires.0 _ c.requires.1.0 c.requires.1.1.0 c.requires.1.1.1.0 c.requires.1.1.1.1 c.from-rows.ensures,
   omega arith,
 )

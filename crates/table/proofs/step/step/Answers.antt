@@ -1,34 +1,11 @@
 -- `table::step::step` meets its contract. The loop: the same lines are ahead after each head. Assumes nothing.
 use native.Mathlib.Omega.{arith}
 use Prim.Native.Nat.{◌<◌}
-use mathlib.Core.Path.{sym, ◌∙◌}
-use Rattle.table.proofs.Heads.{same_begins, same-again, same_ready, same_inside, head-to, head_nothing, first_narrow, step-takes}
+use Rattle.table.proofs.Heads.{same_begins, same-again, same_ready, same_inside, first_narrow, step-takes}
 use Rattle.table.proofs.step.step.Goals as goal
 
 pub loop-p-init : goal.loop-p-init
 loop-p-init c = (same_begins _ _ c.requires.0, c.requires)
-
-pub pass_head-requires : goal.pass_head-requires
-pass_head-requires c =
-    let i = c.loop-p.invariant in
-    (same_ready _ _ _ _ i.1.0.inside i.0, c.loop-p-test.true)
-
-pub returns-in_default : goal.returns-in_default
-returns-in_default c =
-    let i = c.loop-p.invariant in
-    sym i.0.same ∙ head_nothing _ _ _ _ c.in_default.is c.pass_head.ensures
-
-pub loop-p-smaller : goal.loop-p-smaller
-loop-p-smaller c =
-    let i = c.loop-p.invariant in
-    let t = head-to _ _ _ _ _ c.in-To.is c.pass_head.ensures in
-    omega (arith, t.1, same_inside _ _ _ _ i.1.0.inside (same-again _ _ _ _ _ i.0 t.0))
-
-pub loop-p-preserved : goal.loop-p-preserved
-loop-p-preserved c =
-    let i = c.loop-p.invariant in
-    let t = head-to _ _ _ _ _ c.in-To.is c.pass_head.ensures in
-    (same-again _ _ _ _ _ i.0 t.0, i.1)
 
 pub take_line-requires : goal.take_line-requires
 take_line-requires c =
@@ -37,3 +14,9 @@ take_line-requires c =
 
 pub returns : goal.returns
 returns c = step-takes _ _ _ _ _ c.loop-p.invariant.0 c.take_line.ensures
+
+pub loop-p-smaller : goal.loop-p-smaller
+loop-p-smaller c =
+    let i = c.loop-p.invariant in
+    let t = c.in_ok-p.ensures in
+    omega (arith, t.1, same_inside _ _ _ _ i.1.0.inside (same-again _ _ _ _ _ i.0 t.0))

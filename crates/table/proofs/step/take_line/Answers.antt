@@ -12,7 +12,7 @@ bounds-rest-at c = let h = line_bytes _ _ _ c.requires.0 c.requires.1.0 in omega
 pub overflow_add-end : goal.overflow_add-end
 overflow_add-end c =
     let h = line_bytes _ _ _ c.requires.0 c.requires.1.0 in
-    omega (arith, c.size.ensures.0)
+    omega (arith, c.from.ensures)
 
 pub overflow_sub-j : goal.overflow_sub-j
 overflow_sub-j c = omega (arith, c.requires.0.counted.started c.requires.1.0)
@@ -20,7 +20,7 @@ overflow_sub-j c = omega (arith, c.requires.0.counted.started c.requires.1.0)
 pub slice_bounds-longer-end : goal.slice_bounds-longer-end
 slice_bounds-longer-end c =
     let h = line_bytes _ _ _ c.requires.0 c.requires.1.0 in
-    omega (arith, c.size.ensures.0)
+    omega (arith, c.from.ensures)
 
 pub returns : goal.returns
-returns c = line_taken _ _ _ c.requires.0 _ _ _ c.requires.1.0 c.size.ensures.0 c.longer-found.ensures
+returns c = line_taken _ _ _ c.requires.0 _ _ _ c.requires.1.0 c.from.ensures c.longer-found.ensures

@@ -27,4 +27,4 @@ overflow_add-result-2 c =
     omega arith
 
 pub returns : goal.returns
-returns c = cell_is _ _ c.requires.0 _ _ _ refl refl c.size-left.ensures.0
+returns c = cell_is _ _ c.requires.0 _ _ _ refl refl c.from-left.ensures

@@ -2,11 +2,8 @@
 use Rattle.table.proofs.Walks.{Passing}
 use Rattle.rules.specs.Places.{line_stop, cell_stop}
 use lib.ListN.{length}
-use Prim.Native.Nat.{◌-◌, ◌≤◌}
+use Prim.Native.Nat.{◌≤◌}
 use Rattle.table.proofs.walk.cell_end.Given as goal
 
-abbrev pub invariant-loop-i : goal.invariant-loop-i
-invariant-loop-i l = Passing (line_stop l.sheet) l.n l.i l.p (cell_stop l.sheet l.at) × (cell_stop l.sheet l.at ≤ length l.sheet)
-
-abbrev pub decreases-loop-i : goal.decreases-loop-i
-decreases-loop-i l = l.n - l.i
+abbrev pub invariant-loop : goal.invariant-loop
+invariant-loop l = Passing (line_stop l.sheet) l.lines l.counter l.p (cell_stop l.sheet l.at) × (cell_stop l.sheet l.at ≤ length l.sheet)

@@ -11,4 +11,4 @@ pub overflow_add-result : goal.overflow_add-result
 overflow_add-result c = let r = room _ c.requires in omega (arith, c.header_place-place.ensures)
 
 pub returns : goal.returns
-returns c = header_is _ _ _ c.requires c.header_place-place.ensures c.size-left.ensures.0
+returns c = header_is _ _ _ c.requires c.header_place-place.ensures c.from-left.ensures

@@ -16,4 +16,4 @@ pub slice_bounds-result-end : goal.slice_bounds-result-end
 slice_bounds-result-end c = let h = line-room _ _ c.requires.0 c.requires.1 in omega arith
 
 pub returns : goal.returns
-returns c = line_is _ _ c.requires.0 _ c.size.ensures.0
+returns c = line_is _ _ c.requires.0 _ c.from.ensures

@@ -1,7 +1,6 @@
 -- `table::walk::line_end` meets its contract. Assumes nothing.
 use Rattle.rules.specs.Places.{line_stop}
 use native.Mathlib.Omega.{arith}
-use borrow.Author.Rules.{rules}
 use Rattle.table.proofs.walk.line_end.Goals as goal
 
 pub overflow_add-result : goal.overflow_add-result
@@ -11,10 +10,6 @@ overflow_add-result c = omega arith
 pub bounds-sheet-at : goal.bounds-sheet-at
 unfolding line_stop
 bounds-sheet-at c = omega arith
-
-pub size-requires : goal.size-requires
-unfolding line_stop
-size-requires c = search rules
 
 pub overflow_add-result-2 : goal.overflow_add-result-2
 unfolding line_stop

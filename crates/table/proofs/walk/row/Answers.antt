@@ -16,4 +16,4 @@ pub overflow_add-result : goal.overflow_add-result
 overflow_add-result c = let h = row_room _ _ c.requires.0 c.requires.1 in omega arith
 
 pub returns : goal.returns
-returns c = row_is _ _ c.requires.0 _ _ c.size-limit.ensures.0 c.size-left.ensures.0
+returns c = row_is _ _ c.requires.0 _ _ c.from-limit.ensures c.from-left.ensures

@@ -13,19 +13,19 @@ bounds-sheet-at c = let h = row-onward c.args.sheet.now c.args.at in omega arith
 pub overflow_add-p : goal.overflow_add-p
 overflow_add-p c = let h = row-onward c.args.sheet.now c.args.at in omega arith
 
-pub loop-i-init : goal.loop-i-init
-loop-i-init c = (row_begin _ _ _ c.size-n.ensures.0, c.requires)
+pub loop-init : goal.loop-init
+loop-init c = (row_begin _ _ _ c.from-cells.ensures, c.requires)
 
 pub cell_end-p-requires : goal.cell_end-p-requires
 cell_end-p-requires c =
-    let h = passing_inside _ _ _ _ _ (cells-onward _) c.loop-i-test.true c.loop-i.invariant.0 in
-    omega (arith, c.loop-i.invariant.1)
+    let h = passing_inside _ _ _ _ _ (cells-onward _) c.loop-test.true c.loop.invariant.0 in
+    omega (arith, c.loop.invariant.1)
 
-pub loop-i-preserved : goal.loop-i-preserved
-loop-i-preserved c = (
-  passing-again _ _ _ _ _ _ c.loop-i-test.true c.loop-i.invariant.0 c.cell_end-p.ensures,
-  c.loop-i.invariant.1,
+pub loop-preserved : goal.loop-preserved
+loop-preserved c = (
+  passing-again _ _ _ _ _ _ c.loop-test.true c.loop.invariant.0 c.cell_end-p.ensures,
+  c.loop.invariant.1,
 )
 
 pub returns : goal.returns
-returns c = passing_done _ _ _ _ _ c.loop-i-test.false c.loop-i.invariant.0
+returns c = passing_done _ _ _ _ _ c.loop-test.false c.loop.invariant.0

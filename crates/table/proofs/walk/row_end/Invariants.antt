@@ -2,11 +2,8 @@
 use Rattle.table.proofs.Walks.{Passing}
 use Rattle.rules.specs.Places.{cell_stop, row_stop}
 use lib.ListN.{length}
-use Prim.Native.Nat.{◌-◌, ◌≤◌}
+use Prim.Native.Nat.{◌≤◌}
 use Rattle.table.proofs.walk.row_end.Given as goal
 
-abbrev pub invariant-loop-i : goal.invariant-loop-i
-invariant-loop-i l = Passing (cell_stop l.sheet) l.n l.i l.p (row_stop l.sheet l.at) × (row_stop l.sheet l.at ≤ length l.sheet)
-
-abbrev pub decreases-loop-i : goal.decreases-loop-i
-decreases-loop-i l = l.n - l.i
+abbrev pub invariant-loop : goal.invariant-loop
+invariant-loop l = Passing (cell_stop l.sheet) l.cells l.counter l.p (row_stop l.sheet l.at) × (row_stop l.sheet l.at ≤ length l.sheet)

@@ -27,4 +27,4 @@ overflow_add-result c =
     omega arith
 
 pub returns : goal.returns
-returns c = rows_are _ _ _ c.loop-c.invariant.0 (sym (rows_none _ _ c.loop-c-test.false) ∙ c.loop-c.invariant.1) c.size-left.ensures.0
+returns c = rows_are _ _ _ c.loop-c.invariant.0 (sym (rows_none _ _ c.loop-c-test.false) ∙ c.loop-c.invariant.1) c.from-left.ensures
