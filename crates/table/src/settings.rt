@@ -1,9 +1,9 @@
 // What an accepted sheet says of the whole table, by value.
 ghost use Rattle.std.specs.Prelude.{◌≡◌, ◌+◌, ◌<◌, length};
 ghost use Rattle.rules.specs.Places.{word_at, width_here, column_here};
-ghost use Rattle.table.specs.Held.{IsAccepted, table_of, settings_of, columns_of};
+ghost use Rattle.table.specs.Held.{table_of, settings_of, columns_of};
 
-use super::places;
+use super::accepted::AcceptedSheet;
 use super::records::{Columns, Settings};
 use rules::{Column, MOST_COLUMNS, STYLE_CHARACTERS, Width};
 
@@ -13,38 +13,6 @@ fn word_at(sheet: &[u8], at: usize) -> u16
     ensures { result ≡ word_at sheet.now at }
 {
     u16::from_le_bytes([sheet[at], sheet[at + 1]])
-}
-
-// Arrangement, target and table delimiter stand at fixed places, so no byte before them is read.
-pub fn settings(sheet: &[u8]) -> Settings
-    requires { IsAccepted sheet.now }
-    ensures { result ≡ settings_of (table_of sheet.now) }
-{
-    Settings {
-        arrangement: sheet[1],
-        target: word_at(sheet, 2),
-        delimiter: sheet[4],
-    }
-}
-
-// The indicator, a part of the sheet.
-pub fn indicator(sheet: &[u8]) -> &[u8]
-    requires { IsAccepted sheet.now }
-    ensures { result.now ≡ (table_of sheet.now).indicator }
-{
-    let end = 6 + usize::from(sheet[5]);
-    &sheet[6..end]
-}
-
-// The style's characters, in the order of the record `TableStyle`.
-pub fn style(sheet: &[u8]) -> [u8; STYLE_CHARACTERS]
-    requires { IsAccepted sheet.now }
-    ensures { result ≡ (table_of sheet.now).style }
-{
-    let first = places::style_place(sheet) + 1;
-    let mut characters = [0; STYLE_CHARACTERS];
-    characters.copy_from_slice(&sheet[first..first + STYLE_CHARACTERS]);
-    characters
 }
 
 fn width_at(sheet: &[u8], at: usize) -> Width
@@ -85,16 +53,46 @@ const NONE: Column = Column {
     second: Width { unit: 0, value: 0 },
 };
 
-// The columns are copied once: widths and drawing ask for them again and again.
-pub fn columns(sheet: &[u8]) -> Columns
-    requires { IsAccepted sheet.now }
-    ensures { result ≡ columns_of (table_of sheet.now) }
-{
-    let place = places::columns_place(sheet);
-    let count = usize::from(sheet[place]);
-    let mut each = [NONE; MOST_COLUMNS];
-    for i in 0..count {
-        each[i] = column_at(sheet, place + 1 + 11 * i);
+impl<'a> AcceptedSheet<'a> {
+    // Arrangement, target and table delimiter stand at fixed places, so no byte before them is read.
+    pub fn settings(&self) -> Settings
+        ensures { result ≡ settings_of (table_of self.now.bytes.now) }
+    {
+        Settings {
+            arrangement: self.bytes[1],
+            target: word_at(self.bytes, 2),
+            delimiter: self.bytes[4],
+        }
     }
-    Columns { count, each }
+
+    // The indicator, a part of the sheet.
+    pub fn indicator(&self) -> &'a [u8]
+        ensures { result.now ≡ (table_of self.now.bytes.now).indicator }
+    {
+        let end = 6 + usize::from(self.bytes[5]);
+        &self.bytes[6..end]
+    }
+
+    // The style's characters, in the order of the record `TableStyle`.
+    pub fn style(&self) -> [u8; STYLE_CHARACTERS]
+        ensures { result ≡ (table_of self.now.bytes.now).style }
+    {
+        let first = self.style_place() + 1;
+        let mut characters = [0; STYLE_CHARACTERS];
+        characters.copy_from_slice(&self.bytes[first..first + STYLE_CHARACTERS]);
+        characters
+    }
+
+    // The columns are copied once: widths and drawing ask for them again and again.
+    pub fn columns(&self) -> Columns
+        ensures { result ≡ columns_of (table_of self.now.bytes.now) }
+    {
+        let place = self.columns_place();
+        let count = usize::from(self.bytes[place]);
+        let mut each = [NONE; MOST_COLUMNS];
+        for i in 0..count {
+            each[i] = column_at(self.bytes, place + 1 + 11 * i);
+        }
+        Columns { count, each }
+    }
 }

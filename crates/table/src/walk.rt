@@ -1,10 +1,10 @@
 // Rows, cells and lines of an accepted sheet, one after another. What is still to come is a position and a count; no text is copied.
 ghost use Rattle.std.specs.Prelude.{◌≡◌, ◌<◌, ◌≤◌, length};
 ghost use Rattle.rules.specs.Places.{line_stop, cell_stop, row_stop, rows_place};
-ghost use Rattle.table.specs.Held.{IsAccepted, table_of};
+ghost use Rattle.table.specs.Held.{table_of};
 ghost use Rattle.table.specs.Walk.{rows_in, rows_end, cells_end, lines_end, first_line, RowIs, CellIs, RowsNext, CellsNext, CellsSkipped, LinesNext};
 
-use super::places;
+use super::accepted::AcceptedSheet;
 use super::records::{Cell, Cells, Lines, Row, Rows};
 
 // Where the line at `at` ends.
@@ -131,32 +131,33 @@ pub fn next_line(sheet: &[u8], c: Lines) -> Lines
     }
 }
 
-// The header: no row, or one.
-pub fn header(sheet: &[u8]) -> Rows
-    requires { IsAccepted sheet.now }
-    ensures { (rows_in sheet.now result ≡ (table_of sheet.now).header) × (rows_end sheet.now result ≡ rows_place sheet.now) }
-{
-    let place = places::header_place(sheet);
-    let left = usize::from(sheet[place]);
-    Rows {
-        at: place + 1,
-        left,
+impl<'a> AcceptedSheet<'a> {
+    // The header: no row, or one.
+    pub fn header(&self) -> Rows
+        ensures { (rows_in self.now.bytes.now result ≡ (table_of self.now.bytes.now).header) × (rows_end self.now.bytes.now result ≡ rows_place self.now.bytes.now) }
+    {
+        let place = self.header_place();
+        let left = usize::from(self.bytes[place]);
+        Rows {
+            at: place + 1,
+            left,
+        }
     }
-}
 
-// The rows, which stand behind what is left of the header.
-pub fn rows(sheet: &[u8], header: Rows) -> Rows
-    requires { IsAccepted sheet.now × (rows_end sheet.now header ≡ rows_place sheet.now) }
-    ensures { (rows_in sheet.now result ≡ (table_of sheet.now).rows) × (rows_end sheet.now result ≡ length sheet.now) }
-{
-    let mut c = header;
-    while 0 < c.left {
-        c = next_row(sheet, c);
-    }
-    let place = c.at;
-    let left = usize::from(sheet[place]);
-    Rows {
-        at: place + 1,
-        left,
+    // The rows, which stand behind what is left of the header.
+    pub fn rows(&self, header: Rows) -> Rows
+        requires { rows_end self.now.bytes.now header ≡ rows_place self.now.bytes.now }
+        ensures { (rows_in self.now.bytes.now result ≡ (table_of self.now.bytes.now).rows) × (rows_end self.now.bytes.now result ≡ length self.now.bytes.now) }
+    {
+        let mut c = header;
+        while 0 < c.left {
+            c = next_row(self.bytes, c);
+        }
+        let place = c.at;
+        let left = usize::from(self.bytes[place]);
+        Rows {
+            at: place + 1,
+            left,
+        }
     }
 }

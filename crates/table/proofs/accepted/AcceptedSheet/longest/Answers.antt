@@ -1,17 +1,17 @@
--- `table::longest::longest` meets its contract. The loop: the steps so far. Assumes nothing.
+-- `accepted::AcceptedSheet::longest` meets its contract. The loop: the steps so far. Assumes nothing.
 use native.Mathlib.Omega.{arith}
 use Rattle.table.proofs.Held.{room}
 use Rattle.table.proofs.Passes.{pass_begins, pass_inside, pass_asks, is-taken, is-ended, pass-column, pass-onward, pass-again, pass_done}
-use Rattle.table.proofs.longest.longest.Goals as goal
+use Rattle.table.proofs.accepted.AcceptedSheet.longest.Goals as goal
 
-pub bounds-sheet-header : goal.bounds-sheet-header
-bounds-sheet-header c = let r = room _ c.requires in omega (arith, c.header_place-header.ensures)
+pub bounds-self-header : goal.bounds-self-header
+bounds-self-header c = let r = room _ c.args.self.now.accepted in omega (arith, c.header_place-header.ensures)
 
 pub overflow_add-at : goal.overflow_add-at
-overflow_add-at c = let r = room _ c.requires in omega (arith, c.header_place-header.ensures)
+overflow_add-at c = let r = room _ c.args.self.now.accepted in omega (arith, c.header_place-header.ensures)
 
 pub loop-taken-init : goal.loop-taken-init
-loop-taken-init c = pass_begins _ _ _ c.requires c.header_place-header.ensures c.from-rows.ensures
+loop-taken-init c = pass_begins _ _ _ c.args.self.now.accepted c.header_place-header.ensures c.from-rows.ensures
 
 pub slice_bounds-step-count : goal.slice_bounds-step-count
 slice_bounds-step-count c = omega (arith, pass_inside _ _ c.loop-taken.invariant)
