@@ -6,15 +6,16 @@ ghost use Rattle.std.specs.Prelude.{◌≡◌, ℕ, ◌+◌, ◌<◌, max, unwra
 ghost use Rattle.rules.specs.Text.{or_else};
 ghost use Rattle.rules.specs.Sheet.{column_at};
 ghost use Rattle.rules.specs.Widths.{shorter_by3, longest_part};
-ghost use Rattle.table.specs.Held.{IsAccepted, table_of};
+ghost use Rattle.table.specs.Held.{table_of};
 ghost use Rattle.table.specs.Walk.{lines_in};
 ghost use Rattle.content_split.specs.Cut.{Sound};
 ghost use Rattle.after_split.specs.Known.{LinesKnown, CellsKnown, RowsKnown};
 ghost use Rattle.after_split.specs.Trial.{of_line, of_lines, Enough, RowTried, RowsTried};
 
 use rules::Column;
+use table::accepted::AcceptedSheet;
 use table::records::{Cells, Lines, Rows};
-use table::{settings, walk};
+use table::walk;
 
 // The longest part that was found, and where the walk stands.
 #[derive(Clone, Copy)]
@@ -35,11 +36,10 @@ fn set(delimiter: u8) -> Option<u8>
 }
 
 // Where a cell sets no delimiter: the column's, else the table's, else a blank.
-fn delimiter(sheet: &[u8], c: &Column) -> u8
-    requires { IsAccepted sheet.now }
-    ensures { result ≡ or_else c.now.delimiter (or_else (table_of sheet.now).delimiter 32) }
+fn delimiter(sheet: &AcceptedSheet<'_>, c: &Column) -> u8
+    ensures { result ≡ or_else c.now.delimiter (or_else (table_of sheet.now.bytes.now).delimiter 32) }
 {
-    let table = settings::settings(sheet);
+    let table = sheet.settings();
     set(c.delimiter).unwrap_or(set(table.delimiter).unwrap_or(b' '))
 }
 
@@ -169,14 +169,19 @@ fn longest_part_of_rows(
 }
 
 // The longest part of the column's lines, over header and rows, split at the average; or one that saves too little as well.
-pub fn longest_line_after_split(sheet: &[u8], c: &Column, column: usize, average: u16) -> u16
-    requires { IsAccepted sheet.now × (c.now ≡ column_at (table_of sheet.now) column) }
-    ensures { shorter_by3 result average ≡ shorter_by3 (longest_part (table_of sheet.now) column average) average }
+pub fn longest_line_after_split(
+    sheet: &AcceptedSheet<'_>,
+    c: &Column,
+    column: usize,
+    average: u16,
+) -> u16
+    requires { c.now ≡ column_at (table_of sheet.now.bytes.now) column }
+    ensures { shorter_by3 result average ≡ shorter_by3 (longest_part (table_of sheet.now.bytes.now) column average) average }
 {
     let otherwise = delimiter(sheet, c);
     let a = usize::from(average);
-    let header = walk::header(sheet);
-    let first = longest_part_of_rows(sheet, header, column, a, otherwise);
+    let header = sheet.header();
+    let first = longest_part_of_rows(sheet.bytes, header, column, a, otherwise);
     if saves_too_little(a, first.longest) {
         return first.longest as u16;
     }
@@ -184,7 +189,7 @@ pub fn longest_line_after_split(sheet: &[u8], c: &Column, column: usize, average
         at: first.end,
         left: 0,
     };
-    let rows = walk::rows(sheet, behind);
-    let others = longest_part_of_rows(sheet, rows, column, a, otherwise);
+    let rows = sheet.rows(behind);
+    let others = longest_part_of_rows(sheet.bytes, rows, column, a, otherwise);
     first.longest.max(others.longest) as u16
 }

@@ -8,13 +8,14 @@ ghost use Rattle.arrangement.specs.Arrange.{dynamic, started};
 ghost use Rattle.arrangement.specs.Describes.{Describes};
 ghost use Rattle.rules.specs.Sheet.{most_columns};
 ghost use Rattle.rules.specs.Widths.{within_average, shorter_by3, longest_part};
-ghost use Rattle.table.specs.Held.{IsAccepted, table_of};
+ghost use Rattle.table.specs.Held.{table_of};
 
 use constraint::column_set::ColumnSet;
 use constraint::{Layout, State};
 use rules::{Column, MOST_COLUMNS};
 use style::column;
 use style::column::{ConstraintWidth, ContentWidth};
+use table::accepted::AcceptedSheet;
 
 // What column i takes off the remaining width: its padding, and its width if it is decided.
 fn charge(t: &Layout, s: &State, i: usize, r: u16) -> u16
@@ -147,15 +148,15 @@ impl Step for FitsAverage {
 
 #[derive(Drop)]
 struct AfterSplit<'a> {
-    sheet: &'a [u8],
+    sheet: &'a AcceptedSheet<'a>,
 }
 
 impl<'a> Step for AfterSplit<'a> {
-    ghost fits = { λ step t. IsAccepted step.sheet.now × Describes t (table_of step.sheet.now) };
+    ghost fits = { λ step t. Describes t (table_of step.sheet.now.bytes.now) };
 
     ghost ended = { λ s. false };
 
-    ghost rule = { λ step. split_rule (longest_part (table_of step.sheet.now)) };
+    ghost rule = { λ step. split_rule (longest_part (table_of step.sheet.now.bytes.now)) };
 
     fn has_ended(&self, _s: &State) -> bool {
         false
@@ -216,9 +217,9 @@ fn find_columns_that_fit_into_average(t: &Layout, s: &mut State)
 }
 
 // Step 3. A column that needs less than the average once its lines are split leaves the others more.
-fn optimize_space_after_split(sheet: &[u8], t: &Layout, s: &mut State)
-    requires { IsAccepted sheet.now × Describes t.now (table_of sheet.now) }
-    ensures { s.new ≡ step3 (longest_part (table_of sheet.now)) t.now s.old }
+fn optimize_space_after_split(sheet: &AcceptedSheet<'_>, t: &Layout, s: &mut State)
+    requires { Describes t.now (table_of sheet.now.bytes.now) }
+    ensures { s.new ≡ step3 (longest_part (table_of sheet.now.bytes.now)) t.now s.old }
 {
     repeat(&AfterSplit { sheet }, t, s);
 }
@@ -236,9 +237,9 @@ pub struct Course {
 }
 
 // The widths from the first step on, which must make up the target as well as they can.
-pub fn arrange(sheet: &[u8], t: &Layout, mut s: State) -> Course
-    requires { IsAccepted sheet.now × Describes t.now (table_of sheet.now) × (s ≡ started t.now) }
-    ensures { result ≡ dynamic (longest_part (table_of sheet.now)) t.now s }
+pub fn arrange(sheet: &AcceptedSheet<'_>, t: &Layout, mut s: State) -> Course
+    requires { Describes t.now (table_of sheet.now.bytes.now) × (s ≡ started t.now) }
+    ensures { result ≡ dynamic (longest_part (table_of sheet.now.bytes.now)) t.now s }
 {
     s.remaining = remaining_width(t, &s);
     let first = s.decided;

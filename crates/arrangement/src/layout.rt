@@ -1,7 +1,7 @@
 // What the widths of a sheet's columns depend on, read from it once.
 ghost use Rattle.std.specs.Prelude.{◌≡◌, ◌+◌, ◌<◌};
 ghost use Rattle.rules.specs.Style.{style_characters};
-ghost use Rattle.table.specs.Held.{IsAccepted, table_of};
+ghost use Rattle.table.specs.Held.{table_of};
 ghost use Rattle.arrangement.specs.Describes.{Describes};
 ghost use Rattle.arrangement.specs.Widths.{line_from, content_from, style_from};
 
@@ -11,7 +11,7 @@ use rules::{
 };
 use style::table::ContentArrangement;
 use style::table_style::{ContentLineStyle, LineStyle, TableStyle};
-use table::{longest, settings};
+use table::accepted::AcceptedSheet;
 
 fn line_from(b: [u8; STYLE_CHARACTERS], k: usize) -> LineStyle
     requires { k + 3 < style_characters }
@@ -57,15 +57,14 @@ pub fn style_from(b: [u8; STYLE_CHARACTERS]) -> TableStyle
 }
 
 // The settings and columns by value, so that a changed copy of them can be arranged as well.
-pub fn layout(sheet: &[u8]) -> Layout
-    requires { IsAccepted sheet.now }
-    ensures { Describes result (table_of sheet.now) }
+pub fn layout(sheet: &AcceptedSheet<'_>) -> Layout
+    ensures { Describes result (table_of sheet.now.bytes.now) }
 {
-    let head = settings::settings(sheet);
-    let found = settings::columns(sheet);
+    let head = sheet.settings();
+    let found = sheet.columns();
     let columns = found.each;
-    let style = style_from(settings::style(sheet));
-    let longest = longest::longest(sheet);
+    let style = style_from(sheet.style());
+    let longest = sheet.longest();
     Layout {
         arrangement: ContentArrangement::from(head.arrangement),
         target: head.target,

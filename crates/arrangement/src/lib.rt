@@ -8,7 +8,7 @@ pub mod layout;
 ghost use Rattle.std.specs.Prelude.{◌≡◌, ◌≤◌};
 ghost use Rattle.rules.specs.Sheet.{most_columns};
 ghost use Rattle.rules.specs.Widths.{longest_part};
-ghost use Rattle.table.specs.Held.{IsAccepted, table_of};
+ghost use Rattle.table.specs.Held.{table_of};
 ghost use Rattle.arrangement.specs.Arrange.{started, plainly, arranged};
 ghost use Rattle.arrangement.specs.Describes.{Describes};
 ghost use Rattle.arrangement.specs.Widths.{marked, widths_from};
@@ -20,6 +20,7 @@ use dynamic::Course;
 use rules::MOST_COLUMNS;
 use style::column;
 use style::table::ContentArrangement;
+use table::accepted::AcceptedSheet;
 
 // Content widths and hidden columns: the first `count` are the sheet's, past them they are 0 and not hidden. The arrays are those of the C
 // interface's record.
@@ -63,9 +64,9 @@ fn untargeted(first: ColumnSet, state: State) -> Course
 }
 
 // A target is made up only where there is one and the arrangement isn't `Disabled`.
-fn arrange(sheet: &[u8], t: &Layout) -> Course
-    requires { IsAccepted sheet.now × Describes t.now (table_of sheet.now) }
-    ensures { result ≡ arranged (longest_part (table_of sheet.now)) t.now }
+fn arrange(sheet: &AcceptedSheet<'_>, t: &Layout) -> Course
+    requires { Describes t.now (table_of sheet.now.bytes.now) }
+    ensures { result ≡ arranged (longest_part (table_of sheet.now.bytes.now)) t.now }
 {
     let mut s = start(t);
     if t.target == 0 || t.arrangement == ContentArrangement::Disabled {
@@ -108,9 +109,8 @@ pub struct Found {
 }
 
 // One run for the widths and for what is told of them.
-pub fn arrange_sheet(sheet: &[u8]) -> Found
-    requires { IsAccepted sheet.now }
-    ensures { FoundIs (table_of sheet.now) result }
+pub fn arrange_sheet(sheet: &AcceptedSheet<'_>) -> Found
+    ensures { FoundIs (table_of sheet.now.bytes.now) result }
 {
     let layout = layout::layout(sheet);
     let course = arrange(sheet, &layout);

@@ -4,7 +4,7 @@
 ghost use Rattle.std.specs.Prelude.{◌≡◌, ◌≤◌, ◌<◌, pos, ◌-ℤ◌};
 ghost use Rattle.rules.specs.Limits.{longest_line};
 ghost use Rattle.rules.specs.Sheet.{most_columns};
-ghost use Rattle.table.specs.Held.{IsAccepted, table_of};
+ghost use Rattle.table.specs.Held.{table_of};
 ghost use Rattle.constraint.specs.Widths.{bound, visible};
 ghost use Rattle.width_steps.specs.Steps.{untargeted_by, fitted_by, targeted_by, step_by, steps_by, widened_by, widened_all_by, report_of};
 
@@ -15,6 +15,7 @@ use rules::{Column, MOST_COLUMNS, WidthStep};
 use style::column;
 use style::column::{ConstraintWidth, ContentWidth};
 use style::table::ContentArrangement;
+use table::accepted::AcceptedSheet;
 
 // Padding isn't counted in this test.
 fn untargeted_step(n: ContentWidth, b: Option<ConstraintWidth>) -> WidthStep
@@ -118,9 +119,8 @@ pub struct Report {
 }
 
 // One run finds the widths and the report.
-pub fn explain(sheet: &[u8]) -> Report
-    requires { IsAccepted sheet.now }
-    ensures { result ≡ report_of (table_of sheet.now) }
+pub fn explain(sheet: &AcceptedSheet<'_>) -> Report
+    ensures { result ≡ report_of (table_of sheet.now.bytes.now) }
 {
     let found = arrangement::arrange_sheet(sheet);
     let t = &found.layout;

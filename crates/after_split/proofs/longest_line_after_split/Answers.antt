@@ -8,8 +8,8 @@ use Rattle.after_split.proofs.longest_line_after_split.Goals as goal
 
 pub longest_part_of_rows-first-requires : goal.longest_part_of_rows-first-requires
 longest_part_of_rows-first-requires c =
-    let delimiter = otherwise_is (table_of c.args.sheet.now) c.args.column _ _ c.requires.1 c.delimiter-otherwise.ensures in
-    header_known _ _ _ _ c.requires.0 delimiter c.header-header.ensures.0 c.header-header.ensures.1
+    let delimiter = otherwise_is (table_of c.args.sheet.now.bytes.now) c.args.column _ _ c.requires c.delimiter-otherwise.ensures in
+    header_known _ _ _ _ c.args.sheet.now.accepted delimiter c.header-header.ensures.0 c.header-header.ensures.1
 
 pub overflow_cast-result : goal.overflow_cast-result
 overflow_cast-result c =
@@ -19,21 +19,20 @@ overflow_cast-result c =
 
 pub returns-then-saves_too_little : goal.returns-then-saves_too_little
 returns-then-saves_too_little c =
-    let column = c.requires.1 in
-    let delimiter = otherwise_is (table_of c.args.sheet.now) c.args.column _ _ column c.delimiter-otherwise.ensures in
+    let column = c.requires in
+    let delimiter = otherwise_is (table_of c.args.sheet.now.bytes.now) c.args.column _ _ column c.delimiter-otherwise.ensures in
     rw (← c.from-a.ensures) (tried_header _ _ _ _ _ _ c.longest_part_of_rows-first.ensures _ c.header-header.ensures.0 delimiter _ c.saves_too_little.ensures
     c.if-saves_too_little.true)
 
 pub rows-rows-requires : goal.rows-rows-requires
 rows-rows-requires c =
-    let accepted = c.requires.0 in
     let found = c.longest_part_of_rows-first.ensures in
-    (accepted, header-behind _ _ _ _ _ _ _ c.saves_too_little.ensures c.if-saves_too_little.false found c.header-header.ensures.1)
+    header-behind _ _ _ _ _ _ _ c.saves_too_little.ensures c.if-saves_too_little.false found c.header-header.ensures.1
 
 pub longest_part_of_rows-others-requires : goal.longest_part_of_rows-others-requires
 longest_part_of_rows-others-requires c =
-    let delimiter = otherwise_is (table_of c.args.sheet.now) c.args.column _ _ c.requires.1 c.delimiter-otherwise.ensures in
-    all_known _ _ _ _ c.requires.0 delimiter c.rows-rows.ensures.0 c.rows-rows.ensures.1
+    let delimiter = otherwise_is (table_of c.args.sheet.now.bytes.now) c.args.column _ _ c.requires c.delimiter-otherwise.ensures in
+    all_known _ _ _ _ c.args.sheet.now.accepted delimiter c.rows-rows.ensures.0 c.rows-rows.ensures.1
 
 pub overflow_cast-result-2 : goal.overflow_cast-result-2
 overflow_cast-result-2 c =
@@ -44,8 +43,8 @@ overflow_cast-result-2 c =
 
 pub returns : goal.returns
 returns c =
-    let column = c.requires.1 in
-    let delimiter = otherwise_is (table_of c.args.sheet.now) c.args.column _ _ column c.delimiter-otherwise.ensures in
+    let column = c.requires in
+    let delimiter = otherwise_is (table_of c.args.sheet.now.bytes.now) c.args.column _ _ column c.delimiter-otherwise.ensures in
     let others = c.longest_part_of_rows-others.ensures in
     let rows = c.rows-rows.ensures.0 in
     rw (← c.from-a.ensures) (tried_both _ _ _ _ _ _ c.longest_part_of_rows-first.ensures _ c.header-header.ensures.0 delimiter _ _ _ others c.max.ensures rows)

@@ -6,12 +6,12 @@ use Rattle.arrangement.proofs.layout.layout.Goals as goal
 
 pub overflow_cast-result : goal.overflow_cast-result
 overflow_cast-result c =
-    let h = held c.args.sheet.now c.requires in
+    let h = held c.args.sheet.now.bytes.now c.args.sheet.now.accepted in
     record { fits = omega (arith, count_fits _ (accepted_limits _ _ h.end h.reads) _ c.columns-found.ensures) }
 
 pub returns : goal.returns
 returns c =
-    let h = held c.args.sheet.now c.requires in
+    let h = held c.args.sheet.now.bytes.now c.args.sheet.now.accepted in
     let limits = accepted_limits _ _ h.end h.reads in
     let columns = c.columns-found.ensures in
     let settings = c.settings-head.ensures in
