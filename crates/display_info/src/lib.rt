@@ -8,7 +8,7 @@ ghost use Rattle.rules.specs.Limits.{PlainTable};
 ghost use Rattle.rules.specs.Style as characters;
 ghost use Rattle.rules.specs.Style.{style_characters, any_left, any_right, any_junction};
 ghost use Rattle.rules.specs.Widths.{contents};
-ghost use Rattle.table.specs.Held.{IsAccepted, table_of};
+ghost use Rattle.table.specs.Held.{table_of};
 ghost use Rattle.table.specs.Walk.{rows_in};
 ghost use Rattle.arrangement.specs.Widths.{style_from, arranged_widths};
 ghost use Rattle.row.specs.View.{Views};
@@ -29,8 +29,8 @@ use rules::{
 };
 use style::column;
 use style::table_style::TableStyle;
+use table::accepted::AcceptedSheet;
 use table::records::Rows;
-use table::{settings, walk};
 
 // How the lines of a row look: its text lines, the rule after it, and whether that rule is visible.
 #[derive(Clone, Copy)]
@@ -185,14 +185,14 @@ fn show_column(
 }
 
 // The visible columns, from left to right.
-fn show_columns(sheet: &[u8], widths: Widths) -> ArrayVec<VisibleColumn, MOST_COLUMNS>
-    requires { IsAccepted sheet.now × (widths ≡ arranged_widths (table_of sheet.now)) }
-    ensures { Views (table_of sheet.now) (contents (table_of sheet.now)) result.items
+fn show_columns(sheet: &AcceptedSheet<'_>, widths: Widths) -> ArrayVec<VisibleColumn, MOST_COLUMNS>
+    requires { widths ≡ arranged_widths (table_of sheet.now.bytes.now) }
+    ensures { Views (table_of sheet.now.bytes.now) (contents (table_of sheet.now.bytes.now)) result.items
         × (Rising result.items × (UsableAll result.items × NarrowAll result.items)) }
 {
-    let head = settings::settings(sheet);
+    let head = sheet.settings();
     let delimiter = numbers::or_else(head.delimiter, 32);
-    let found = settings::columns(sheet);
+    let found = sheet.columns();
     let mut columns = ArrayVec::new();
     for j in 0..found.count {
         show_column(&mut columns, j, found.each[j], widths.content[j], delimiter);
@@ -201,24 +201,23 @@ fn show_columns(sheet: &[u8], widths: Widths) -> ArrayVec<VisibleColumn, MOST_CO
 }
 
 // The content widths of an accepted sheet.
-pub fn content_widths(sheet: &[u8]) -> Widths
-    requires { IsAccepted sheet.now }
-    ensures { result ≡ arranged_widths (table_of sheet.now) }
+pub fn content_widths(sheet: &AcceptedSheet<'_>) -> Widths
+    ensures { result ≡ arranged_widths (table_of sheet.now.bytes.now) }
 {
     let found = arrangement::arrange_sheet(sheet);
     arrangement::widths_of(&found.layout, &found.course)
 }
 
 // The page over all rows of the sheet, by its widths; it may be called plain if the check found it so.
-pub fn open_by(sheet: &[u8], plain: bool, widths: Widths) -> Page
-    requires accepted { IsAccepted sheet.now × (widths ≡ arranged_widths (table_of sheet.now)) }
-    requires plain_table { plain ≡ true → PlainTable (table_of sheet.now) }
-    ensures { Opened sheet.now result × (rows_in sheet.now result.rows ≡ (table_of sheet.now).rows) }
+pub fn open_by(sheet: &AcceptedSheet<'_>, plain: bool, widths: Widths) -> Page
+    requires arranged { widths ≡ arranged_widths (table_of sheet.now.bytes.now) }
+    requires plain_table { plain ≡ true → PlainTable (table_of sheet.now.bytes.now) }
+    ensures { Opened sheet.now.bytes.now result × (rows_in sheet.now.bytes.now result.rows ≡ (table_of sheet.now.bytes.now).rows) }
 {
     let columns = show_columns(sheet, widths);
-    let styles = styles(settings::style(sheet));
-    let header = walk::header(sheet);
-    let rows = walk::rows(sheet, header);
+    let styles = styles(sheet.style());
+    let header = sheet.header();
+    let rows = sheet.rows(header);
     Page {
         plain,
         columns,
@@ -229,10 +228,9 @@ pub fn open_by(sheet: &[u8], plain: bool, widths: Widths) -> Page
 }
 
 // The page, once its widths are found.
-pub fn open(sheet: &[u8], plain: bool) -> Page
-    requires accepted { IsAccepted sheet.now }
-    requires plain_table { plain ≡ true → PlainTable (table_of sheet.now) }
-    ensures { Opened sheet.now result × (rows_in sheet.now result.rows ≡ (table_of sheet.now).rows) }
+pub fn open(sheet: &AcceptedSheet<'_>, plain: bool) -> Page
+    requires { plain ≡ true → PlainTable (table_of sheet.now.bytes.now) }
+    ensures { Opened sheet.now.bytes.now result × (rows_in sheet.now.bytes.now result.rows ≡ (table_of sheet.now.bytes.now).rows) }
 {
     open_by(sheet, plain, content_widths(sheet))
 }

@@ -9,7 +9,7 @@ returns c =
     let h = c.header-header.ensures in
     let r = c.rows-rows.ensures in (
       record {
-        passes = c.requires.accepted.0;
+        passes = c.args.sheet.now.accepted;
         views = v.0;
         rising = v.1.0;
         usable = v.1.1.0;
@@ -17,10 +17,10 @@ returns c =
         narrow = v.1.1.1;
         styles = c.styles-styles.ensures ∙ ap styles_of c.style.ensures;
         header = h.0;
-        header_at = header_at _ c.requires.accepted.0 _ h.0 h.1;
-        header_one = header_one _ c.requires.accepted.0 _ h.0;
-        rows_at = rows_at _ c.requires.accepted.0 _ r.0 r.1;
-        rows_few = rows_few _ c.requires.accepted.0 _ r.0;
+        header_at = header_at _ c.args.sheet.now.accepted _ h.0 h.1;
+        header_one = header_one _ c.args.sheet.now.accepted _ h.0;
+        rows_at = rows_at _ c.args.sheet.now.accepted _ r.0 r.1;
+        rows_few = rows_few _ c.args.sheet.now.accepted _ r.0;
       },
       r.0,
     )

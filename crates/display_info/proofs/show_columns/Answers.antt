@@ -9,34 +9,34 @@ pub loop-j-init : goal.loop-j-init
 loop-j-init c = showing_begin _ _ c.new-columns.ensures
 
 pub offset_bounds-found-j : goal.offset_bounds-found-j
-offset_bounds-found-j c = omega (arith, count_fits _ (limits_of _ c.requires.0) _ c.columns-found.ensures)
+offset_bounds-found-j c = omega (arith, count_fits _ (limits_of _ c.args.sheet.now.accepted) _ c.columns-found.ensures)
 
 pub bounds-found-j : goal.bounds-found-j
-bounds-found-j c = omega (arith, count_fits _ (limits_of _ c.requires.0) _ c.columns-found.ensures)
+bounds-found-j c = omega (arith, count_fits _ (limits_of _ c.args.sheet.now.accepted) _ c.columns-found.ensures)
 
 pub offset_bounds-widths-j : goal.offset_bounds-widths-j
-offset_bounds-widths-j c = omega (arith, count_fits _ (limits_of _ c.requires.0) _ c.columns-found.ensures)
+offset_bounds-widths-j c = omega (arith, count_fits _ (limits_of _ c.args.sheet.now.accepted) _ c.columns-found.ensures)
 
 pub bounds-widths-j : goal.bounds-widths-j
-bounds-widths-j c = omega (arith, count_fits _ (limits_of _ c.requires.0) _ c.columns-found.ensures)
+bounds-widths-j c = omega (arith, count_fits _ (limits_of _ c.args.sheet.now.accepted) _ c.columns-found.ensures)
 
 pub show_column-requires : goal.show_column-requires
-show_column-requires c = omega (arith, count_fits _ (limits_of _ c.requires.0) _ c.columns-found.ensures, c.loop-j.invariant.few, c.loop-j-test.true)
+show_column-requires c = omega (arith, count_fits _ (limits_of _ c.args.sheet.now.accepted) _ c.columns-found.ensures, c.loop-j.invariant.few, c.loop-j-test.true)
 
 pub loop-j-preserved : goal.loop-j-preserved
 loop-j-preserved c =
-    let t = table_of c.args.sheet.now in
-    let T = limits_of _ c.requires.0 in
+    let t = table_of c.args.sheet.now.bytes.now in
+    let T = limits_of _ c.args.sheet.now.accepted in
     let e = c.columns-found.ensures in
     let h = c.loop-j-test.true in
     let few = count_fits _ T _ e in
     showing-on t c.loop-j.j _ c.loop-j.invariant _ _ _ _ (column-at t T _ e c.loop-j.j (omega (arith, h, few)))
-    (width_is t _ c.loop-j.j c.requires.1 (omega (arith, h, columns-count t _ e))) (delimiter_is t c.settings-head.result _ c.settings-head.ensures
+    (width_is t _ c.loop-j.j c.requires (omega (arith, h, columns-count t _ e))) (delimiter_is t c.settings-head.result _ c.settings-head.ensures
     c.or_else-delimiter.ensures)
     c.show_column.ensures
 
 pub returns : goal.returns
 returns c =
-    let T = limits_of _ c.requires.0 in
+    let T = limits_of _ c.args.sheet.now.accepted in
     let W = showing_done _ _ _ T (omega (arith, columns-count _ _ c.columns-found.ensures, c.loop-j.auto.j-end, c.loop-j-test.false)) c.loop-j.invariant in
     (W, (view_rising _ _ T W, (view_usable _ _ T W, view_narrow _ _ T W)))
