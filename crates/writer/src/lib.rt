@@ -77,6 +77,7 @@ fn fit(fault: Option<Refusal>, place: usize, room: usize) -> Result<(), Refusal>
 }
 
 // By the first run, on which nothing was missing: 9, for then there is no table; 2; the first fault; 22.
+#[tactic(auto, using(crate::proofs::Laws::decisions))]
 fn decide(walked: Walk, numbers: usize, text: usize, room: usize) -> Result<(), Refusal>
     ensures { answer.decided_to result ≡ answer.decided (walk_of walked) numbers text room }
 {
