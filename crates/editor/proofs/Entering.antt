@@ -17,9 +17,7 @@ use Rattle.editor.specs.declared.walk.Walk.{Walk as Going}
 use Rattle.rules.specs.Steps.{At, Refused, refused_as}
 use Rattle.rules.specs.Refusals.{number_of}
 use Rattle.rules.specs.declared.Refusal.{Refusal}
-use Rattle.rules.specs.declared.Reason.{Reason}
-use Rattle.rules.specs.declared.Reason.TheVariants.{Ended, TooLong, WrongEdition, UnknownCode, BeyondLimits, BadCharacter, TooManyCells, NotZero}
-use Rattle.rules.specs.declared.Reason.TheVariants.{LeftOver, PageOverBuffer, NoSuchLine, SheetOverBuffer}
+use Rattle.rules.proofs.Refusals.{number_some}
 use Rattle.std.specs.Prelude.{Option, Some, None}
 use Rattle.std.specs.Option.{is_some}
 use Rattle.editor.specs.Walk.{cap, State, state, walk_of, first_place, noted, advanced, stamped, low, entered}
@@ -52,21 +50,6 @@ cap_twice n = omega arith
 pub or-none : (f : ℕ) → f ≡ or_else f 0
 or-none zero = refl
 or-none (suc f) = refl
-
--- a refusal has a number
-pub number_some : (r : Reason) → number_of r ≡ 0 → ⊥
-number_some Ended e = absurd (omega (arith, e))
-number_some TooLong e = absurd (omega (arith, e))
-number_some WrongEdition e = absurd (omega (arith, e))
-number_some UnknownCode e = absurd (omega (arith, e))
-number_some BeyondLimits e = absurd (omega (arith, e))
-number_some BadCharacter e = absurd (omega (arith, e))
-number_some TooManyCells e = absurd (omega (arith, e))
-number_some NotZero e = absurd (omega (arith, e))
-number_some LeftOver e = absurd (omega (arith, e))
-number_some PageOverBuffer e = absurd (omega (arith, e))
-number_some NoSuchLine e = absurd (omega (arith, e))
-number_some SheetOverBuffer e = absurd (omega (arith, e))
 
 first_kept : (f : ℕ) → (f ≡ 0 → ⊥) → (n a b : ℕ) → (f ≡ or_else f n) × (a ≡ first_place f a b)
 unfolding first_place

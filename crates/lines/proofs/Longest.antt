@@ -17,9 +17,10 @@ use Rattle.display_info.specs.Opened.{Opened, widths_in, styles_of}
 use Rattle.display_info.proofs.Opening.{limits_of}
 use Rattle.parts.specs.declared.lengths.Lengths.{Lengths}
 use Rattle.parts.specs.Lengths.{LengthsAre}
-use Rattle.parts.specs.Ahead.{lines_of}
-use Rattle.lines.specs.declared.Found.{Found}
-use Rattle.lines.specs.Walk.{FoundIs, LongestIs}
+use Rattle.parts.specs.Ahead.{is_end, lines_of}
+use Rattle.lines.specs.declared.Sought.{Sought}
+use Rattle.lines.specs.Walk.{SoughtIs, LongestIs}
+use Rattle.lines.proofs.Walks.{all_passed, before}
 
 module _ (s : List ℕ) (p : Page) (O : Opened s p) (l : Lengths) (L : LengthsAre s l) where
   optional : All Optional (table_of s).style
@@ -49,24 +50,18 @@ module _ (s : List ℕ) (p : Page) (O : Opened s p) (l : Lengths) (L : LengthsAr
         small = L.border_small;
       }
 
-  -- line 0 looked for, with no room: 21 exactly if there is none
-  module _ (r : Found) (F : FoundIs s p 0 0 r) where
-    pub no_lines : r.number ≡ 21 → LongestIs s p 0
+  -- line 0 sought: the end is reached exactly if there is none
+  module _ (r : Sought) (S : SoughtIs s p 0 r) where
+    pub no_lines : is_end r.cursor.stage ≡ true → LongestIs s p 0
     unfolding lines_of
-    no_lines e = record { longest = sym (longest-none (table_of s) optional (widths_in s) (rows_in s p.rows) (none (length (lines_of s p)) refl)); small = omega arith }
-      where
-        none : (n : ℕ) → length (lines_of s p) ≡ n → n ≡ 0
-        none zero h = refl
-        none (suc n) h = absurd (omega (arith, (F.short (omega arith) (omega arith)).0))
+    no_lines e = record {
+      longest = sym (longest-none (table_of s) optional (widths_in s) (rows_in s p.rows) (omega (arith, S.within, all_passed s p 0 r S e)));
+      small = omega arith;
+    }
 
-    pub by-line : p.styles.has_top ≡ false → p.styles.has_bottom ≡ false → (r.number ≡ 21 → ⊥) → LongestIs s p l.line
+    pub by_line : p.styles.has_top ≡ false → p.styles.has_bottom ≡ false → is_end r.cursor.stage ≡ false → LongestIs s p l.line
     unfolding lines_of
-    by-line a b e =
-        record {
-          longest = L.line ∙ sym (longest-line (table_of s) optional (widths_in s) (rows_in s p.rows) (sym top_as ∙ a) (sym bottom_as ∙ b) (some (length (lines_of s p)) refl));
-          small = L.line_small;
-        }
-      where
-        some : (n : ℕ) → length (lines_of s p) ≡ n → 0 < n
-        some zero h = absurd (e (F.past (omega arith)).0)
-        some (suc n) h = omega arith
+    by_line a b e = record {
+      longest = L.line ∙ sym (longest-line (table_of s) optional (widths_in s) (rows_in s p.rows) (sym top_as ∙ a) (sym bottom_as ∙ b) (omega (arith, before s p 0 r S e)));
+      small = L.line_small;
+    }

@@ -18,7 +18,8 @@ use Rattle.parts.specs.Ahead.{part_lines, rest_lines, ahead, lines_of, is_end, f
 use Rattle.display_info.specs.declared.Page.{Page}
 use Rattle.lines.specs.declared.Sought.{Sought}
 use Rattle.parts.specs.declared.cursor.Cursor.{Cursor}
-use Rattle.lines.specs.Walk.{size_of, TotalsAre, SoughtIs, FoundIs, WroteIs}
+use Rattle.rules.specs.declared.Reason.TheVariants.{NoSuchLine, PageOverBuffer}
+use Rattle.lines.specs.Walk.{size_of, TotalsAre, SoughtIs, LineFound, LineRefused, past, short, WroteIs}
 use Rattle.parts.proofs.Parts.{ahead-start, first-at, first-ahead, end-ahead}
 use Rattle.parts.proofs.Bands.{drop-append, drop_whole, take_more, part_few}
 
@@ -146,26 +147,19 @@ module _ (s : List ℕ) (p : Page) (k : ℕ) (c : Cursor) (left : ℕ) (R : Reac
   }
 
 module _ (s : List ℕ) (p : Page) (k : ℕ) (r : Sought) (S : SoughtIs s p k r) where
-  pub found-past : is_end r.cursor.stage ≡ true → (room : ℕ) → FoundIs s p k room (record { number = 21; place = r.passed; cursor = r.cursor })
-  found-past e room =
-      let all : r.passed ≡ length (lines_of s p) = omega (
-        arith,
-        S.passed,
-        ap length (sym S.lines ∙ end-ahead s p r.cursor e),
-        length-drop
-            r.passed (lines_of s p),
-      ) in
-      let past : length (lines_of s p) ≤ k = omega (arith, S.within) in
-      record {
-        past = λ _. (refl, all);
-        short = λ h _. absurd (omega arith);
-        found = λ h _. absurd (omega arith);
-        lines = λ f. absurd (omega arith);
-        at = S.at;
-      }
+  -- at the end all lines are passed
+  pub all_passed : is_end r.cursor.stage ≡ true → r.passed ≡ length (lines_of s p)
+  all_passed e = omega (
+    arith,
+    S.passed,
+    ap length (sym S.lines ∙ end-ahead s p r.cursor e),
+    length-drop r.passed (lines_of s p),
+  )
 
-  module _ (e : is_end r.cursor.stage ≡ false) (size : ℕ)
-      (Z : size ≡ length (get_or (part_lines s p r.cursor) r.cursor.line []) + 1) where
+  pub found_past : is_end r.cursor.stage ≡ true → (room : ℕ) → LineRefused s p k room (record { reason = NoSuchLine; place = r.passed })
+  found_past e room = past (omega (arith, S.within, all_passed e)) (rw (all_passed e))
+
+  module _ (e : is_end r.cursor.stage ≡ false) where
     there : ahead s p r.cursor ≡ drop k (lines_of s p)
     there = S.lines ∙ ap (λ n. drop n (lines_of s p)) (S.reached e)
 
@@ -178,14 +172,7 @@ module _ (s : List ℕ) (p : Page) (k : ℕ) (r : Sought) (S : SoughtIs s p k r)
         (omega (arith, length-drop r.cursor.line (part_lines s p r.cursor), S.some e))
         ∙ get_or-drop r.cursor.line (part_lines s p r.cursor) 0 [] ∙ ap (λ n. get_or (part_lines s p r.cursor) n []) z
 
-    size_is : size ≡ size_of s p k
-    size_is =
-        let z : k + 0 ≡ k = omega arith in
-        let line : get_or (lines_of s p) k [] ≡ get_or (part_lines s p r.cursor) r.cursor.line [] =
-        sym (get_or-drop k (lines_of s p) 0 [] ∙ ap (λ n. get_or (lines_of s p) n []) z) ∙ ap (λ ls. get_or ls 0 []) (sym there) ∙ here-line in
-        Z ∙ sym (ap (λ l. length l + 1) line)
-
-    before : k < length (lines_of s p)
+    pub before : k < length (lines_of s p)
     unfolding ahead
     before = omega (
       arith,
@@ -196,23 +183,19 @@ module _ (s : List ℕ) (p : Page) (k : ℕ) (r : Sought) (S : SoughtIs s p k r)
       length-drop k (lines_of s p),
     )
 
-    pub found_short : (room : ℕ) → room < size → FoundIs s p k room (record { number = 20; place = size; cursor = r.cursor })
-    found_short room h = record {
-      past = λ f. absurd (omega (arith, before));
-      short = λ _ _. (refl, size_is);
-      found = λ _ f. absurd (omega (arith, size_is));
-      lines = λ f. absurd (omega arith);
-      at = S.at;
-    }
+    module _ (size : ℕ) (Z : size ≡ length (get_or (part_lines s p r.cursor) r.cursor.line []) + 1) where
+      size_is : size ≡ size_of s p k
+      size_is =
+          let z : k + 0 ≡ k = omega arith in
+          let line : get_or (lines_of s p) k [] ≡ get_or (part_lines s p r.cursor) r.cursor.line [] =
+          sym (get_or-drop k (lines_of s p) 0 [] ∙ ap (λ n. get_or (lines_of s p) n []) z) ∙ ap (λ ls. get_or ls 0 []) (sym there) ∙ here-line in
+          Z ∙ sym (ap (λ l. length l + 1) line)
 
-    pub found_there : (room : ℕ) → size ≤ room → FoundIs s p k room (record { number = 0; place = size; cursor = r.cursor })
-    found_there room h = record {
-      past = λ f. absurd (omega (arith, before));
-      short = λ _ f. absurd (omega (arith, size_is));
-      found = λ _ _. (refl, size_is);
-      lines = λ _. there;
-      at = S.at;
-    }
+      pub found_short : (room : ℕ) → room < size → LineRefused s p k room (record { reason = PageOverBuffer; place = size })
+      found_short room h = short before (omega (arith, h, size_is)) (rw size_is)
+
+      pub found_there : (room : ℕ) → size ≤ room → LineFound s p k room (record { size = size; cursor = r.cursor })
+      found_there room h = record { there = before; fits = omega (arith, h, size_is); size = size_is; lines = there; at = S.at }
 
 -- ---- writing
 

@@ -1,8 +1,10 @@
 -- A page's lines counted, sought and written. Assumes nothing.
-use Rattle.std.specs.Prelude.{ℕ, ◌+◌, ◌≤◌, ◌<◌, ◌≡◌, List, [], map, false, length, drop, get_or}
+use Rattle.std.specs.Prelude.{Result, Ok, Err, ℕ, ◌+◌, ◌≤◌, ◌<◌, ◌≡◌, List, [], map, false, length, drop, get_or}
 use Rattle.rules.specs.Text.{text_width, greatest}
 use Rattle.rules.specs.Limits.{longest_line}
 use Rattle.rules.specs.Page.{closed, whole_lines}
+use Rattle.rules.specs.Steps.{Refused, refused_as}
+use Rattle.rules.specs.declared.Refusal.{Refusal}
 use Rattle.buffer.specs.Put.{over}
 use Rattle.parts.specs.Ahead.{is_end, At, part_lines, lines_of, ahead}
 use Rattle.display_info.specs.declared.Page.{Page}
@@ -35,13 +37,22 @@ pub record LongestIs (s : List ℕ) (p : Page) (r : ℕ) : Type 0 where
 abbrev pub size_of : List ℕ → Page → ℕ → ℕ
 size_of s p k = length (get_or (lines_of s p) k []) + 1
 
--- 21 and the line count where line k isn't there; else 20 and the bytes needed where they are more than the room; else 0, these bytes, and its cursor
-pub record FoundIs (s : List ℕ) (p : Page) (k room : ℕ) (r : Found) : Type 0 where
-  pub past : length (lines_of s p) ≤ k → (r.number ≡ 21) × (r.place ≡ length (lines_of s p))
-  pub short : k < length (lines_of s p) → room < size_of s p k → (r.number ≡ 20) × (r.place ≡ size_of s p k)
-  pub found : k < length (lines_of s p) → size_of s p k ≤ room → (r.number ≡ 0) × (r.place ≡ size_of s p k)
-  pub lines : r.number ≡ 0 → ahead s p r.cursor ≡ drop k (lines_of s p)
-  pub at : At s p r.cursor
+-- line k, which fits: its bytes, and its cursor
+pub record LineFound (s : List ℕ) (p : Page) (k room : ℕ) (f : Found) : Type 0 where
+  pub there : k < length (lines_of s p)
+  pub fits : size_of s p k ≤ room
+  pub size : f.size ≡ size_of s p k
+  pub lines : ahead s p f.cursor ≡ drop k (lines_of s p)
+  pub at : At s p f.cursor
+
+-- 21 and the line count where line k isn't there; else 20 and the bytes needed where they are more than the room
+pub data LineRefused (s : List ℕ) (p : Page) (k room : ℕ) (r : Refusal) : Type 0 where
+  past : length (lines_of s p) ≤ k → refused_as r ≡ Refused 21 (length (lines_of s p)) → LineRefused s p k room r
+  short : k < length (lines_of s p) → room < size_of s p k → refused_as r ≡ Refused 20 (size_of s p k) → LineRefused s p k room r
+
+abbrev pub FoundIs : List ℕ → Page → ℕ → ℕ → Result Found Refusal → Type 0
+FoundIs s p k room (Ok f) = LineFound s p k room f
+FoundIs s p k room (Err r) = LineRefused s p k room r
 
 -- of the lines before the cursor as many as fit are written over b, which is then a; the others come next
 pub record WroteIs (s : List ℕ) (p : Page) (c : Cursor) (b a : List ℕ) (r : Written) : Type 0 where

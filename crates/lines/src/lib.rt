@@ -10,6 +10,7 @@ ghost use Rattle.lines.specs.Walk.{TotalsAre, SoughtIs, LongestIs, FoundIs, Wrot
 use display_info::Page;
 use parts::cursor::Cursor;
 use parts::{cursor, lengths, part, sizes};
+use rules::{Reason, Refusal};
 
 // A page's lines and bytes.
 #[derive(Clone, Copy)]
@@ -66,41 +67,35 @@ pub fn seek(sheet: &[u8], p: &Page, k: usize) -> Sought
     }
 }
 
-// Line k looked for, to be written into some room: number 0, the bytes that it needs and its cursor; or 21 and the line count; or 20 and the bytes needed.
+// A line that was looked for: the bytes that it needs, and its cursor.
 #[derive(Clone, Copy)]
 pub struct Found {
-    pub number: u64,
-    pub place: usize,
+    pub size: usize,
     pub cursor: Cursor,
 }
 
-pub fn find(sheet: &[u8], p: &Page, k: usize, room: usize) -> Found
+// Line k, to be written into some room.
+pub fn find(sheet: &[u8], p: &Page, k: usize, room: usize) -> Result<Found, Refusal>
     requires { Opened sheet.now p.now }
     ensures { FoundIs sheet.now p.now k room result }
 {
     let sought = seek(sheet, p, k);
     let cursor = sought.cursor;
     if cursor::is_end(cursor) {
-        return Found {
-            number: 21,
+        return Err(Refusal {
+            reason: Reason::NoSuchLine,
             place: sought.passed,
-            cursor,
-        };
+        });
     }
     let l = lengths::measure(sheet, p);
-    let needed = sizes::line_size(sheet, p, l, cursor);
-    if room < needed {
-        return Found {
-            number: 20,
-            place: needed,
-            cursor,
-        };
+    let size = sizes::line_size(sheet, p, l, cursor);
+    if room < size {
+        return Err(Refusal {
+            reason: Reason::PageOverBuffer,
+            place: size,
+        });
     }
-    Found {
-        number: 0,
-        place: needed,
-        cursor,
-    }
+    Ok(Found { size, cursor })
 }
 
 // The longest of a page's lines, in columns: a border is as long as any line, and without borders all lines are equally long.
@@ -116,8 +111,8 @@ pub fn longest_line(sheet: &[u8], p: &Page) -> usize
     if styles.has_bottom {
         return l.border;
     }
-    let first = find(sheet, p, 0, 0);
-    if first.number == 21 {
+    let first = seek(sheet, p, 0);
+    if cursor::is_end(first.cursor) {
         return 0;
     }
     l.line

@@ -20,15 +20,20 @@ use Rattle.rules.specs.Calls.{check, check_of, count, count_of, put_or, put, not
 use Rattle.laws.proofs.Counts.{line-count-bound}
 use Rattle.laws.proofs.Fitting.{fitting_few, fitting-none, fitting_more, fitting_stops, fitting-all}
 use Rattle.laws.proofs.Sizes.{closed-one, byte-count-closed}
-use Rattle.sheet.specs.Examine.{ExaminedIs}
+use Rattle.std.specs.Prelude.{Ok, Err}
+use Rattle.rules.specs.Refusals.{number_of}
+use Rattle.rules.specs.Steps.{Refused, refused_as}
+use Rattle.rules.specs.declared.Refusal.{Refusal}
+use Rattle.rules.proofs.Refusals.{number_some}
+use Rattle.sheet.specs.Examine.{ExaminedIs, checked_of}
 use Rattle.sheet.specs.declared.Examined.{Examined}
 use Rattle.table.specs.Held.{IsAccepted, table_of}
 use Rattle.table.specs.Walk.{rows_in}
-use Rattle.table.proofs.Held.{held}
+use Rattle.table.proofs.Held.{held, is_accepted}
 use Rattle.buffer.specs.Put.{over}
 use Rattle.parts.specs.Ahead.{ahead, lines_of, first_cursor}
 use Rattle.display_info.specs.Opened.{Opened}
-use Rattle.lines.specs.Walk.{size_of, TotalsAre, FoundIs, WroteIs}
+use Rattle.lines.specs.Walk.{size_of, TotalsAre, LineFound, LineRefused, past, short, WroteIs}
 use Rattle.display_info.specs.declared.Page.{Page}
 use Rattle.parts.specs.declared.cursor.Cursor.{Cursor}
 use Rattle.lines.specs.declared.Totals.{Totals}
@@ -82,38 +87,40 @@ prefix_back l b a n e h f =
 
 -- ---- a sheet that was examined
 
-pub examined : (s : List ℕ) (r : Examined) → ExaminedIs s r → record { number = r.number; place = r.place } ≡ check s
-examined s r E = rw (E.number, E.place)
+pub accepted : (s : List ℕ) (e : Examined) → ExaminedIs s (Ok e) → IsAccepted s
+accepted s e E = is_accepted s (checked_of (Ok e)) E.checked refl
 
-pub examined-plain : (s : List ℕ) (r : Examined) → ExaminedIs s r → IsAccepted s → r.plain ≡ true → PlainTable (table_of s)
-examined-plain s r E h e = let g = held s h in E.plain e (table_of s) g.end g.reads
+pub plain_table : (s : List ℕ) (e : Examined) → ExaminedIs s (Ok e) → e.plain ≡ true → PlainTable (table_of s)
+plain_table s e E h = let g = held s (accepted s e E) in E.plain h (table_of s) g.end g.reads
 
 -- ---- a refused sheet
 
-module _ (s : List ℕ) (c : Checked) (checked : c ≡ check s) (h : c.number ≡ 0 → ⊥) where
-  pub refused_as : sheet s ≡ refused c.number c.place
+module _ (s : List ℕ) (r : Refusal) (E : ExaminedIs s (Err r)) where
+  pub refused_by : sheet s ≡ refused (number_of r.reason) r.place
   unfolding check check_of
-  refused_as = go (sheet s) refl
+  refused_by = go (sheet s) refl
     where
-      go : (y : Read Table) → sheet s ≡ y → sheet s ≡ refused c.number c.place
-      go (got t p) e = let z : c.number ≡ 0 = ap (λ (x : Checked). x.number) checked ∙ rw e in absurd (h z)
-      go (refused n p) e = let k : c ≡ record { number = n; place = p } = checked ∙ rw e in rw (e, k)
+      go : (y : Read Table) → sheet s ≡ y → sheet s ≡ refused (number_of r.reason) r.place
+      go (got t p) e =
+          let z : number_of r.reason ≡ 0 = ap (λ (x : Checked). x.number) E.checked ∙ rw e in
+          absurd (number_some r.reason z)
+      go (refused n p) e =
+          let k : checked_of (Err r) ≡ record { number = n; place = p } = E.checked ∙ rw e in
+          let a : number_of r.reason ≡ n = ap (λ (x : Checked). x.number) k in
+          let b : r.place ≡ p = ap (λ (x : Checked). x.place) k in
+          rw (e, a, b)
 
-  pub count_refused : ◌≡◌ {A = Counted} (record { number = c.number; place = c.place; lines = 0; bytes = 0 }) (count s)
-  unfolding count count_of
-  count_refused = rw refused_as
-
-  pub page_refused : (b : List ℕ) → print_page s b ≡ not_printed c.number c.place b
+  pub page_refused : (b : List ℕ) → print_page s b ≡ not_printed (number_of r.reason) r.place b
   unfolding print_page print_of
-  page_refused b = rw refused_as
+  page_refused b = rw refused_by
 
-  pub line_refused : (k : ℕ) (b : List ℕ) → print_line s k b ≡ not_printed c.number c.place b
+  pub line_refused : (k : ℕ) (b : List ℕ) → print_line s k b ≡ not_printed (number_of r.reason) r.place b
   unfolding print_line print_line_of
-  line_refused k b = rw refused_as
+  line_refused k b = rw refused_by
 
-  pub lines_refused : (k : ℕ) (b : List ℕ) → several.print_lines s k b ≡ several.no_lines c.number c.place b
+  pub lines_refused : (k : ℕ) (b : List ℕ) → several.print_lines s k b ≡ several.no_lines (number_of r.reason) r.place b
   unfolding several.print_lines several.print_lines_of
-  lines_refused k b = rw refused_as
+  lines_refused k b = rw refused_by
 
 -- ---- an accepted one
 
@@ -216,90 +223,79 @@ module _ (s : List ℕ) (h : IsAccepted s) where
     unfolding line_count
     count-lines = ap length lines-all
 
-    module _ (k : ℕ) (b : List ℕ) (r : Found) (F : FoundIs s p k (length b) r) where
-      -- which of the three it is
-      by : {A : Type 0} → (length (lines_of s p) ≤ k → A) → (k < length (lines_of s p) → length b < size_of s p k → A) →
-          (k < length (lines_of s p) → size_of s p k ≤ length b → A) → A
-      by {A} past short found = go (ltb k (length (lines_of s p))) refl (ltb (length b) (size_of s p k)) refl
-        where
-          go : (x : Bool) → ltb k (length (lines_of s p)) ≡ x → (y : Bool) → ltb (length b) (size_of s p k) ≡ y → A
-          go true e true f = short (ltb-true k (length (lines_of s p)) e) (ltb-true (length b) (size_of s p k) f)
-          go true e false f = found (ltb-true k (length (lines_of s p)) e) (ltb-false (length b) (size_of s p k) f)
-          go false e y f = past (ltb-false k (length (lines_of s p)) e)
+    -- line k isn't there, or doesn't fit
+    module _ (k : ℕ) (b : List ℕ) (r : Refusal) where
+      as_told : (n q : ℕ) → refused_as r ≡ Refused n q → (n ≡ number_of r.reason) × (q ≡ r.place)
+      as_told n q e = (cc, cc)
 
-      pub line_turned : (r.number ≡ 0 → ⊥) → print_line s k b ≡ not_printed r.number r.place b
-      line_turned n =
-          by
-          (λ e. let q = F.past e in line-past-count k b (omega (arith, count-lines)) ∙ rw (q.0, q.1, count-lines))
-          (λ e f. let q = F.short e f in
-          line-put k b (omega (arith, count-lines)) ∙ put_short (line_at (table_of s) k) b (size_of s p k) (size-all k) f ∙ rw (q.0, q.1))
-          (λ e f. absurd (n (F.found e f).0))
+      pub line_turned : LineRefused s p k (length b) r → print_line s k b ≡ not_printed (number_of r.reason) r.place b
+      line_turned (past h e) =
+          let t = as_told 21 (length (lines_of s p)) e in
+          line-past-count k b (omega (arith, count-lines)) ∙ rw (← t.0, ← t.1, count-lines)
+      line_turned (short h i e) =
+          let t = as_told 20 (size_of s p k) e in
+          line-put k b (omega (arith, count-lines)) ∙ put_short (line_at (table_of s) k) b (size_of s p k) (size-all k) i ∙ rw (← t.0, ← t.1)
 
-      pub lines_turned : (r.number ≡ 0 → ⊥) → several.print_lines s k b ≡ several.no_lines r.number r.place b
+      pub lines_turned : LineRefused s p k (length b) r → several.print_lines s k b ≡ several.no_lines (number_of r.reason) r.place b
       unfolding several.put_lines
-      lines_turned n =
-          let told = several.lines_given k (whole_lines (length b) (drop k (page_lines (table_of s)))) b in
-          let m = length (line_at (table_of s) k) in
-          by
-          (λ e. let q = F.past e in lines-past-count k b (omega (arith, count-lines)) ∙ rw (q.0, q.1, count-lines))
-          (λ e f. let q = F.short e f in
+      lines_turned (past h e) =
+          let t = as_told 21 (length (lines_of s p)) e in
+          lines-past-count k b (omega (arith, count-lines)) ∙ rw (← t.0, ← t.1, count-lines)
+      lines_turned (short h i e) =
+          let t = as_told 20 (size_of s p k) e in
           lines-put k b (omega (arith, count-lines))
           ∙ passed_over (leb (length (line_at (table_of s) k)) (length b)) (several.lines_given k (whole_lines (length b) (drop k (page_lines (table_of s)))) b)
           (several.no_lines 20 (length (line_at (table_of s) k)) b)
-          (le-false (length (line_at (table_of s) k)) (length b) (omega (arith, size-all k))) ∙ rw (q.0, q.1, size-all k))
-          (λ e f. absurd (n (F.found e f).0))
+          (le-false (length (line_at (table_of s) k)) (length b) (omega (arith, size-all k))) ∙ rw (← t.0, ← t.1, size-all k)
 
-      module _ (n : r.number ≡ 0) where
-        pub found_here : (k < line_count (table_of s)) × ((r.place ≡ length (line_at (table_of s) k)) × (r.place ≤ length b))
-        found_here =
-            by
-            (λ e. absurd (omega (arith, (F.past e).0)))
-            (λ e f. absurd (omega (arith, (F.short e f).0)))
-            (λ e f. let q = F.found e f in (omega (arith, count-lines), (q.1 ∙ size-all k, omega (arith, q.1))))
+    -- it is there
+    module _ (k : ℕ) (b : List ℕ) (r : Found) (F : LineFound s p k (length b) r) where
+      pub found_here : (k < line_count (table_of s)) × ((r.size ≡ length (line_at (table_of s) k)) × (r.size ≤ length b))
+      found_here = (omega (arith, F.there, count-lines), (F.size ∙ size-all k, omega (arith, F.size, F.fits)))
 
-        first-line : ahead s p r.cursor ≡ get_or (page_lines (table_of s)) k [] ∷ drop (suc k) (page_lines (table_of s))
-        unfolding line_count
-        first-line = F.lines n ∙ ap (drop k) lines-all ∙ drop-cons (page_lines (table_of s)) k [] found_here.0
+      first-line : ahead s p r.cursor ≡ get_or (page_lines (table_of s)) k [] ∷ drop (suc k) (page_lines (table_of s))
+      unfolding line_count
+      first-line = F.lines ∙ ap (drop k) lines-all ∙ drop-cons (page_lines (table_of s)) k [] found_here.0
 
-        -- the line alone, over a part of the buffer that holds just it
-        pub line-written : (y a : List ℕ) (w : Written) → length y ≡ r.place → WroteIs s p r.cursor y a w →
-            (w.bytes ≡ length (line_at (table_of s) k)) × (a ≡ over (line_at (table_of s) k) y)
-        unfolding line_at
-        line-written y a w e W =
-            let l = get_or (page_lines (table_of s)) k [] in
-            let rest = drop (suc k) (page_lines (table_of s)) in
-            let size : length (get_or (page_lines (table_of s)) k []) + 1 ≡ length (line_at (table_of s) k) = sym
-            (length-append (get_or (page_lines (table_of s)) k []) (10 ∷ [])) in
-            let m : length y ≡ length (get_or (page_lines (table_of s)) k []) + 1 = e ∙ found_here.1.0 ∙ sym size in
-            let z : length y - (length (get_or (page_lines (table_of s)) k []) + 1) ≡ 0 = omega arith in
-            let only : whole_lines (length y) (ahead s p r.cursor) ≡ get_or (page_lines (table_of s)) k [] ∷ [] =
-            ap (whole_lines (length y)) first-line ∙ fitting_more (length y) (get_or (page_lines (table_of s)) k []) (drop (suc k) (page_lines (table_of s)))
-            (omega arith)
-            ∙ ap (λ ls. get_or (page_lines (table_of s)) k [] ∷ ls) (ap (λ i. whole_lines i (drop (suc k) (page_lines (table_of s)))) z ∙ fitting_nothing
-            (drop (suc k) (page_lines (table_of s)))) in
-            let closed_is : closed (whole_lines (length y) (ahead s p r.cursor)) ≡ line_at (table_of s) k = ap closed only ∙ closed-one
-            (get_or (page_lines (table_of s)) k []) in
-            (W.bytes ∙ ap length closed_is, W.page ∙ ap (λ t. over t y) closed_is)
+      -- the line alone, over a part of the buffer that holds just it
+      pub line-written : (y a : List ℕ) (w : Written) → length y ≡ r.size → WroteIs s p r.cursor y a w →
+          (w.bytes ≡ length (line_at (table_of s) k)) × (a ≡ over (line_at (table_of s) k) y)
+      unfolding line_at
+      line-written y a w e W =
+          let l = get_or (page_lines (table_of s)) k [] in
+          let rest = drop (suc k) (page_lines (table_of s)) in
+          let size : length (get_or (page_lines (table_of s)) k []) + 1 ≡ length (line_at (table_of s) k) = sym
+          (length-append (get_or (page_lines (table_of s)) k []) (10 ∷ [])) in
+          let m : length y ≡ length (get_or (page_lines (table_of s)) k []) + 1 = e ∙ found_here.1.0 ∙ sym size in
+          let z : length y - (length (get_or (page_lines (table_of s)) k []) + 1) ≡ 0 = omega arith in
+          let only : whole_lines (length y) (ahead s p r.cursor) ≡ get_or (page_lines (table_of s)) k [] ∷ [] =
+          ap (whole_lines (length y)) first-line ∙ fitting_more (length y) (get_or (page_lines (table_of s)) k []) (drop (suc k) (page_lines (table_of s)))
+          (omega arith)
+          ∙ ap (λ ls. get_or (page_lines (table_of s)) k [] ∷ ls) (ap (λ i. whole_lines i (drop (suc k) (page_lines (table_of s)))) z ∙ fitting_nothing
+          (drop (suc k) (page_lines (table_of s)))) in
+          let closed_is : closed (whole_lines (length y) (ahead s p r.cursor)) ≡ line_at (table_of s) k = ap closed only ∙ closed-one
+          (get_or (page_lines (table_of s)) k []) in
+          (W.bytes ∙ ap length closed_is, W.page ∙ ap (λ t. over t y) closed_is)
 
-        pub line-answer : (m : ℕ) (a : List ℕ) → m ≡ length (line_at (table_of s) k) → a ≡ over (line_at (table_of s) k) b
-            → print_line s k b ≡ record { answer = record { number = 0; place = 0; written = m }; buffer = a }
-        line-answer m a e f =
-            let h = found_here in
-            line-put k b h.0 ∙ put_whole (line_at (table_of s) k) b m e (omega (arith, h.1.0, h.1.1)) ∙ ap
-            (λ x. record { answer = record { number = 0; place = 0; written = m }; buffer = x }) (sym f)
+      pub line-answer : (m : ℕ) (a : List ℕ) → m ≡ length (line_at (table_of s) k) → a ≡ over (line_at (table_of s) k) b
+          → print_line s k b ≡ record { answer = record { number = 0; place = 0; written = m }; buffer = a }
+      line-answer m a e f =
+          let h = found_here in
+          line-put k b h.0 ∙ put_whole (line_at (table_of s) k) b m e (omega (arith, h.1.0, h.1.1)) ∙ ap
+          (λ x. record { answer = record { number = 0; place = 0; written = m }; buffer = x }) (sym f)
 
-        -- lines from it on
-        pub lines-answer : (a : List ℕ) (w : Written) → WroteIs s p r.cursor b a w
-            → several.print_lines s k b ≡ record { answer = record { number = 0; place = 0; written = w.bytes; next = k + w.lines }; buffer = a }
-        unfolding several.put_lines over
-        lines-answer a w W =
-            let h = found_here in
-            let from : ahead s p r.cursor ≡ drop k (page_lines (table_of s)) = F.lines n ∙ ap (drop k) lines-all in
-            lines-put k b h.0
-            ∙ chosen (leb (length (line_at (table_of s) k)) (length b)) (several.lines_given k (whole_lines (length b) (drop k (page_lines (table_of s)))) b)
-            (several.no_lines 20 (length (line_at (table_of s) k)) b)
-            (le-true (length (line_at (table_of s) k)) (length b) (omega (arith, h.1.0, h.1.1)))
-            ∙ rw (W.bytes, W.lines, W.page, from)
+      -- lines from it on
+      pub lines-answer : (a : List ℕ) (w : Written) → WroteIs s p r.cursor b a w
+          → several.print_lines s k b ≡ record { answer = record { number = 0; place = 0; written = w.bytes; next = k + w.lines }; buffer = a }
+      unfolding several.put_lines over
+      lines-answer a w W =
+          let h = found_here in
+          let from : ahead s p r.cursor ≡ drop k (page_lines (table_of s)) = F.lines ∙ ap (drop k) lines-all in
+          lines-put k b h.0
+          ∙ chosen (leb (length (line_at (table_of s) k)) (length b)) (several.lines_given k (whole_lines (length b) (drop k (page_lines (table_of s)))) b)
+          (several.no_lines 20 (length (line_at (table_of s) k)) b)
+          (le-true (length (line_at (table_of s) k)) (length b) (omega (arith, h.1.0, h.1.1)))
+          ∙ rw (W.bytes, W.lines, W.page, from)
 
-        pub k_small : k ≤ most_lines
-        k_small = omega (arith, found_here.0, line-count-bound (table_of s) (limits_of s h))
+      pub k_small : k ≤ most_lines
+      k_small = omega (arith, found_here.0, line-count-bound (table_of s) (limits_of s h))

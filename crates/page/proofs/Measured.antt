@@ -15,32 +15,6 @@ use Rattle.table.proofs.Held.{held}
 use Rattle.arrangement.specs.declared.Widths.{Widths}
 use Rattle.arrangement.specs.Widths.{arranged_widths}
 
-module _ (s : List ℕ) (c : Checked) (checked : c ≡ check s) where
-  -- a refused sheet: number and place of the check
-  pub measure_refused : (c.number ≡ 0 → ⊥)
-      → ◌≡◌ {A = Measured} (record {
-        number = c.number;
-        place = c.place;
-        columns = 0;
-        content = replicate most_columns 0;
-        hidden = replicate
-            most_columns false;
-      }) (measure s)
-  unfolding check measure check_of measure_of
-  measure_refused h = go (sheet s) refl
-    where
-      go : (y : Read Table) → sheet s ≡ y
-          → ◌≡◌ {A = Measured} (record {
-            number = c.number;
-            place = c.place;
-            columns = 0;
-            content = replicate most_columns 0;
-            hidden = replicate
-                most_columns false;
-          }) (measure_of (sheet s))
-      go (got t p) e = let z : c.number ≡ 0 = ap (λ (x : Checked). x.number) checked ∙ rw e in absurd (h z)
-      go (refused n p) e = let k : c ≡ record { number = n; place = p } = checked ∙ rw e in rw (e, k)
-
 -- an accepted one: its widths
 pub measure_accepted : (s : List ℕ) (w : Widths) → IsAccepted s → w ≡ arranged_widths (table_of s)
     → ◌≡◌ {A = Measured} (record { number = 0; place = 0; columns = w.count; content = w.content; hidden = w.hidden }) (measure s)

@@ -22,13 +22,6 @@ use Rattle.width_steps.specs.Steps.{report_of}
 use Rattle.display_info.specs.declared.Page.{Page}
 use Rattle.parts.specs.Ahead.{lines_of}
 use Rattle.lines.specs.Walk.{LongestIs}
-use Rattle.page.proofs.Answers.{refused_as}
-
--- a refused sheet: number and place of the check
-pub reasons_refused : (s : List ℕ) (c : Checked) → c ≡ check s → (c.number ≡ 0 → ⊥) → (r : Reasoned) → r ≡ reasons_of (refused c.number c.place)
-    → r ≡ reasons s
-unfolding reasons
-reasons_refused s c checked h r e = e ∙ sym (ap reasons_of (refused_as s c checked h))
 
 -- without a target there is no difference
 pub no_difference : (t : Table) (w : ℕ) → w ≡ t.target → w ≡ 0 → pos 0 ≡ difference t

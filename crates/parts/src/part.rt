@@ -18,8 +18,9 @@ use display_info::{Page, RowStyle};
 use formatting::content_format;
 use formatting::content_format::Part;
 use row::VisibleColumn;
+use table::accepted::AcceptedSheet;
 use table::records::Rows;
-use table::{settings, walk};
+use table::walk;
 
 // The lines that a row's limit leaves, 0 being none.
 fn within_limit(limit: usize, lines: usize) -> usize
@@ -124,7 +125,7 @@ fn draw_band(
         return nothing(true);
     }
     let columns = p.columns.as_slice();
-    let indicator = settings::indicator(sheet);
+    let indicator = AcceptedSheet { bytes: sheet }.indicator();
     let text = content_format::draw_row(
         page,
         sheet,

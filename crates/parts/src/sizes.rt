@@ -12,8 +12,9 @@ use crate::lengths::Lengths;
 use crate::part;
 use display_info::{Page, RowStyle};
 use formatting::row_size;
+use table::accepted::AcceptedSheet;
 use table::records::Rows;
-use table::{settings, walk};
+use table::walk;
 
 // The bytes of the first of some rows and of the rule after it, n lines of `size` bytes and the pairs that they show. A row without limit shows
 // each pair of its visible cells once, so that it needn't be wrapped.
@@ -34,7 +35,7 @@ fn band_bytes(sheet: &[u8], p: &Page, style: RowStyle, here: Rows, n: usize, siz
     if r.limit == 0 {
         return n * size + row::row_pairs(sheet, columns, r.cells);
     }
-    let indicator = settings::indicator(sheet);
+    let indicator = AcceptedSheet { bytes: sheet }.indicator();
     n * size + row_size::row_shown(sheet, columns, indicator, here, 0, n, p.plain)
 }
 
@@ -69,7 +70,7 @@ fn band_line(sheet: &[u8], p: &Page, style: RowStyle, here: Rows, n: usize, size
     }
     let columns = p.columns.as_slice();
     if n < part::row_lines(sheet, columns, here, p.plain) {
-        let indicator = settings::indicator(sheet);
+        let indicator = AcceptedSheet { bytes: sheet }.indicator();
         let pairs = row_size::row_shown(sheet, columns, indicator, here, n, n + 1, p.plain);
         return size + pairs;
     }

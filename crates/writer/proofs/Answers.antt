@@ -22,7 +22,8 @@ use Rattle.laws.proofs.Judging.{table_tests, judged_inside, judged_number, table
 use Rattle.buffer.specs.Put.{put_at, over}
 use Rattle.buffer.proofs.Laws.{over-put-zero}
 use Rattle.editor.specs.Walk.{Walk}
-use Rattle.editor.specs.Walk.{cap, State, state, cursor_of, fault_of, place_of, first_place, walked}
+use Rattle.editor.specs.declared.walk.Walk.{Walk as Going}
+use Rattle.editor.specs.Walk.{walk_of, number_in, place_in, cap, State, state, cursor_of, fault_of, place_of, first_place, walked}
 use Rattle.writer.specs.Answer.{Decided, begun, fitting, decided}
 use Rattle.editor.proofs.Entering.{cap_under}
 use Rattle.editor.proofs.Texts.{low_bytes}
@@ -66,25 +67,25 @@ module _ (w : Walk) (numbers bytes room : ℕ) where
       decided_fit h = rw (m, decided, ← e, f, le-ltb 32768 w.place h)
 
 -- by the code's tests of a walk on which nothing was missing
-module _ (w : Walk) (numbers bytes room : ℕ) (m : w.missing ≡ false) where
-  some-over : (b : Bool) → (ltb w.numbers numbers || ltb w.text bytes) ≡ b → b ≡ true → told 9 w.numbers ≡ decided w numbers bytes room
-  some-over b e h = decided-over w numbers bytes room m b (sym e) h
+module _ (w : Going) (numbers bytes room : ℕ) where
+  some-over : (b : Bool) → (ltb w.numbers numbers || ltb w.text bytes) ≡ b → b ≡ true → told 9 w.numbers ≡ decided (walk_of w) numbers bytes room
+  some-over b e h = decided-over (walk_of w) numbers bytes room refl b (sym e) h
 
-  pub numbers_over : w.numbers < numbers → told 9 w.numbers ≡ decided w numbers bytes room
+  pub numbers_over : w.numbers < numbers → told 9 w.numbers ≡ decided (walk_of w) numbers bytes room
   numbers_over h = some-over true (rw (lt-ltb w.numbers numbers h)) refl
 
-  pub text_over : numbers ≤ w.numbers → w.text < bytes → told 9 w.numbers ≡ decided w numbers bytes room
+  pub text_over : numbers ≤ w.numbers → w.text < bytes → told 9 w.numbers ≡ decided (walk_of w) numbers bytes room
   text_over h k = some-over true (rw (le-ltb w.numbers numbers h, lt-ltb w.text bytes k)) refl
 
   module _ (h : numbers ≤ w.numbers) (k : bytes ≤ w.text) where
     none-over : false ≡ (ltb w.numbers numbers || ltb w.text bytes)
     none-over = rw (le-ltb w.numbers numbers h, le-ltb w.text bytes k)
 
-    pub too_long : 32768 < w.place → told 2 32768 ≡ decided w numbers bytes room
-    too_long l = decided_long w numbers bytes room m false none-over refl l
+    pub too_long : 32768 < w.place → told 2 32768 ≡ decided (walk_of w) numbers bytes room
+    too_long l = decided_long (walk_of w) numbers bytes room refl false none-over refl l
 
-    pub by_fit : w.place ≤ 32768 → fitting w.fault w.at w.place room ≡ decided w numbers bytes room
-    by_fit l = decided_fit w numbers bytes room m false none-over refl l
+    pub by_fit : w.place ≤ 32768 → fitting (number_in w.fault) (place_in w.fault) w.place room ≡ decided (walk_of w) numbers bytes room
+    by_fit l = decided_fit (walk_of w) numbers bytes room refl false none-over refl l
 
 -- ---- what the first run tells of the table that the slices describe
 

@@ -1,6 +1,7 @@
 -- What a section comes to, as the code walks it, and what stays where something was missing: the check's own search tries these laws. Assumes nothing.
 pub use Rattle.writer.proofs.Walks.{walked_stays, byte_stays, width_with, width_without, constraint_steps, constraint_stays, column_steps, counted_steps}
 pub use Rattle.writer.proofs.Walks.{items_stay, cell_steps, cells_steps, row_steps, head_steps, body_steps, body_stays, table_steps}
+pub use Rattle.writer.proofs.Answers.{numbers_over, text_over, too_long, by_fit}
 
 pub ruleset sections = (
   walked_stays,
@@ -20,3 +21,5 @@ pub ruleset sections = (
   body_stays,
   table_steps,
 )
+
+pub ruleset decisions = (numbers_over, text_over, too_long, by_fit)

@@ -9,8 +9,6 @@ use Rattle.rules.specs.Editor.{number_at}
 use Rattle.editor.specs.Walk.{Walk}
 use Rattle.editor.specs.Walk.{cursor_of, State, walked}
 use Rattle.rules.specs.Refusals.{number_of}
-use Rattle.rules.specs.Calls.{turned_down}
-use Rattle.rules.specs.declared.Printed.{Printed}
 use Rattle.rules.specs.declared.Refusal.{Refusal}
 
 -- a constraint: its code; the first width is used from 3 on, the second by 6
@@ -39,14 +37,10 @@ pub record Decided : Type 0 where
   pub number : ℕ
   pub place : ℕ
 
--- what the code's decision, and its answer, come to
+-- what the code's decision comes to
 abbrev pub decided_to : Result (Unit {0}) Refusal → Decided
 decided_to (Ok u) = record { number = 0; place = 0 }
 decided_to (Err r) = record { number = number_of r.reason; place = r.place }
-
-abbrev pub printed_of : Result ℕ Refusal → Printed
-printed_of (Ok n) = record { number = 0; place = 0; written = n }
-printed_of (Err r) = turned_down (number_of r.reason) r.place
 
 -- what is answered by the walk over the whole table, and by how much room there is: 1, 9, 2, the first fault, 22
 unfoldable pub fitting : ℕ → ℕ → ℕ → ℕ → Decided

@@ -3,6 +3,7 @@
 #![tactic(auto, using(crate::proofs::Laws::sections))]
 
 ghost use Rattle.std.specs.Prelude.{◌≡◌, []};
+ghost use Rattle.rules.specs.Calls.{printed_of};
 ghost use Rattle.rules.specs.Writer as calls;
 ghost use Rattle.rules.specs.Format as format;
 ghost use Rattle.editor.specs.Walk.{state, walked, walk_of, walked_to, number_in, place_in};
@@ -77,6 +78,7 @@ fn fit(fault: Option<Refusal>, place: usize, room: usize) -> Result<(), Refusal>
 }
 
 // By the first run, on which nothing was missing: 9, for then there is no table; 2; the first fault; 22.
+#[tactic(auto, using(crate::proofs::Laws::decisions))]
 fn decide(walked: Walk, numbers: usize, text: usize, room: usize) -> Result<(), Refusal>
     ensures { answer.decided_to result ≡ answer.decided (walk_of walked) numbers text room }
 {
@@ -97,7 +99,7 @@ fn decide(walked: Walk, numbers: usize, text: usize, room: usize) -> Result<(), 
 
 // The size of the sheet that is written, or the refusal; a refusal leaves the buffer as it is.
 fn write(numbers: &[u16], text: &[u8], sheet: &mut [u8]) -> Result<usize, Refusal>
-    ensures value { answer.printed_of result ≡ (calls.write_sheet numbers.now text.now sheet.old).answer }
+    ensures value { printed_of result ≡ (calls.write_sheet numbers.now text.now sheet.old).answer }
     ensures sheet_after { sheet.new ≡ (calls.write_sheet numbers.now text.now sheet.old).buffer }
 {
     let walked = judge(numbers, text)?;
@@ -111,12 +113,5 @@ pub fn write_sheet(numbers: &[u16], text: &[u8], sheet: &mut [u8]) -> Printed
     ensures value { result ≡ (calls.write_sheet numbers.now text.now sheet.old).answer }
     ensures sheet_after { sheet.new ≡ (calls.write_sheet numbers.now text.now sheet.old).buffer }
 {
-    match write(numbers, text, sheet) {
-        Ok(size) => Printed {
-            number: 0,
-            place: 0,
-            written: size as u64,
-        },
-        Err(refusal) => Printed::from(refusal),
-    }
+    Printed::from(write(numbers, text, sheet))
 }

@@ -1,21 +1,21 @@
+-- `page::count` meets its contract. Assumes nothing.
 use mathlib.Core.Path.{refl}
-use Rattle.table.proofs.Held.{is_accepted}
-use Rattle.page.proofs.Answers.{examined, examined-plain, count_refused, count-all, count_accepted}
+use Rattle.rules.specs.Calls.{count}
+use Rattle.page.proofs.Answers.{accepted, plain_table, refused_by, count-all, count_accepted}
 use Rattle.page.proofs.count.Goals as goal
 
-pub returns-then-examined-ne0 : goal.returns-then-examined-ne0
-returns-then-examined-ne0 c = count_refused _ _ (examined _ _ c.examine-examined.ensures) c.if-examined-ne0.true
+pub returns-in-Err : goal.returns-in-Err
+unfolding count
+returns-in-Err c = rw (c.from.ensures, refused_by _ _ c.in-Err.ensures)
 
 pub open-p-requires : goal.open-p-requires
-open-p-requires c =
-    let e = c.examine-examined.ensures in
-    let h = is_accepted _ _ (examined _ _ e) c.if-examined-ne0.false in record { accepted = h; plain_table = examined-plain _ _ e h }
+open-p-requires c = let e = c.in-Ok.ensures in plain_table _ _ e
 
 pub count-totals-requires : goal.count-totals-requires
 count-totals-requires c = c.open-p.ensures.0
 
 pub returns : goal.returns
 returns c =
-    let h = is_accepted _ _ (examined _ _ c.examine-examined.ensures) c.if-examined-ne0.false in
+    let h = accepted _ _ c.in-Ok.ensures in
     let t = count-all _ h _ c.open-p.ensures.1 _ c.count-totals.ensures in
     count_accepted _ h _ t.0 t.1

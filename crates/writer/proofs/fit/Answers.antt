@@ -1,6 +1,6 @@
 -- `writer::fit` meets its contract. Assumes nothing.
 use mathlib.Core.Path.{refl}
-use Rattle.editor.proofs.Entering.{number_some}
+use Rattle.rules.proofs.Refusals.{number_some}
 use Rattle.writer.proofs.Answers.{fit_fault, fit_short, fit_fine}
 use Rattle.writer.proofs.fit.Goals as goal
 

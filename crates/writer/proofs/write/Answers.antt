@@ -2,7 +2,7 @@
 use mathlib.Core.Path.{refl}
 use Rattle.std.proofs.lemmas.Result.{err_from_is_err_and}
 use Rattle.editor.specs.Walk.{walk_of, lacking_of}
-use Rattle.editor.proofs.Entering.{number_some}
+use Rattle.rules.proofs.Refusals.{number_some}
 use Rattle.writer.proofs.Answers.{call_refused, call_missing, call_saved}
 use Rattle.writer.proofs.write.Goals as goal
 

@@ -1,0 +1,42 @@
+-- `page::write_page` meets its contract. Assumes nothing.
+use mathlib.Core.Path.{refl, sym, ap}
+use native.Mathlib.Omega.{arith}
+use Rattle.std.proofs.lemmas.Result.{err_from_is_err_and}
+use Rattle.rules.specs.Calls.{Written}
+use Rattle.parts.proofs.Parts.{first-at, first-ahead}
+use Rattle.page.proofs.Answers.{accepted, plain_table, page_refused, count-all, lines-bound-first, page_short, page-written}
+use Rattle.page.proofs.write_page.Goals as goal
+
+pub returns-in_err-examined : goal.returns-in_err-examined
+returns-in_err-examined c =
+    let p = err_from_is_err_and c.from_residual.result c.from_residual.ensures.1 in
+    let e = page_refused _ _ c.in_err-examined.ensures c.args.page.now in
+    record { value = rw (p.1, p.2) (sym (ap (λ (w : Written). w.answer) e)); page_after = sym (ap (λ (w : Written). w.buffer) e) }
+
+pub open-p-requires : goal.open-p-requires
+open-p-requires c = let e = c.in_ok-examined.ensures in plain_table _ _ e
+
+pub count-totals-requires : goal.count-totals-requires
+count-totals-requires c = c.open-p.ensures.0
+
+pub returns-then-page-totals : goal.returns-then-page-totals
+returns-then-page-totals c =
+    let h = accepted _ _ c.in_ok-examined.ensures in
+    let t = count-all _ h _ c.open-p.ensures.1 _ c.count-totals.ensures in
+    let e = page_short _ h c.args.page.now _ t.1 c.if-page-totals.true in
+    record { value = sym (ap (λ (w : Written). w.answer) e); page_after = sym (ap (λ (w : Written). w.buffer) e) }
+
+pub write-wrote-requires : goal.write-wrote-requires
+write-wrote-requires c =
+    let O = c.open-p.ensures.0 in
+    let h = accepted _ _ c.in_ok-examined.ensures in
+    rw c.first.ensures (O, (first-at _ _ O, lines-bound-first _ h _ c.open-p.ensures.1 O))
+
+pub returns : goal.returns
+returns c =
+    let o = c.open-p.ensures in
+    let h = accepted _ _ c.in_ok-examined.ensures in
+    let t = count-all _ h _ o.1 _ c.count-totals.ensures in
+    let e = page-written _ h _ o.1 c.args.page.now _ c.write-wrote.result (first-ahead _ _ o.0)
+    (rw c.first.ensures at c.write-wrote.ensures) (omega (arith, t.1, c.if-page-totals.false)) in
+    record { value = sym (ap (λ (x : Written). x.answer) e); page_after = sym (ap (λ (x : Written). x.buffer) e) }
