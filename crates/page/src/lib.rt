@@ -101,7 +101,7 @@ pub fn count(sheet: &[u8]) -> Counted
 }
 
 // The page over the buffer's start, and its bytes. It is counted before it is written, so that a short buffer keeps every byte.
-fn write_page(sheet: &[u8], page: &mut [u8]) -> Result<usize, Refusal>
+pub fn write_page(sheet: &[u8], page: &mut [u8]) -> Result<usize, Refusal>
     ensures value { calls.printed_of result ≡ (calls.print_page sheet.now page.old).answer }
     ensures page_after { page.new ≡ (calls.print_page sheet.now page.old).buffer }
 {
@@ -119,6 +119,7 @@ fn write_page(sheet: &[u8], page: &mut [u8]) -> Result<usize, Refusal>
     Ok(wrote.bytes)
 }
 
+// The same for C.
 pub fn print_page(sheet: &[u8], page: &mut [u8]) -> Printed
     ensures value { result ≡ (calls.print_page sheet.now page.old).answer }
     ensures page_after { page.new ≡ (calls.print_page sheet.now page.old).buffer }
@@ -127,7 +128,7 @@ pub fn print_page(sheet: &[u8], page: &mut [u8]) -> Printed
 }
 
 // Line k over the buffer's start, and its bytes: the lines before it are passed over, and none of them is drawn.
-fn write_line(sheet: &[u8], line: usize, page: &mut [u8]) -> Result<usize, Refusal>
+pub fn write_line(sheet: &[u8], line: usize, page: &mut [u8]) -> Result<usize, Refusal>
     ensures value { calls.printed_of result ≡ (calls.print_line sheet.now line page.old).answer }
     ensures page_after { page.new ≡ (calls.print_line sheet.now line page.old).buffer }
 {
@@ -140,6 +141,7 @@ fn write_line(sheet: &[u8], line: usize, page: &mut [u8]) -> Result<usize, Refus
     Ok(drawn.bytes)
 }
 
+// The same for C.
 pub fn print_line(sheet: &[u8], line: usize, page: &mut [u8]) -> Printed
     ensures value { result ≡ (calls.print_line sheet.now line page.old).answer }
     ensures page_after { page.new ≡ (calls.print_line sheet.now line page.old).buffer }
@@ -171,7 +173,7 @@ impl From<Refusal> for PrintedLines {
 }
 
 // Lines from line k on over the buffer's start, as many whole ones as it holds: how many, and their bytes.
-fn write_lines(sheet: &[u8], line: usize, page: &mut [u8]) -> Result<Totals, Refusal>
+pub fn write_lines(sheet: &[u8], line: usize, page: &mut [u8]) -> Result<Totals, Refusal>
     ensures value { printed_lines line result ≡ (print_lines sheet.now line page.old).answer }
     ensures page_after { page.new ≡ (print_lines sheet.now line page.old).buffer }
     ensures few { IfOk result (λ t. line + t.lines < 2 ^ 64) }
@@ -187,6 +189,7 @@ fn write_lines(sheet: &[u8], line: usize, page: &mut [u8]) -> Result<Totals, Ref
     })
 }
 
+// The same for C.
 pub fn print_lines(sheet: &[u8], line: usize, page: &mut [u8]) -> PrintedLines
     ensures value { result ≡ (print_lines sheet.now line page.old).answer }
     ensures page_after { page.new ≡ (print_lines sheet.now line page.old).buffer }

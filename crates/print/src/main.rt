@@ -7,11 +7,13 @@ ghost use Rattle.std.specs.Prelude.{◌+◌, ◌≤◌, length};
 ghost use Rattle.rules.specs.Limits.{longest_line};
 
 use parts::cursor;
+use rules::Refusal;
 use std::fmt;
 use std::io::Cursor;
 use std::io::prelude::*;
 use std::time::Clock;
 use stream::Failure;
+use table::accepted::AcceptedSheet;
 
 // What couldn't be done.
 #[derive(Drop)]
@@ -34,9 +36,9 @@ impl fmt::Display for Error {
 }
 
 // Writes `refused N at P` and 0A by one call: a number that is cut would be another number.
-fn write_refusal<R: Print + Clock>(rt: &R, number: u64, place: u64) -> Result<(), Failure> {
+fn write_refusal<R: Print + Clock>(rt: &R, refusal: Refusal) -> Result<(), Failure> {
     let mut line = Cursor::new([0u8; 64]);
-    let _ = writeln!(line, "refused {number} at {place}");
+    let _ = writeln!(line, "{refusal}");
     let n = line.position() as usize;
     let line = line.into_inner();
     stream::write_all(rt, &line[..n.min(line.len())])
@@ -46,11 +48,11 @@ fn write_refusal<R: Print + Clock>(rt: &R, number: u64, place: u64) -> Result<()
 fn print<R: Print + Clock>(rt: &R, sheet: &[u8], space: &mut [u8]) -> Result<(), Error>
     requires { longest_line + 1 ≤ length space.old }
 {
-    let examined = sheet::examine(sheet);
-    if examined.number != 0 {
-        return write_refusal(rt, examined.number, examined.place).map_err(Error::Untold);
-    }
-    let p = display_info::open(sheet, examined.plain);
+    let examined = match sheet::examine(sheet) {
+        Ok(examined) => examined,
+        Err(refusal) => return write_refusal(rt, refusal).map_err(Error::Untold),
+    };
+    let p = display_info::open(&AcceptedSheet { bytes: sheet }, examined.plain);
     let mut c = cursor::first(&p);
     while !cursor::is_end(c) {
         let part = lines::write(space, sheet, &p, c);

@@ -3,7 +3,7 @@
 #![tactic(auto)]
 
 use reader::PageReader;
-use rules::{Printed, STYLE_CHARACTERS};
+use rules::{Reason, Refusal, STYLE_CHARACTERS};
 use style::table_style::TableStyle;
 
 // Where a sheet without an indicator has its style's characters.
@@ -40,27 +40,18 @@ fn characters(s: TableStyle) -> [u8; STYLE_CHARACTERS] {
     ]
 }
 
-// Line after line; gives the answer that ends the page, 21 and its line count.
-fn read_page<R: Print>(rt: &R, sheet: &[u8], buffer: &mut [u8]) -> Printed {
+// Line after line; gives the refusal that ends the page, which is that there is no such line.
+fn read_page<R: Print>(rt: &R, sheet: &[u8], buffer: &mut [u8]) -> Option<Refusal> {
     let mut reader = PageReader::new(sheet);
-    let mut answer = reader.next(buffer);
-    for _ in 0..MOST_LINES {
-        if answer.number != 0 {
-            break;
+    for _ in 0..=MOST_LINES {
+        match reader.next(buffer) {
+            Ok(n) => {
+                let _ = rt.write_all(buffer.get(..n).unwrap_or(b""));
+            }
+            Err(refusal) => return Some(refusal),
         }
-        let line = buffer.get(..answer.written as usize).unwrap_or(b"");
-        let _ = rt.write_all(line);
-        answer = reader.next(buffer);
     }
-    answer
-}
-
-// A refusal as the print program says it; 21 is the page's end.
-fn report<R: Print>(rt: &R, last: Printed) {
-    let Printed { number, place, .. } = last;
-    if number != 21 {
-        let _ = println!(rt; "refused {number} at {place}");
-    }
+    None
 }
 
 // Room for a sheet that is one byte too long, and for many lines of a page: the longest has 11,401 bytes.
@@ -69,6 +60,8 @@ fn main(rt: HostRuntime) {
     let n = stream::read_full(&rt, &mut space);
     let mut buffer = [0u8; 65536];
     let last = read_page(&rt, &space[..n], &mut buffer);
-    report(&rt, last);
+    if let Some(refusal) = last.filter(|refusal| refusal.reason != Reason::NoSuchLine) {
+        let _ = println!(rt; "{refusal}");
+    }
     try_styles(&rt, &space[..n]);
 }

@@ -4,7 +4,6 @@
 
 ghost use Rattle.std.specs.Prelude.{◌≡◌, ◌≤◌, length};
 
-use rules::Checked;
 use std::str;
 
 // A byte and how often it is meant: once where no count follows it.
@@ -33,10 +32,9 @@ fn replay<R: Print>(rt: &R, name: &str, line: &str, sheet: &mut [u8])
     ensures { length sheet.new ≡ length sheet.old }
 {
     let size = decode(line, sheet);
-    let Checked { number, place } = sheet::check(&sheet[..size]);
-    let _ = match number {
-        0 => println!(rt; "{name}: accepted"),
-        _ => println!(rt; "{name}: refused {number} at {place}"),
+    let _ = match sheet::examine(&sheet[..size]) {
+        Ok(_) => println!(rt; "{name}: accepted"),
+        Err(refusal) => println!(rt; "{name}: {refusal}"),
     };
 }
 

@@ -1,7 +1,5 @@
 -- Why a call refuses, and the number that docs/FORMAT.md gives each reason. Assumes nothing.
-use Rattle.std.specs.Prelude.{ℕ, Result, Ok, Err}
-use Rattle.rules.specs.declared.Printed.{Printed}
-use Rattle.rules.specs.declared.Refusal.{Refusal}
+use Rattle.std.specs.Prelude.{ℕ}
 use Rattle.rules.specs.declared.Reason.{Reason}
 use Rattle.rules.specs.declared.Reason.TheVariants.{Ended, TooLong, WrongEdition, UnknownCode, BeyondLimits, BadCharacter, TooManyCells, NotZero}
 use Rattle.rules.specs.declared.Reason.TheVariants.{LeftOver, PageOverBuffer, NoSuchLine, SheetOverBuffer}
@@ -19,8 +17,3 @@ number_of LeftOver = 9
 number_of PageOverBuffer = 20
 number_of NoSuchLine = 21
 number_of SheetOverBuffer = 22
-
--- what a call that writes answers, for C: how many bytes were written, or why nothing was
-abbrev pub printed_of : Result ℕ Refusal → Printed
-printed_of (Ok n) = record { number = 0; place = 0; written = n }
-printed_of (Err r) = record { number = number_of r.reason; place = r.place; written = 0 }

@@ -9,11 +9,8 @@ use Rattle.rules.specs.Format.{written}
 use Rattle.std.specs.Prelude.{Result, Ok, Err}
 use Rattle.rules.specs.declared.Printed.{Printed}
 use Rattle.rules.specs.declared.Refusal.{Refusal}
-use Rattle.rules.specs.declared.Reason.{Reason}
-use Rattle.rules.specs.declared.Reason.TheVariants.{Ended, TooLong, WrongEdition, UnknownCode, BeyondLimits, BadCharacter, TooManyCells, NotZero}
-use Rattle.rules.specs.declared.Reason.TheVariants.{LeftOver, PageOverBuffer, NoSuchLine, SheetOverBuffer}
-use Rattle.rules.specs.Refusals.{number_of, printed_of}
-use Rattle.rules.specs.Calls.{put_or, put, not_printed}
+use Rattle.rules.proofs.Refusals.{number_some}
+use Rattle.rules.specs.Calls.{put_or, put, not_printed, printed_of}
 use Rattle.buffer.specs.Put as buffer
 use Rattle.small.specs.Listing.{sheets, write_sheet}
 use Rattle.small_sheets.specs.Chosen.{Choice, texts_is, IsChoice, cells_is, sheet_is}
@@ -62,20 +59,6 @@ sheet_printed n b l h =
     rw (sheets-count, lt-ltb n 32736 l, write_sheet, le-leb (length (get_or sheets n [])) (length b) (omega (arith, h, sheet_fits n l)), put_or)
 
 -- no reason has the number 0, so that such an answer says that all was written
-some_reason : (r : Reason) → number_of r ≡ 0 → ⊥
-some_reason Ended e = absurd (omega (arith, e))
-some_reason TooLong e = absurd (omega (arith, e))
-some_reason WrongEdition e = absurd (omega (arith, e))
-some_reason UnknownCode e = absurd (omega (arith, e))
-some_reason BeyondLimits e = absurd (omega (arith, e))
-some_reason BadCharacter e = absurd (omega (arith, e))
-some_reason TooManyCells e = absurd (omega (arith, e))
-some_reason NotZero e = absurd (omega (arith, e))
-some_reason LeftOver e = absurd (omega (arith, e))
-some_reason PageOverBuffer e = absurd (omega (arith, e))
-some_reason NoSuchLine e = absurd (omega (arith, e))
-some_reason SheetOverBuffer e = absurd (omega (arith, e))
-
 pub printed_all : (r : Result ℕ Refusal) (n : ℕ) → printed_of r ≡ record { number = 0; place = 0; written = n } → r ≡ Ok n
 printed_all (Ok m) n e = ap (λ (p : Printed). Ok p.written) e
-printed_all (Err r) n e = absurd (some_reason r.reason (ap (λ (p : Printed). p.number) e))
+printed_all (Err r) n e = absurd (number_some r.reason (ap (λ (p : Printed). p.number) e))

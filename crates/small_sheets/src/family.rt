@@ -3,7 +3,7 @@ ghost use Rattle.std.specs.Prelude.{◌≡◌, ◌+◌, ◌*◌, ◌^◌, ◌≤
 ghost use Rattle.buffer.specs.Put.{over, put_at};
 ghost use Rattle.small.specs.Listing.{choices, letters, texts, write_sheet};
 ghost use Rattle.small_sheets.specs.Parts.{cell_bytes, head_bytes, columns_bytes};
-ghost use Rattle.rules.specs.Refusals.{printed_of};
+ghost use Rattle.rules.specs.Calls.{printed_of};
 ghost use Rattle.small_sheets.specs.Chosen.{text_is, columns_of, IsTextAt, IsPlace, ChoiceAt, IsChoice, cells_is, sheet_is};
 
 use crate::choice::{Choice, Place, Text};

@@ -1,7 +1,6 @@
 use mathlib.Core.Path.{refl, sym, ap, ◌∙◌}
 use Rattle.rules.specs.declared.Printed.{Printed}
-use Rattle.rules.specs.Refusals.{printed_of}
-use Rattle.rules.specs.Calls.{Written}
+use Rattle.rules.specs.Calls.{Written, printed_of}
 use Rattle.small_sheets.proofs.Answers.{sheet_fits, sheet_printed, printed_all}
 use Rattle.small_sheets.proofs.next_sheet.Goals as goal
 
