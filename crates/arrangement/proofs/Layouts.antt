@@ -17,8 +17,6 @@ use Rattle.laws.proofs.Lists.{get_d_map, get_d-up_from, length-up_from, map_belo
 use Rattle.style.specs.Bytes.{bytes_of}
 use Rattle.style.specs.Table.{arrangement_of}
 use Rattle.style.specs.declared.table.ContentArrangement.{ContentArrangement}
-use Rattle.style.specs.declared.table_style.LineStyle.{LineStyle}
-use Rattle.style.specs.declared.table_style.ContentLineStyle.{ContentLineStyle}
 use Rattle.style.specs.declared.table_style.TableStyle.{TableStyle}
 use Rattle.table.specs.Held.{settings_of, columns_of}
 use Rattle.table.specs.declared.records.Settings.{Settings}
@@ -29,23 +27,10 @@ use Rattle.arrangement.specs.declared.Widths.{Widths}
 use Rattle.arrangement.specs.declared.dynamic.Course.{Course}
 use Rattle.arrangement.specs.Arrange.{arranged}
 use Rattle.arrangement.specs.Describes.{Describes}
-use Rattle.arrangement.specs.Widths.{line_from, content_from, style_from, marking, marked, widths_from, arranged_widths}
+use Rattle.arrangement.specs.Widths.{style_from, marking, marked, widths_from, arranged_widths}
 use Rattle.arrangement.proofs.Offers.{hidden_as}
 use Rattle.arrangement.proofs.Arranged.{arranged-contents}
 use Rattle.arrangement.proofs.Placed.{map_last}
-
--- six parts of a style
-pub style_at : (S : List ℕ) (a : LineStyle) (b : ContentLineStyle) (c : LineStyle) (d : ContentLineStyle) (e f : LineStyle)
-    → a ≡ line_from S 0 → b ≡ content_from S 4 → c ≡ line_from S 7 → d ≡ content_from S 11 → e ≡ line_from S 14 → f ≡ line_from S 18
-    → ◌≡◌ {A = TableStyle} (record {
-      top_border = a;
-      header_lines = b;
-      header_separator = c;
-      content_lines = d;
-      row_separator = e;
-      bottom_border = f;
-    }) (style_from S)
-style_at S a b c d e f h i j k m n = rw (h, i, j, k, m, n)
 
 module _ (t : Table) (limits : TableLimits t) (x : Columns) (columns : x ≡ columns_of t) where
   -- no more columns than there can be
@@ -117,11 +102,6 @@ entries_padded {A} a p (suc n) h =
     let k : length (map p (up_from 0 n)) ≡ n = length-map (up_from 0 n) p ∙ length-up_from 0 n in
     ap (λ (xs : List A). set xs n (p n)) (entries_padded a p n (omega arith)) ∙ set_padded a n (map p (up_from 0 n)) (p n) k h
     ∙ ap (as_array a) (sym (map_last p n))
-
--- widths and flags
-pub widths_from_lem : (l : Layout) (c : Course) (fs : List Bool) → fs ≡ marked l
-    → ◌≡◌ {A = Widths} (record { count = l.count; content = c.state.widths; hidden = fs }) (widths_from l c)
-widths_from_lem l c fs e = ap (λ (x : List Bool). record { count = l.count; content = c.state.widths; hidden = x }) e
 
 -- a column is marked
 pub marking-at : (l : Layout) (i : ℕ) (fs : List Bool) (b : Bool) → b ≡ is_hidden (column l i) → set fs i b ≡ marking l i fs

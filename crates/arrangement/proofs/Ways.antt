@@ -3,19 +3,19 @@ use Prim.Native.Nat.{ℕ, ◌+◌, ◌-◌}
 use mathlib.Core.Path.{◌≡◌, refl, sym, ap, ◌∙◌}
 use mathlib.Core.Bool.{Bool, true, false, ◌||◌}
 use native.Mathlib.Omega.{arith}
-use lib.ListN.{get_or, replicate}
+use lib.ListN.{get_or}
 use lib.Dec.{eqb}
 use borrow.Author.Tests.{ne_eqb}
 use mathlib.Core.Option.{Option, some}
 use Rattle.rules.specs.declared.Column.{Column}
-use Rattle.rules.specs.Sheet.{padding, is_hidden, most_columns}
+use Rattle.rules.specs.Sheet.{padding, is_hidden}
 use Rattle.style.specs.Table.{is_disabled}
 use Rattle.constraint.specs.declared.Layout.{Layout}
 use Rattle.constraint.specs.declared.State.{State}
 use Rattle.constraint.specs.Set.{contains}
-use Rattle.constraint.specs.Widths.{column, longest, upper, visible, pass}
+use Rattle.constraint.specs.Widths.{column, longest, upper, pass}
 use Rattle.constraint.proofs.Cases.{if-true, if-false}
-use Rattle.arrangement.specs.Arrange.{trimmed, untargeted, charged, remaining, targeted, begun, started, plainly, dynamic, arranged}
+use Rattle.arrangement.specs.Arrange.{trimmed, untargeted, charged, remaining, targeted, started, plainly, dynamic, arranged}
 use Rattle.arrangement.specs.declared.dynamic.Course.{Course}
 
 pub untargeted_rule : (t : Layout) (i : ℕ) (s : State) (c : Column) (b : Option ℕ) (w : ℕ) → c ≡ column t i → b ≡ upper t s.visible c
@@ -44,10 +44,6 @@ module _ (t : Layout) (s : State) (i r : ℕ) (h : Bool) (p : h ≡ is_hidden (c
 pub targeted-at : (t : Layout) (s : State) (r : ℕ) → r ≡ remaining t s
     → ◌≡◌ {A = State} (record { widths = s.widths; decided = s.decided; remaining = r; visible = s.visible }) (targeted t s)
 targeted-at t s r e = ap (λ (k : ℕ). record { widths = s.widths; decided = s.decided; remaining = k; visible = s.visible }) e
-
-pub begun-at : (t : Layout) (v : ℕ) → v ≡ visible t
-    → ◌≡◌ {A = State} (record { widths = replicate most_columns 0; decided = record { 0 = 0 }; remaining = 0; visible = v }) (begun t)
-begun-at t v e = ap (λ (k : ℕ). record { widths = replicate most_columns 0; decided = record { 0 = 0 }; remaining = 0; visible = k }) e
 
 module _ (parts : ℕ → ℕ → ℕ) (t : Layout) (s : State) (e : s ≡ started t) (r : Course) where
   pub arranged-untargeted : (u : State) → eqb t.target 0 || is_disabled t.arrangement ≡ true → u ≡ pass untargeted t s → r ≡ plainly s.decided u → r ≡ arranged parts t

@@ -24,10 +24,9 @@ loop-again-preserved g c =
     let u = c.pass.new.s in
     let f = turn g.S.Step.ended (g.S.Step.rule c.args.step.now) c.args.t.now in
     let going = c.loop-again.invariant.0 in
-    let grew = turn_grew c.args.t.now c.requires.0 c.loop-again.s going.small g.S.Step.ended (g.S.Step.rule c.args.step.now) in
-    (
+    let grew = turn_grew c.args.t.now c.requires.0 c.loop-again.s going.small g.S.Step.ended (g.S.Step.rule c.args.step.now) in (
       subst (λ (d : ℕ). Going f (repeated f c.args.s.now) u (not (eqb u.decided.0 d))) (sym c.loop-again.invariant.1)
-      (round-again _ _ _ _ going c.loop-again-test.true _ c.pass.ensures grew),
+          (round-again _ _ _ _ going c.loop-again-test.true _ c.pass.ensures grew),
       refl,
     )
 
