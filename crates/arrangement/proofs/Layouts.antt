@@ -15,7 +15,8 @@ use Rattle.rules.specs.Widths as doc
 use Rattle.rules.specs.Widths.{longest_part, contents}
 use Rattle.laws.proofs.Lists.{get_d_map, get_d-up_from, length-up_from, map_below}
 use Rattle.style.specs.Bytes.{bytes_of}
-use Rattle.style.specs.Table.{arrangement_of}
+use Rattle.std.specs.Prelude as std
+use Rattle.style.specs.Table.{arrangement_of, target_of}
 use Rattle.style.specs.declared.table.ContentArrangement.{ContentArrangement}
 use Rattle.style.specs.declared.table_style.TableStyle.{TableStyle}
 use Rattle.table.specs.Held.{settings_of, columns_of}
@@ -50,12 +51,12 @@ module _ (t : Table) (limits : TableLimits t) (x : Columns) (columns : x ≡ col
       ∙ ap (doc.longest t) (get_d-up_from 0 most_columns j 0 h ∙ omega arith)
 
   -- what was read from the sheet
-  pub describes : (h : Settings) (S : List ℕ) (y : TableStyle) (r : ContentArrangement) (ns : List ℕ) (a b c : Bool) → h ≡ settings_of t → S ≡ t.style → y ≡ style_from S
-      → r ≡ arrangement_of h.arrangement → ns ≡ map (doc.longest t) (up_from 0 most_columns)
+  pub describes : (h : Settings) (S : List ℕ) (y : TableStyle) (r : ContentArrangement) (w : std.Option ℕ) (ns : List ℕ) (a b c : Bool) → h ≡ settings_of t → S ≡ t.style → y ≡ style_from S
+      → r ≡ arrangement_of h.arrangement → w ≡ target_of h.target → ns ≡ map (doc.longest t) (up_from 0 most_columns)
       → a ≡ any_left (bytes_of y) → b ≡ any_right (bytes_of y) → c ≡ any_junction (bytes_of y)
       → Describes (record {
         arrangement = r;
-        target = h.target;
+        target = w;
         left = a;
         right = b;
         junction = c;
@@ -64,12 +65,12 @@ module _ (t : Table) (limits : TableLimits t) (x : Columns) (columns : x ≡ col
         longest = ns;
       }) t
   unfolding settings_of columns_of
-  describes h S y z ns a b c e f g q i l r m =
+  describes h S y z w ns a b c e f g q p i l r m =
       record {
         count = ap (λ (z : Columns). z.count) columns;
         few = count_fits;
         column = column-at;
-        target = ap (λ (z : Settings). z.target) e;
+        target = p ∙ ap (λ (z : Settings). target_of z.target) e;
         arrangement = q ∙ ap (λ (z : Settings). arrangement_of z.arrangement) e;
         left = l ∙ rw (g, f);
         right = r ∙ rw (g, f);

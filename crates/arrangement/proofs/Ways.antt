@@ -1,11 +1,11 @@
 -- One law for each way out of a function. Assumes nothing.
 use Prim.Native.Nat.{ℕ, ◌+◌, ◌-◌}
 use mathlib.Core.Path.{◌≡◌, refl, sym, ap, ◌∙◌}
-use mathlib.Core.Bool.{Bool, true, false, ◌||◌}
+use mathlib.Core.Bool.{Bool, true, false, not, ◌||◌}
 use native.Mathlib.Omega.{arith}
 use lib.ListN.{get_or}
-use lib.Dec.{eqb}
-use borrow.Author.Tests.{ne_eqb}
+use Rattle.std.specs.Prelude as std
+use Rattle.std.specs.Prelude.{is_some, is_none}
 use mathlib.Core.Option.{Option, some}
 use Rattle.rules.specs.declared.Column.{Column}
 use Rattle.rules.specs.Sheet.{padding, is_hidden}
@@ -46,18 +46,23 @@ pub targeted-at : (t : Layout) (s : State) (r : ℕ) → r ≡ remaining t s
 targeted-at t s r e = ap (λ (k : ℕ). record { widths = s.widths; decided = s.decided; remaining = k; visible = s.visible }) e
 
 module _ (parts : ℕ → ℕ → ℕ) (t : Layout) (s : State) (e : s ≡ started t) (r : Course) where
-  pub arranged-untargeted : (u : State) → eqb t.target 0 || is_disabled t.arrangement ≡ true → u ≡ pass untargeted t s → r ≡ plainly s.decided u → r ≡ arranged parts t
+  pub arranged-untargeted : (u : State) → is_none t.target || is_disabled t.arrangement ≡ true → u ≡ pass untargeted t s → r ≡ plainly s.decided u → r ≡ arranged parts t
   unfolding arranged
   arranged-untargeted u h q p = rw h (p ∙ rw (q, e))
 
-  pub arranged-dynamic : eqb t.target 0 || is_disabled t.arrangement ≡ false → r ≡ dynamic parts t s → r ≡ arranged parts t
+  pub arranged-dynamic : is_none t.target || is_disabled t.arrangement ≡ false → r ≡ dynamic parts t s → r ≡ arranged parts t
   unfolding arranged
   arranged-dynamic h q = rw h (q ∙ ap (dynamic parts t) e)
 
+-- what the test for none answered
+pub none_as : {A : Type 0} (o : std.Option A) (r : Bool) → is_some o ≡ not r → is_none o ≡ r
+none_as o true e = ap not e
+none_as o false e = ap not e
+
 -- no target, or `Disabled`
 module _ (t : Layout) where
-  pub no-target : t.target ≡ 0 → eqb t.target 0 || is_disabled t.arrangement ≡ true
+  pub no-target : is_none t.target ≡ true → is_none t.target || is_disabled t.arrangement ≡ true
   no-target e = rw e
 
-  pub disabled_test : (b : Bool) → (t.target ≡ 0 → ⊥) → b ≡ is_disabled t.arrangement → eqb t.target 0 || is_disabled t.arrangement ≡ b
-  disabled_test b n e = rw (ne_eqb t.target 0 n) (sym e)
+  pub disabled_test : (b : Bool) → is_none t.target ≡ false → b ≡ is_disabled t.arrangement → is_none t.target || is_disabled t.arrangement ≡ b
+  disabled_test b n e = rw n (sym e)

@@ -68,7 +68,7 @@ fn arrange(sheet: &[u8], t: &Layout) -> Course
     ensures { result ≡ arranged (longest_part (table_of sheet.now)) t.now }
 {
     let mut s = start(t);
-    if t.target == 0 || t.arrangement == ContentArrangement::Disabled {
+    if t.target.is_none() || t.arrangement == ContentArrangement::Disabled {
         let first = s.decided;
         disabled::arrange(t, &mut s);
         return untargeted(first, s);
