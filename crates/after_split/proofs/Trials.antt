@@ -1,13 +1,13 @@
 -- The longest part, walked: laws of what is found of lines, cells and rows. Assumes nothing.
 use Prim.Native.Nat.{ℕ, ◌+◌, ◌≤◌, ◌<◌, max}
-use mathlib.Core.Path.{◌≡◌, refl, sym, ap, ◌∙◌}
+use mathlib.Core.Path.{◌≡◌, refl, ap, ◌∙◌}
 use mathlib.Core.List.{List, [], ◌∷◌, ◌++◌, map}
 use mathlib.Core.Bool.{Bool, true, false}
-use mathlib.Core.Option.{none, some}
+use mathlib.Core.Option.{none}
 use native.Mathlib.Omega.{arith}
 use lib.ListN.{length, get_or}
-use lib.Dec.{eqb, ltb}
-use borrow.Author.Tests.{eqb-true, ltb-true, ltb-false, le-leb, lt-leb, lt-ltb, le-ltb}
+use lib.Dec.{ltb}
+use borrow.Author.Tests.{ltb-true, ltb-false, lt-leb, lt-ltb, le-ltb}
 use Rattle.rules.specs.Text.{text_width, greatest, flat, or_else, All}
 use Rattle.rules.specs.Sheet.{Cell, Row, Table, no_cell, cell_at, all_rows}
 use Rattle.rules.specs.Wrap.{split}
@@ -16,7 +16,6 @@ use Rattle.laws.proofs.Lists.{map-append, greatest-append, all_imp, all-map_imp}
 use Rattle.laws.proofs.Text.{width-le}
 use Rattle.laws.proofs.Bounds.{Most, greatest-le}
 use Rattle.laws.proofs.Split.{Short, split_fits}
-use Rattle.text_width.specs.Measure.{IsPlain}
 use Rattle.after_split.specs.Trial.{of_line, of_lines, of_cells, of_rows, otherwise}
 
 -- parts of one thing, then of others
@@ -30,10 +29,6 @@ lines_cons a d l ls = parts-append (trial_parts a d l) (flat (map (trial_parts a
 pub lines-nil : (a d : ℕ) → of_lines a d [] ≡ 0
 unfolding of_lines flat greatest
 lines-nil a d = refl
-
--- with as many columns as bytes it has no pair
-pub line_plain : (n : ℕ) (l : List ℕ) → n ≡ text_width l → IsPlain (eqb n (length l)) l
-line_plain n l c e = sym c ∙ eqb-true n (length l) e
 
 -- a line with more columns than the average is split
 pub line-split : (a d m : ℕ) (l : List ℕ) → 0 < a → a < text_width l → m ≡ greatest (map text_width (split a d l)) → m ≡ of_line a d l
@@ -120,11 +115,7 @@ module _ (t : Table) (j a : ℕ) where
   unfolding longest_part
   longest-part = rows-part (all_rows t)
 
--- a longest part is taken, or the column kept open
-pub shorter-taken : (a n : ℕ) → n + 3 ≤ a → some n ≡ shorter_by3 n a
-unfolding shorter_by3
-shorter-taken a n h = rw (le-leb (n + 3) a h, shorter_by3)
-
+-- the column is kept open
 pub shorter_kept : (a n : ℕ) → a < n + 3 → none ≡ shorter_by3 n a
 unfolding shorter_by3
 shorter_kept a n h = rw (lt-leb (n + 3) a h, shorter_by3)

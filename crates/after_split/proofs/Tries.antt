@@ -7,7 +7,7 @@ use native.Mathlib.Omega.{arith}
 use lib.ListN.{length, get_or, drop, drop_of_length-le}
 use lib.Dec.{leb, ltb}
 use lib.Seq.{drop-cons, get_or-drop}
-use borrow.Author.Tests.{leb-true, leb-false, ltb-true, ltb-false, lt-ltb, le-ltb}
+use borrow.Author.Tests.{leb-true, leb-false, ltb-true, ltb-false}
 use Rattle.rules.specs.Text.{or_else}
 use Rattle.rules.specs.Sheet as sheet
 use Rattle.rules.specs.Sheet.{Table, no_cell, no_row, column_at}
@@ -32,14 +32,6 @@ nothing : {A : Type 0} (l : List A) → length l ≤ 0 → l ≡ []
 nothing l h = drop_of_length-le l h
 
 -- ---- what is enough
-
--- the test for an early end, made without a sum
-pub saves_little : (a m : ℕ) → m ≤ a → ltb (a - m) 3 ≡ ltb a (m + 3)
-saves_little a m h = go (ltb a (m + 3)) refl
-  where
-    go : (b : Bool) → ltb a (m + 3) ≡ b → ltb (a - m) 3 ≡ b
-    go true t = let l = ltb-true a (m + 3) t in lt-ltb (a - m) 3 (omega arith)
-    go false t = let l = ltb-false a (m + 3) t in le-ltb (a - m) 3 (omega arith)
 
 -- all of it, or a part after which the walk ended
 whole_enough : (a n m : ℕ) → m ≡ n → Enough a n m
@@ -75,9 +67,6 @@ pub record LinesSoFar (s : List ℕ) (a d n : ℕ) (all c : Lines) (m : ℕ) : T
   pub known : LinesKnown s d c
 
 module _ (s : List ℕ) (a d n : ℕ) (all : Lines) where
-  pub lines_begin : LinesKnown s d all → LinesSoFar s a d n all all n
-  lines_begin h = record { whole = refl; known = h }
-
   pub lines-again : (c r : Lines) (l : List ℕ) (m k : ℕ) → 0 < c.left → l ≡ first_line s c → k ≡ max m (of_line a d l) → LinesNext s c r
       → LinesSoFar s a d n all c m → LinesSoFar s a d n all r k
   lines-again c r l m k some f q next so =
@@ -85,9 +74,6 @@ module _ (s : List ℕ) (a d n : ℕ) (all : Lines) where
       let g : of_lines a d (lines_in s c) ≡ max (of_line a d l) (of_lines a d (lines_in s r)) = ap (of_lines a d) w
       ∙ lines_cons a d (first_line s c) (drop 1 (lines_in s c)) ∙ rw (f, next.lines) in
       record { whole = omega (arith, so.whole, g); known = lines_known s d c r next so.known }
-
-  pub lines_enough : (c : Lines) (m : ℕ) (b : Bool) → b ≡ ltb a (m + 3) → b ≡ true → LinesSoFar s a d n all c m → Enough a (max n (of_lines a d (lines_in s all))) m
-  lines_enough c m b e t so = part_enough a m b e _ t (omega (arith, so.whole))
 
   pub lines_done : (c : Lines) (m : ℕ) → c.left ≤ 0 → LinesSoFar s a d n all c m → Enough a (max n (of_lines a d (lines_in s all))) m
   lines_done c m h so =
@@ -137,9 +123,6 @@ pub record RowsSoFar (s : List ℕ) (j a d : ℕ) (all c : Rows) (m : ℕ) : Typ
   pub known : RowsKnown s d c
 
 module _ (s : List ℕ) (j a d : ℕ) (all : Rows) where
-  pub rows_begin : RowsKnown s d all → RowsSoFar s j a d all all 0
-  rows_begin h = record { whole = omega arith; ends = refl; known = h }
-
   -- the walk ends after a row, or goes on
   module _ (c : Rows) (row : Row) (found : Tried) (m : ℕ) (some : 0 < c.left) (is : RowIs s c row) (tried : RowTried s row.cells j a d m found)
       (so : RowsSoFar s j a d all c m) (b : Bool) (u : b ≡ ltb a (found.longest + 3)) where

@@ -20,12 +20,11 @@ use Rattle.constraint.specs.declared.Layout.{Layout}
 use Rattle.constraint.specs.declared.State.{State}
 use Rattle.constraint.specs.Widths.{choose, pass}
 use Rattle.arrangement.specs.Arrange.{untargeted, targeted, step1, step2, step3, plainly, dynamic, started, arranged}
-use Rattle.arrangement.specs.declared.dynamic.Course.{Course}
 use Rattle.arrangement.specs.Describes.{Describes}
 use Rattle.sharing.specs.Limits.{Small}
-use Rattle.sharing.specs.Share.{finished}
 use Rattle.style.specs.Table.{is_disabled}
-use Rattle.style.proofs.Laws.{disabled_as}
+use Rattle.std.specs.Prelude.{is_none}
+use Rattle.style.proofs.Laws.{disabled_as, target_none}
 use Rattle.arrangement.proofs.Cases.{unlike}
 use Rattle.arrangement.proofs.Agrees.{Agrees, width_as, step1_agrees, step2_agrees, step3_agrees}
 use Rattle.arrangement.proofs.Begins.{targeted_agrees}
@@ -54,8 +53,8 @@ module _ (l : Layout) (t : Table) (d : Describes l t) where
     pub arranged_widths : Widths l (contents t) (arranged parts l).state
     unfolding arranged contents
     arranged_widths =
-        go (eqb l.target 0 || is_disabled l.arrangement) (eqb t.target 0 || eqb t.arrangement 0)
-        (rw (d.target, d.arrangement, disabled_as t.arrangement))
+        go (is_none l.target || is_disabled l.arrangement) (eqb t.target 0 || eqb t.arrangement 0)
+        (rw (d.target, target_none t.target, d.arrangement, disabled_as t.arrangement))
       where
         go : (x y : Bool) → x ≡ y
             → Widths l (elim y as (λ x. List ℕ) [
@@ -83,7 +82,3 @@ module _ (l : Layout) (t : Table) (d : Describes l t) where
       pub steps_small : Small e
       steps_small =
           rw all (small_as _ _ steps_agree (small-step3 t m _ (small-step2 t m _ (small-step1 t m _ (small-start t m)))))
-
-      pub steps_finish : (r : State) → r ≡ finished l e
-          → ◌≡◌ {A = Course} (record { first = a.decided; lower = b.decided; fitted = c.decided; split = e.decided; before = e.widths; state = r }) (dynamic parts l s)
-      steps_finish r z = rw (z, e₃, e₂, e₁, e₀)

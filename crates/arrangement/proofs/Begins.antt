@@ -9,6 +9,7 @@ use native.Mathlib.Omega.{arith}
 use lib.ListN.{length, get_or, take, set, replicate, length-set, length-take, length-map, length-append}
 use lib.Seq.{get_or-set_same, get_or-set_other, get_or-take, ext_get_or}
 use lib.Dec.{eqb}
+use Rattle.std.specs.Prelude.{unwrap_or}
 use lib.Count.{ones, ones_in}
 use borrow.Author.Tests.{eqb-true, not-false, ne_eqb}
 use Rattle.rules.specs.Text.{up_from, keep, sum}
@@ -19,7 +20,7 @@ use Rattle.laws.proofs.Lists.{get_d_map, get_d-up_from, length-up_from, keep_yes
 use Rattle.constraint.specs.declared.Layout.{Layout}
 use Rattle.constraint.specs.declared.State.{State}
 use Rattle.constraint.specs.Set.{bit, set_width}
-use Rattle.constraint.specs.Widths.{choose, in_order, column, longest, borders, decided, fixed, taking, step, first, hide, evaluated}
+use Rattle.constraint.specs.Widths.{choose, in_order, column, longest, room, decided, fixed, taking, step, first, hide, evaluated}
 use Rattle.constraint.proofs.Bits.{add-lt, count_add, bit-same, bit-other, zero_bit}
 use Rattle.arrangement.specs.Arrange.{begun, started, charged, remaining, targeted}
 use Rattle.arrangement.specs.Describes.{Describes}
@@ -256,7 +257,7 @@ module _ (l : Layout) (t : Table) (d : Describes l t) where
     remaining_as : remaining l s ≡ t.target - doc.borders t - sum (map (taken t) (doc.numbers t))
     unfolding doc.numbers
     remaining_as =
-        remaining_below l.count (l.target - borders l s.visible) (omega arith) ∙ rw (room_as l t d s.visible b.seen, d.count)
+        remaining_below l.count (unwrap_or (room l s.visible) 0) (omega arith) ∙ rw (room_as l t d s.visible b.seen, d.count)
 
   -- no target, or `Disabled`: nothing is charged
   pub started_agrees : Agrees l t (started l) (record { widths = map (doc.first t) (doc.numbers t); remaining = 0 })

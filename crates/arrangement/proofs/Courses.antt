@@ -20,7 +20,8 @@ use Rattle.arrangement.specs.Arrange.{untargeted, targeted, step1, step2, step3,
 use Rattle.arrangement.specs.Describes.{Describes}
 use Rattle.arrangement.specs.Courses.{Decided, CourseIs}
 use Rattle.style.specs.Table.{is_disabled}
-use Rattle.style.proofs.Laws.{disabled_as}
+use Rattle.std.specs.Prelude.{is_none}
+use Rattle.style.proofs.Laws.{disabled_as, target_none}
 use Rattle.arrangement.proofs.Cases.{unlike}
 use Rattle.arrangement.proofs.Offers.{hidden_as}
 use Rattle.arrangement.proofs.Agrees.{Agrees, width_as, step1_agrees, step2_agrees, step3_agrees}
@@ -36,8 +37,8 @@ module _ (l : Layout) (t : Table) (d : Describes l t) where
       go true e n = absurd (unlike true refl e)
       go false e n = n
 
-  tests : eqb l.target 0 || is_disabled l.arrangement ≡ is_untargeted t
-  tests = rw (d.target, d.arrangement, disabled_as t.arrangement)
+  tests : is_none l.target || is_disabled l.arrangement ≡ is_untargeted t
+  tests = rw (d.target, target_none t.target, d.arrangement, disabled_as t.arrangement)
 
   -- no target, or `Disabled`; or neither
   arranged-plain : is_untargeted t ≡ true → arranged (longest_part t) l ≡ plainly (started l).decided (pass untargeted l (started l))

@@ -15,10 +15,9 @@ use Rattle.rules.specs.Widths as doc
 use Rattle.rules.specs.Widths.{longest_part, contents}
 use Rattle.laws.proofs.Lists.{get_d_map, get_d-up_from, length-up_from, map_below}
 use Rattle.style.specs.Bytes.{bytes_of}
-use Rattle.style.specs.Table.{arrangement_of}
+use Rattle.std.specs.Prelude as std
+use Rattle.style.specs.Table.{arrangement_of, target_of}
 use Rattle.style.specs.declared.table.ContentArrangement.{ContentArrangement}
-use Rattle.style.specs.declared.table_style.LineStyle.{LineStyle}
-use Rattle.style.specs.declared.table_style.ContentLineStyle.{ContentLineStyle}
 use Rattle.style.specs.declared.table_style.TableStyle.{TableStyle}
 use Rattle.table.specs.Held.{settings_of, columns_of}
 use Rattle.table.specs.declared.records.Settings.{Settings}
@@ -29,23 +28,10 @@ use Rattle.arrangement.specs.declared.Widths.{Widths}
 use Rattle.arrangement.specs.declared.dynamic.Course.{Course}
 use Rattle.arrangement.specs.Arrange.{arranged}
 use Rattle.arrangement.specs.Describes.{Describes}
-use Rattle.arrangement.specs.Widths.{line_from, content_from, style_from, marking, marked, widths_from, arranged_widths}
+use Rattle.arrangement.specs.Widths.{style_from, marking, marked, widths_from, arranged_widths}
 use Rattle.arrangement.proofs.Offers.{hidden_as}
 use Rattle.arrangement.proofs.Arranged.{arranged-contents}
 use Rattle.arrangement.proofs.Placed.{map_last}
-
--- six parts of a style
-pub style_at : (S : List ℕ) (a : LineStyle) (b : ContentLineStyle) (c : LineStyle) (d : ContentLineStyle) (e f : LineStyle)
-    → a ≡ line_from S 0 → b ≡ content_from S 4 → c ≡ line_from S 7 → d ≡ content_from S 11 → e ≡ line_from S 14 → f ≡ line_from S 18
-    → ◌≡◌ {A = TableStyle} (record {
-      top_border = a;
-      header_lines = b;
-      header_separator = c;
-      content_lines = d;
-      row_separator = e;
-      bottom_border = f;
-    }) (style_from S)
-style_at S a b c d e f h i j k m n = rw (h, i, j, k, m, n)
 
 module _ (t : Table) (limits : TableLimits t) (x : Columns) (columns : x ≡ columns_of t) where
   -- no more columns than there can be
@@ -65,12 +51,12 @@ module _ (t : Table) (limits : TableLimits t) (x : Columns) (columns : x ≡ col
       ∙ ap (doc.longest t) (get_d-up_from 0 most_columns j 0 h ∙ omega arith)
 
   -- what was read from the sheet
-  pub describes : (h : Settings) (S : List ℕ) (y : TableStyle) (r : ContentArrangement) (ns : List ℕ) (a b c : Bool) → h ≡ settings_of t → S ≡ t.style → y ≡ style_from S
-      → r ≡ arrangement_of h.arrangement → ns ≡ map (doc.longest t) (up_from 0 most_columns)
+  pub describes : (h : Settings) (S : List ℕ) (y : TableStyle) (r : ContentArrangement) (w : std.Option ℕ) (ns : List ℕ) (a b c : Bool) → h ≡ settings_of t → S ≡ t.style → y ≡ style_from S
+      → r ≡ arrangement_of h.arrangement → w ≡ target_of h.target → ns ≡ map (doc.longest t) (up_from 0 most_columns)
       → a ≡ any_left (bytes_of y) → b ≡ any_right (bytes_of y) → c ≡ any_junction (bytes_of y)
       → Describes (record {
         arrangement = r;
-        target = h.target;
+        target = w;
         left = a;
         right = b;
         junction = c;
@@ -79,12 +65,12 @@ module _ (t : Table) (limits : TableLimits t) (x : Columns) (columns : x ≡ col
         longest = ns;
       }) t
   unfolding settings_of columns_of
-  describes h S y z ns a b c e f g q i l r m =
+  describes h S y z w ns a b c e f g q p i l r m =
       record {
         count = ap (λ (z : Columns). z.count) columns;
         few = count_fits;
         column = column-at;
-        target = ap (λ (z : Settings). z.target) e;
+        target = p ∙ ap (λ (z : Settings). target_of z.target) e;
         arrangement = q ∙ ap (λ (z : Settings). arrangement_of z.arrangement) e;
         left = l ∙ rw (g, f);
         right = r ∙ rw (g, f);
@@ -117,11 +103,6 @@ entries_padded {A} a p (suc n) h =
     let k : length (map p (up_from 0 n)) ≡ n = length-map (up_from 0 n) p ∙ length-up_from 0 n in
     ap (λ (xs : List A). set xs n (p n)) (entries_padded a p n (omega arith)) ∙ set_padded a n (map p (up_from 0 n)) (p n) k h
     ∙ ap (as_array a) (sym (map_last p n))
-
--- widths and flags
-pub widths_from_lem : (l : Layout) (c : Course) (fs : List Bool) → fs ≡ marked l
-    → ◌≡◌ {A = Widths} (record { count = l.count; content = c.state.widths; hidden = fs }) (widths_from l c)
-widths_from_lem l c fs e = ap (λ (x : List Bool). record { count = l.count; content = c.state.widths; hidden = x }) e
 
 -- a column is marked
 pub marking-at : (l : Layout) (i : ℕ) (fs : List Bool) (b : Bool) → b ≡ is_hidden (column l i) → set fs i b ≡ marking l i fs

@@ -6,7 +6,11 @@ use mathlib.Core.Option.{Option, none, some}
 use native.Mathlib.Omega.{arith}
 use lib.ListN.{length, length-append}
 use lib.Dec.{eqb, leb}
-use borrow.Author.Tests.{eqb-true}
+use borrow.Author.Tests.{eqb-true, eqb-false, ne_eqb}
+use Rattle.std.specs.Prelude as std
+use Rattle.std.specs.Prelude.{Some, None, option_map, unwrap_or}
+use Rattle.style.specs.Table.{target_of}
+use Rattle.style.proofs.Laws.{other}
 use Rattle.rules.specs.Text.{up_from, keep}
 use Rattle.rules.specs.declared.Width.{Width}
 use Rattle.rules.specs.declared.Column.{Column}
@@ -22,7 +26,7 @@ use Rattle.style.specs.declared.column.Width as form
 use Rattle.style.specs.declared.column.Width.TheVariants.{Fixed, Percentage}
 use Rattle.constraint.specs.declared.Layout.{Layout}
 use Rattle.constraint.specs.declared.State.{State}
-use Rattle.constraint.specs.Widths.{choose, in_order, column, counting, visible, borders, percent, value, valued, lower, upper, average, Rule}
+use Rattle.constraint.specs.Widths.{choose, in_order, column, counting, visible, borders, room, percent_in, value, valued, lower, upper, average, Rule}
 use Rattle.constraint.specs.Widths.{absolute, covered, first, first_of}
 use Rattle.arrangement.specs.Arrange.{trimmed, untargeted, lower_rule, capped, fit_rule, split_rule}
 use Rattle.arrangement.specs.Describes.{Describes}
@@ -63,30 +67,43 @@ module _ (l : Layout) (t : Table) (d : Describes l t) where
       cc
 
   module _ (v : ℕ) (m : v ≡ length (doc.visible t)) where
-    pub room_as : l.target - borders l v ≡ t.target - doc.borders t
+    borders_here : borders l v ≡ doc.borders t
     unfolding doc.borders
-    room_as = let a = borders_as v in let b = d.target in omega (arith, ap (borders_of t.style) m)
+    borders_here = borders_as v ∙ ap (borders_of t.style) m
+
+    -- by whether there is a target
+    in-room : (P : std.Option ℕ → Type 0) → (t.target ≡ 0 → P None) → ((t.target ≡ 0 → ⊥) → P (Some (t.target - doc.borders t))) → P (room l v)
+    unfolding target_of
+    in-room P f g = rw (d.target, borders_here) (go (eqb t.target 0) refl)
+      where
+        go : (b : Bool) → eqb t.target 0 ≡ b
+            → P (option_map (λ w. w - doc.borders t) (elim b as (λ x. std.Option ℕ) [ true ↦ None | false ↦ Some t.target ]))
+        go true e = f (eqb-true t.target 0 e)
+        go false e = g (eqb-false t.target 0 e)
+
+    pub room_as : unwrap_or (room l v) 0 ≡ t.target - doc.borders t
+    room_as = in-room (λ o. unwrap_or o 0 ≡ t.target - doc.borders t) (λ e. omega arith) (λ n. refl)
 
     value_as : (w : Width) → value l v (style.width_of w) ≡ width_of t w
     unfolding style.width_of width_of percent_of
-    value_as w = go (eqb w.unit 0) (eqb l.target 0) (eqb t.target 0) (ap (λ (n : ℕ). eqb n 0) d.target)
+    value_as w = go (eqb w.unit 0)
       where
-        part : ℕ
-        part = (t.target - doc.borders t) * min 100 w.value / 100
+        p : percent_in (room l v) w.value
+            ≡ elim (eqb t.target 0) as (λ x. Option ℕ) [ true ↦ none | false ↦ some ((t.target - doc.borders t) * min 100 w.value / 100) ]
+        p =
+            in-room (λ o. percent_in o w.value
+            ≡ elim (eqb t.target 0) as (λ x. Option ℕ) [ true ↦ none | false ↦ some ((t.target - doc.borders t) * min 100 w.value / 100) ])
+            (λ e. rw e)
+            (λ n. (let a : min w.value 100 ≡ min 100 w.value = omega arith in
+            other (eqb t.target 0) none _ (ne_eqb t.target 0 n) (ap (λ (k : ℕ). some ((t.target - doc.borders t) * k / 100)) a)))
 
-        -- the value, y telling whether there is no target
-        valued_by : Bool → form.Width → Option ℕ
-        valued_by y x = elim x [ Fixed n ↦ some n | Percentage n ↦ choose y none (some (percent (l.target - borders l v) n)) ]
-
-        p : percent (l.target - borders l v) w.value ≡ part
-        p = let a : min w.value 100 ≡ min 100 w.value = omega arith in rw (room_as, a)
-
-        go : (x y z : Bool) → y ≡ z
-            → valued_by y (elim x as (λ b. form.Width) [ true ↦ Fixed w.value | false ↦ Percentage w.value ])
-            ≡ elim x as (λ x. Option ℕ) [ true ↦ some w.value | false ↦ elim z as (λ x. Option ℕ) [ true ↦ none | false ↦ some part ] ]
-        go true y z e = refl
-        go false true z e = rw (← e)
-        go false false z e = rw (← e) (ap some p)
+        go : (x : Bool) → value l v (elim x as (λ b. form.Width) [ true ↦ Fixed w.value | false ↦ Percentage w.value ])
+            ≡ elim x as (λ x. Option ℕ) [
+              | true ↦ some w.value
+              | false ↦ elim (eqb t.target 0) as (λ x. Option ℕ) [ true ↦ none | false ↦ some ((t.target - doc.borders t) * min 100 w.value / 100) ]
+            ]
+        go true = refl
+        go false = p
 
     valued_as : (o : Option Width) → valued l v o ≡ value_of t o
     unfolding value_of

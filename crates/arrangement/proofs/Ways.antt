@@ -1,21 +1,21 @@
 -- One law for each way out of a function. Assumes nothing.
 use Prim.Native.Nat.{ℕ, ◌+◌, ◌-◌}
 use mathlib.Core.Path.{◌≡◌, refl, sym, ap, ◌∙◌}
-use mathlib.Core.Bool.{Bool, true, false, ◌||◌}
+use mathlib.Core.Bool.{Bool, true, false, not, ◌||◌}
 use native.Mathlib.Omega.{arith}
-use lib.ListN.{get_or, replicate}
-use lib.Dec.{eqb}
-use borrow.Author.Tests.{ne_eqb}
+use lib.ListN.{get_or}
+use Rattle.std.specs.Prelude as std
+use Rattle.std.specs.Prelude.{is_some, is_none}
 use mathlib.Core.Option.{Option, some}
 use Rattle.rules.specs.declared.Column.{Column}
-use Rattle.rules.specs.Sheet.{padding, is_hidden, most_columns}
+use Rattle.rules.specs.Sheet.{padding, is_hidden}
 use Rattle.style.specs.Table.{is_disabled}
 use Rattle.constraint.specs.declared.Layout.{Layout}
 use Rattle.constraint.specs.declared.State.{State}
 use Rattle.constraint.specs.Set.{contains}
-use Rattle.constraint.specs.Widths.{column, longest, upper, visible, pass}
+use Rattle.constraint.specs.Widths.{column, longest, upper, pass}
 use Rattle.constraint.proofs.Cases.{if-true, if-false}
-use Rattle.arrangement.specs.Arrange.{trimmed, untargeted, charged, remaining, targeted, begun, started, plainly, dynamic, arranged}
+use Rattle.arrangement.specs.Arrange.{trimmed, untargeted, charged, remaining, targeted, started, plainly, dynamic, arranged}
 use Rattle.arrangement.specs.declared.dynamic.Course.{Course}
 
 pub untargeted_rule : (t : Layout) (i : ℕ) (s : State) (c : Column) (b : Option ℕ) (w : ℕ) → c ≡ column t i → b ≡ upper t s.visible c
@@ -45,23 +45,24 @@ pub targeted-at : (t : Layout) (s : State) (r : ℕ) → r ≡ remaining t s
     → ◌≡◌ {A = State} (record { widths = s.widths; decided = s.decided; remaining = r; visible = s.visible }) (targeted t s)
 targeted-at t s r e = ap (λ (k : ℕ). record { widths = s.widths; decided = s.decided; remaining = k; visible = s.visible }) e
 
-pub begun-at : (t : Layout) (v : ℕ) → v ≡ visible t
-    → ◌≡◌ {A = State} (record { widths = replicate most_columns 0; decided = record { 0 = 0 }; remaining = 0; visible = v }) (begun t)
-begun-at t v e = ap (λ (k : ℕ). record { widths = replicate most_columns 0; decided = record { 0 = 0 }; remaining = 0; visible = k }) e
-
 module _ (parts : ℕ → ℕ → ℕ) (t : Layout) (s : State) (e : s ≡ started t) (r : Course) where
-  pub arranged-untargeted : (u : State) → eqb t.target 0 || is_disabled t.arrangement ≡ true → u ≡ pass untargeted t s → r ≡ plainly s.decided u → r ≡ arranged parts t
+  pub arranged-untargeted : (u : State) → is_none t.target || is_disabled t.arrangement ≡ true → u ≡ pass untargeted t s → r ≡ plainly s.decided u → r ≡ arranged parts t
   unfolding arranged
   arranged-untargeted u h q p = rw h (p ∙ rw (q, e))
 
-  pub arranged-dynamic : eqb t.target 0 || is_disabled t.arrangement ≡ false → r ≡ dynamic parts t s → r ≡ arranged parts t
+  pub arranged-dynamic : is_none t.target || is_disabled t.arrangement ≡ false → r ≡ dynamic parts t s → r ≡ arranged parts t
   unfolding arranged
   arranged-dynamic h q = rw h (q ∙ ap (dynamic parts t) e)
 
+-- what the test for none answered
+pub none_as : {A : Type 0} (o : std.Option A) (r : Bool) → is_some o ≡ not r → is_none o ≡ r
+none_as o true e = ap not e
+none_as o false e = ap not e
+
 -- no target, or `Disabled`
 module _ (t : Layout) where
-  pub no-target : t.target ≡ 0 → eqb t.target 0 || is_disabled t.arrangement ≡ true
+  pub no-target : is_none t.target ≡ true → is_none t.target || is_disabled t.arrangement ≡ true
   no-target e = rw e
 
-  pub disabled_test : (b : Bool) → (t.target ≡ 0 → ⊥) → b ≡ is_disabled t.arrangement → eqb t.target 0 || is_disabled t.arrangement ≡ b
-  disabled_test b n e = rw (ne_eqb t.target 0 n) (sym e)
+  pub disabled_test : (b : Bool) → is_none t.target ≡ false → b ≡ is_disabled t.arrangement → is_none t.target || is_disabled t.arrangement ≡ b
+  disabled_test b n e = rw n (sym e)

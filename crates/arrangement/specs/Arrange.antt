@@ -1,5 +1,5 @@
 -- The arrangement: untargeted widths, the remaining width, steps 1 to 3, and the whole; step 4 is `sharing`'s. Assumes nothing.
-use Rattle.std.specs.Prelude.{ℕ, zero, suc, ◌+◌, ◌-◌, Bool, true, false, ◌&&◌, ◌||◌, get_or, replicate, eqb, leb, ltb}
+use Rattle.std.specs.Prelude.{ℕ, zero, suc, ◌+◌, ◌-◌, Bool, true, false, ◌&&◌, ◌||◌, is_none, unwrap_or, get_or, replicate, eqb, leb, ltb}
 use Rattle.std.proofs.Math.Option.{Option, none, some}
 use Rattle.rules.specs.declared.Column.{Column}
 use Rattle.constraint.specs.declared.Layout.{Layout}
@@ -7,7 +7,7 @@ use Rattle.constraint.specs.declared.State.{State}
 use Rattle.arrangement.specs.declared.dynamic.Course.{Course}
 use Rattle.constraint.specs.declared.column_set.ColumnSet.{ColumnSet}
 use Rattle.constraint.specs.Set.{set_width, contains}
-use Rattle.constraint.specs.Widths.{choose, in_order, column, longest, visible, borders, lower, upper, average, Rule, pass}
+use Rattle.constraint.specs.Widths.{choose, in_order, column, longest, visible, room, lower, upper, average, Rule, pass}
 use Rattle.constraint.specs.Widths.{evaluated}
 use Rattle.sharing.specs.Share.{finished}
 use Rattle.style.specs.Table.{is_disabled}
@@ -42,7 +42,7 @@ charged t s i r =
     (r - padding (column t i)))
 
 abbrev pub remaining : Layout → State → ℕ
-remaining t s = in_order (charged t s) t.count (t.target - borders t s.visible)
+remaining t s = in_order (charged t s) t.count (unwrap_or (room t s.visible) 0)
 
 abbrev pub targeted : Layout → State → State
 targeted t s = record { widths = s.widths; decided = s.decided; remaining = remaining t s; visible = s.visible }
@@ -110,5 +110,5 @@ started t = in_order (evaluated t) t.count (begun t)
 
 unfoldable pub arranged : (ℕ → ℕ → ℕ) → Layout → Course
 arranged parts t =
-    choose (eqb t.target 0 || is_disabled t.arrangement) (plainly (started t).decided (pass untargeted t (started t)))
+    choose (is_none t.target || is_disabled t.arrangement) (plainly (started t).decided (pass untargeted t (started t)))
     (dynamic parts t (started t))

@@ -38,7 +38,7 @@ fn remaining_width(t: &Layout, s: &State) -> u16
     requires { t.now.count ≤ most_columns }
     ensures { result ≡ remaining t.now s.now }
 {
-    let mut r = t.room(s.visible);
+    let mut r = t.room(s.visible).unwrap_or(0);
     for i in 0..usize::from(t.count) {
         r = charge(t, s, i, r);
     }

@@ -1,6 +1,7 @@
 // What the widths of a sheet's columns depend on, read from it once.
 ghost use Rattle.std.specs.Prelude.{◌≡◌, ◌+◌, ◌<◌};
 ghost use Rattle.rules.specs.Style.{style_characters};
+ghost use Rattle.style.specs.Table.{target_of};
 ghost use Rattle.table.specs.Held.{table_of};
 ghost use Rattle.arrangement.specs.Describes.{Describes};
 ghost use Rattle.arrangement.specs.Widths.{line_from, content_from, style_from};
@@ -56,6 +57,13 @@ pub fn style_from(b: [u8; STYLE_CHARACTERS]) -> TableStyle
     }
 }
 
+// A target of 0 is none.
+fn target_from(width: u16) -> Option<u16>
+    ensures { result ≡ target_of width }
+{
+    if width == 0 { None } else { Some(width) }
+}
+
 // The settings and columns by value, so that a changed copy of them can be arranged as well.
 pub fn layout(sheet: &AcceptedSheet<'_>) -> Layout
     ensures { Describes result (table_of sheet.now.bytes.now) }
@@ -67,7 +75,7 @@ pub fn layout(sheet: &AcceptedSheet<'_>) -> Layout
     let longest = sheet.longest();
     Layout {
         arrangement: ContentArrangement::from(head.arrangement),
-        target: head.target,
+        target: target_from(head.target),
         left: style.has_left_border(),
         right: style.has_right_border(),
         junction: style.has_vertical_lines(),

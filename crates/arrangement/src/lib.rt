@@ -69,7 +69,7 @@ fn arrange(sheet: &AcceptedSheet<'_>, t: &Layout) -> Course
     ensures { result ≡ arranged (longest_part (table_of sheet.now.bytes.now)) t.now }
 {
     let mut s = start(t);
-    if t.target == 0 || t.arrangement == ContentArrangement::Disabled {
+    if t.target.is_none() || t.arrangement == ContentArrangement::Disabled {
         let first = s.decided;
         disabled::arrange(t, &mut s);
         return untargeted(first, s);

@@ -24,7 +24,7 @@ use Rattle.constraint.specs.declared.Layout.{Layout}
 use Rattle.constraint.specs.declared.State.{State}
 use Rattle.constraint.specs.Set.{contains}
 use Rattle.constraint.specs.Widths.{column, longest, visible, counting, in_order, value, lower, upper, absolute, covered, first_of}
-use Rattle.constraint.specs.Widths.{choose, hide, taking, step, evaluated}
+use Rattle.constraint.specs.Widths.{choose, taking, step, evaluated}
 
 -- ---- by the constraint
 
@@ -163,10 +163,6 @@ visible_counted t h = counted t t.count h
 -- ---- the first step
 
 module _ (t : Layout) (i : ℕ) (s : State) where
-  pub evaluated_hidden : is_hidden (column t i) ≡ true → hide t i s ≡ evaluated t i s
-  unfolding evaluated
-  evaluated_hidden e = sym (rw e)
-
   pub evaluated_in : is_hidden (column t i) ≡ false → contains s.decided i ≡ true → s ≡ evaluated t i s
   unfolding evaluated step
   evaluated_in e f = sym (rw (e, f))

@@ -48,9 +48,6 @@ module _ (c : Column) (i : ℕ) (s : State) where
   open_go true h = let z : ◌≡◌ {A = ℕ} 0 1 = cc in absurd (omega arith)
   open_go false h = h
 
-  pub open_by : (r : Bool) → r ≡ decided c i s → r ≡ false → contains s.decided i ≡ false
-  open_by r e h = open_go (is_hidden c) (sym e ∙ h)
-
   pub open-bit : decided c i s ≡ false → bit s.decided.0 i ≡ 0
   open-bit h = bit-zero s.decided.0 i (open_go (is_hidden c) h)
 

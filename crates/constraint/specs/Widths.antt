@@ -1,5 +1,5 @@
 -- Widths: padding, borders, percent, bounds, the average, and fixing a column. Assumes nothing.
-use Rattle.std.specs.Prelude.{ℕ, zero, suc, ◌+◌, ◌-◌, ◌*◌, ◌/◌, min, Bool, true, false, Some, None, get_or, set, eqb}
+use Rattle.std.specs.Prelude.{ℕ, zero, suc, ◌+◌, ◌-◌, ◌*◌, ◌/◌, min, Bool, true, false, Some, None, option_map, get_or, set, eqb}
 use Rattle.std.specs.Prelude as std
 use Rattle.std.proofs.Math.Option.{Option, none, some}
 use Rattle.rules.specs.declared.Width as sheet
@@ -57,10 +57,18 @@ abbrev pub offered : std.Option ContentWidth → Option ℕ
 offered None = none
 offered (Some w) = some w.0
 
+-- what the target leaves beside the borders, if there is one
+abbrev pub room : Layout → ℕ → std.Option ℕ
+room t v = option_map (λ w. w - borders t v) t.target
+
+abbrev pub percent_in : std.Option ℕ → ℕ → Option ℕ
+percent_in None p = none
+percent_in (Some r) p = some (percent r p)
+
 -- a width's value; a percent without a target has none
 abbrev pub value : Layout → ℕ → Width → Option ℕ
 value t v (Fixed n) = some n
-value t v (Percentage p) = choose (eqb t.target 0) none (some (percent (t.target - borders t v) p))
+value t v (Percentage p) = percent_in (room t v) p
 
 -- the value of the width that a constraint has for a purpose, if it has one
 abbrev pub valued : Layout → ℕ → Option sheet.Width → Option ℕ

@@ -3,9 +3,9 @@
 
 pub mod column_set;
 
-ghost use Rattle.std.specs.Prelude.{◌≡◌, ◌-◌, ◌≤◌, ◌<◌, false};
+ghost use Rattle.std.specs.Prelude.{◌≡◌, ◌≤◌, ◌<◌, false};
 ghost use Rattle.constraint.specs.Set.{contains};
-ghost use Rattle.constraint.specs.Widths.{visible, borders, percent, bound, offered, value, lower, upper, undecided, average, first_of};
+ghost use Rattle.constraint.specs.Widths.{visible, borders, room, percent, bound, offered, value, lower, upper, undecided, average, first_of};
 ghost use Rattle.constraint.specs.Widths.{decided, fixed, taking, evaluated};
 ghost use Rattle.rules.specs.Sheet.{most_columns};
 
@@ -19,7 +19,7 @@ use style::table::ContentArrangement;
 #[derive(Clone, Copy)]
 pub struct Layout {
     pub arrangement: ContentArrangement,
-    pub target: u16,
+    pub target: Option<u16>,
     pub left: bool,
     pub right: bool,
     pub junction: bool,
@@ -69,10 +69,12 @@ impl Layout {
     }
 
     // What the target leaves beside the borders.
-    pub fn room(&self, v: u16) -> u16
-        ensures { result ≡ self.now.target - borders self.now v }
+    pub fn room(&self, v: u16) -> Option<u16>
+        ensures { result ≡ room self.now v }
     {
-        usize::from(self.target).saturating_sub(self.count_border_columns(v)) as u16
+        let borders = self.count_border_columns(v);
+        self.target
+            .map(|w| usize::from(w).saturating_sub(borders) as u16)
     }
 
     // A percent of no target is no width.
@@ -81,12 +83,9 @@ impl Layout {
     {
         match w {
             Width::Fixed(n) => Some(ConstraintWidth(n)),
-            Width::Percentage(p) => {
-                if self.target == 0 {
-                    return None;
-                }
-                Some(ConstraintWidth(percent_of(self.room(v), p)))
-            }
+            Width::Percentage(p) => self
+                .room(v)
+                .map(|room| ConstraintWidth(percent_of(room, p))),
         }
     }
 

@@ -1,34 +1,18 @@
--- Sharing: the parts, and the ways out of the functions that hand them out. Assumes nothing.
-use Prim.Native.Nat.{ℕ, ◌+◌, ◌/◌, ◌%◌, ◌≤◌, ◌<◌, max}
+-- Sharing: the ways on and out of the loops that hand the parts out. Assumes nothing.
+use Prim.Native.Nat.{ℕ, ◌+◌, ◌≤◌, ◌<◌, max}
 use mathlib.Core.Path.{◌≡◌, refl, sym, ap, ◌∙◌, subst}
 use mathlib.Core.Bool.{Bool, true, false}
-use native.Mathlib.Nat.{div-le_self, div-add-mod', mul-le-mul_left}
 use native.Mathlib.Omega.{arith}
 use lib.ListN.{get_or}
 use lib.Seq.{get_or-set_other}
-use borrow.Author.Tests.{lt-ltb, le-ltb}
 use Rattle.constraint.specs.declared.Layout.{Layout}
 use Rattle.constraint.specs.declared.State.{State}
-use Rattle.constraint.specs.Widths.{choose, in_order, column, undecided, decided, fixed}
+use Rattle.constraint.specs.Widths.{in_order, column, undecided, decided, fixed}
 use Rattle.constraint.proofs.Cases.{if-true, if-false, if-eq, if_ne}
 use Rattle.rules.specs.declared.Column.{Column}
 use Rattle.rules.specs.Sheet.{is_hidden}
 use Rattle.style.specs.Table.{is_full}
 use Rattle.sharing.specs.Share.{Sharing, share, sharing, distributed, widened, widening, filled, finished}
-
-pub share_more : (n parts k : ℕ) → 0 < parts → k < n % parts → n / parts + 1 ≤ n
-share_more n parts k h l = omega (arith, div-add-mod' n parts, mul-le-mul_left (n / parts) h)
-
--- the part that takes one of the excess, and the others
-module _ (n parts k : ℕ) where
-  abbrev part : Bool → ℕ
-  part b = choose b (n / parts + 1) (n / parts)
-
-  pub share-first : 0 < parts → k < n % parts → (n / parts + 1 ≡ share n parts k) × (n / parts + 1 ≤ n)
-  share-first h l = (ap part (sym (lt-ltb k (n % parts) l)), share_more n parts k h l)
-
-  pub share-rest : n % parts ≤ k → (n / parts ≡ share n parts k) × (n / parts ≤ n)
-  share-rest l = (ap part (sym (le-ltb k (n % parts) l)), div-le_self n parts)
 
 module _ (t : Layout) (n parts i : ℕ) (x : Sharing) (c : Column) (f : c ≡ column t i) (r : Bool) where
   pub sharing-decided : r ≡ decided c i x.state → r ≡ true → x ≡ sharing t n parts i x

@@ -4,14 +4,14 @@ use mathlib.Core.Path.{◌≡◌, refl, sym}
 use mathlib.Core.Bool.{Bool, true, false}
 use lib.Dec.{eqb}
 use borrow.Author.Tests.{eqb-true, eqb-false, ne_eqb}
-use Rattle.std.specs.Prelude.{Option, Some, None}
+use Rattle.std.specs.Prelude.{Option, Some, None, is_none, unwrap_or}
 use Rattle.rules.specs.declared.Column.{Column}
 use Rattle.rules.specs.declared.Width as sheet
 use Rattle.rules.specs.Sheet.{is_hidden}
 use Rattle.style.specs.Column.{width_of, constraint_of}
 use denote.Enum.Bare.{sameb}
 use Rattle.style.specs.contracts.table.ContentArrangement.{the_type}
-use Rattle.style.specs.Table.{arrangement_of, is_disabled, is_full}
+use Rattle.style.specs.Table.{arrangement_of, is_disabled, is_full, target_of}
 use Rattle.style.specs.declared.table.ContentArrangement.{ContentArrangement}
 use Rattle.style.specs.declared.column.Width.{Width}
 use Rattle.style.specs.declared.column.Width.TheVariants.{Fixed, Percentage}
@@ -30,7 +30,7 @@ module _ (w : sheet.Width) where
   unfolding width_of
   unit_other n = rw (ne_eqb w.unit 0 n, width_of)
 
-other : {A : Type 0} {z : A} (b : Bool) (x y : A) → b ≡ false → z ≡ y → z ≡ elim b as (λ w. A) [ true ↦ x | false ↦ y ]
+pub other : {A : Type 0} {z : A} (b : Bool) (x y : A) → b ≡ false → z ≡ y → z ≡ elim b as (λ w. A) [ true ↦ x | false ↦ y ]
 other b x y e q = rw e q
 
 module _ (c : Column) where
@@ -138,3 +138,13 @@ unfolding arrangement_of
 full_as n =
     by_test (λ a. is_full a ≡ eqb n 2) n 0 _ _ (λ e. rw e)
     (λ x. by_test (λ a. is_full a ≡ eqb n 2) n 2 _ _ (λ e. rw e) (λ y. sym (ne_eqb n 2 y)))
+
+-- ---- the target
+
+pub target_or : (n : ℕ) → unwrap_or (target_of n) 0 ≡ n
+unfolding target_of
+target_or n = by_test (λ o. unwrap_or o 0 ≡ n) n 0 None (Some n) (λ e. sym e) (λ x. refl)
+
+pub target_none : (n : ℕ) → is_none (target_of n) ≡ eqb n 0
+unfolding target_of
+target_none n = by_test (λ o. is_none o ≡ eqb n 0) n 0 None (Some n) (λ e. rw e) (λ x. sym (ne_eqb n 0 x))

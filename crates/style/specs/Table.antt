@@ -1,5 +1,5 @@
--- The arrangement by the sheet's code. Assumes nothing.
-use Rattle.std.specs.Prelude.{ℕ, Bool, true, false, eqb}
+-- The arrangement by the sheet's code, and the target. Assumes nothing.
+use Rattle.std.specs.Prelude.{ℕ, Bool, true, false, Option, Some, None, eqb}
 use Rattle.style.specs.declared.table.ContentArrangement.{ContentArrangement}
 use Rattle.style.specs.declared.table.ContentArrangement.TheVariants.{Disabled, Dynamic, DynamicFullWidth}
 
@@ -16,3 +16,7 @@ abbrev pub is_full : ContentArrangement → Bool
 is_full Disabled = false
 is_full Dynamic = false
 is_full DynamicFullWidth = true
+
+-- target 0 is none
+unfoldable pub target_of : ℕ → Option ℕ
+target_of n = elim (eqb n 0) [ true ↦ None | false ↦ Some n ]

@@ -1,7 +1,7 @@
 // The look of a table, `TableStyle` of comfy-table: four borders and rules, and two kinds of text line. A character of 0 is unset.
-ghost use Rattle.std.specs.Prelude.{◌≡◌, ◌||◌};
+ghost use Rattle.std.specs.Prelude.{◌≡◌};
 ghost use Rattle.rules.specs.Examples.{grid, bare};
-ghost use Rattle.rules.specs.Style.{is_set, any_left, any_right, any_junction, is_visible, top_border, header_rule, row_rule, bottom_border};
+ghost use Rattle.rules.specs.Style.{any_left, any_right, any_junction, is_visible, top_border, header_rule, row_rule, bottom_border};
 ghost use Rattle.style.specs.Bytes.{bytes_of, line_bytes};
 
 // A border or a rule.

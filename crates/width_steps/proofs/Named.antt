@@ -6,7 +6,7 @@ use mathlib.Core.List.{List}
 use mathlib.Core.Option.{Option, none, some}
 use native.Mathlib.Omega.{arith}
 use lib.ListN.{length, get_or}
-use lib.Dec.{eqb, leb, ltb}
+use lib.Dec.{leb, ltb}
 use borrow.Author.Tests.{le-ltb}
 use Rattle.rules.specs.declared.WidthStep.{WidthStep}
 use Rattle.rules.specs.declared.WidthStep.TheVariants.{FirstConstraint, LowerBound, UpperBound, LongestWithinAverage, SplitPart, EvenShare}
@@ -19,7 +19,8 @@ use Rattle.rules.specs.Fixing.{after1, after2, after3}
 use Rattle.rules.specs.Reasons.{step_number, untargeted_step, fitted_step, targeted_step, step_of, is_widened, step_numbers, widened_columns}
 use Rattle.laws.proofs.Explained.{explained}
 use Rattle.style.specs.Table.{is_disabled}
-use Rattle.style.proofs.Laws.{disabled_as}
+use Rattle.std.specs.Prelude.{is_none, unwrap_or}
+use Rattle.style.proofs.Laws.{disabled_as, target_none, target_or}
 use Rattle.constraint.specs.declared.Layout.{Layout}
 use Rattle.constraint.specs.Set.{contains}
 use Rattle.constraint.specs.Widths.{choose, column, longest, visible, upper}
@@ -117,11 +118,11 @@ module _ (l : Layout) (t : Table) (d : Describes l t) (a : Course) (c : CourseIs
     by-target true e = refl
     by-target false e = targeted_named e
 
-    tests : choose (eqb l.target 0 || is_disabled l.arrangement) (untargeted_step t j) (targeted_by l a j)
+    tests : choose (is_none l.target || is_disabled l.arrangement) (untargeted_step t j) (targeted_by l a j)
         ≡ pick (is_untargeted t) (untargeted_step t j) (targeted_step t j)
     tests =
-        let e : eqb l.target 0 || is_disabled l.arrangement ≡ is_untargeted t = rw (d.target, d.arrangement, disabled_as t.arrangement) in
-        chosen (eqb l.target 0 || is_disabled l.arrangement) (untargeted_step t j) (targeted_by l a j)
+        let e : is_none l.target || is_disabled l.arrangement ≡ is_untargeted t = rw (d.target, target_none t.target, d.arrangement, disabled_as t.arrangement) in
+        chosen (is_none l.target || is_disabled l.arrangement) (untargeted_step t j) (targeted_by l a j)
         ∙ ap (λ (x : Bool). pick x (untargeted_step t j) (targeted_by l a j)) e ∙ by-target (is_untargeted t) refl
 
     shown_named : step_by l a j ≡ step_of t j
@@ -160,12 +161,12 @@ module _ (l : Layout) (t : Table) (d : Describes l t) (a : Course) (c : CourseIs
 
 -- the report
 module _ (l : Layout) (t : Table) (d : Describes l t) (a : Course) (e : a ≡ arranged (longest_part t) l) where
-  pub report-at : (w : Widths) (xs : List ℕ) (fs : List Bool) → w ≡ widths_from l a → xs ≡ steps_by l a → fs ≡ widened_all_by l a
-      → ◌≡◌ {A = Report} (record { widths = w; target = l.target; step = xs; widened = fs }) (report_of t)
+  pub report-at : (w : Widths) (n : ℕ) (xs : List ℕ) (fs : List Bool) → w ≡ widths_from l a → n ≡ unwrap_or l.target 0 → xs ≡ steps_by l a → fs ≡ widened_all_by l a
+      → ◌≡◌ {A = Report} (record { widths = w; target = n; step = xs; widened = fs }) (report_of t)
   unfolding report_of
-  report-at w xs fs f g h =
+  report-at w n xs fs f q g h =
       let c = course_is l t d a e in
       let steps : xs ≡ as_array 0 (step_numbers t) =
       g ∙ entries_as l t d 0 (λ j. step_number (step_by l a j)) (λ j. step_number (step_of t j)) (λ j k. ap step_number (step_named l t d a c j k)) in
       let flags : fs ≡ as_array false (widened_columns t) = h ∙ entries_as l t d false (widened_by l a) (is_widened t) (widened_named l t d a c) in
-      rw (widths-at l t d a w e f, steps, flags, d.target)
+      rw (widths-at l t d a w e f, steps, flags, q, d.target, target_or t.target)

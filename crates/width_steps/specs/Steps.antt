@@ -1,5 +1,5 @@
 -- The step of a column by the course of the widths, and the report. Assumes nothing.
-use Rattle.std.specs.Prelude.{ℕ, ◌+◌, List, Bool, false, ◌||◌, get_or, set, replicate, eqb, leb, ltb}
+use Rattle.std.specs.Prelude.{ℕ, ◌+◌, List, Bool, false, ◌||◌, is_none, get_or, set, replicate, leb, ltb}
 use Rattle.std.proofs.Math.Option.{Option, none, some}
 use Rattle.rules.specs.declared.Column.{Column}
 use Rattle.rules.specs.declared.WidthStep.{WidthStep}
@@ -35,7 +35,7 @@ unfoldable pub step_by : Layout → Course → ℕ → WidthStep
 step_by t a i =
     choose (is_hidden (column t i)) NoStep
     (choose (contains a.first i) FirstConstraint
-    (choose (eqb t.target 0 || is_disabled t.arrangement) (untargeted_by (longest t i) (upper t (visible t) (column t i)))
+    (choose (is_none t.target || is_disabled t.arrangement) (untargeted_by (longest t i) (upper t (visible t) (column t i)))
     (targeted_by t a i)))
 
 abbrev pub naming : Layout → Course → ℕ → List ℕ → List ℕ

@@ -68,7 +68,7 @@ fn step_of(t: &Layout, v: u16, i: usize, a: &Course) -> WidthStep
     if a.first.contains(i) {
         return WidthStep::FirstConstraint;
     }
-    if t.target == 0 || t.arrangement == ContentArrangement::Disabled {
+    if t.target.is_none() || t.arrangement == ContentArrangement::Disabled {
         return untargeted_step(ContentWidth(t.longest[i]), t.max(c, v));
     }
     targeted_step(t, v, i, a)
@@ -127,7 +127,7 @@ pub fn explain(sheet: &AcceptedSheet<'_>) -> Report
     let a = &found.course;
     Report {
         widths: arrangement::widths_of(t, a),
-        target: t.target,
+        target: t.target.unwrap_or(0),
         step: steps(t, a),
         widened: widened_columns(t, a),
     }

@@ -1,17 +1,10 @@
 use mathlib.Core.Path.{◌∙◌}
-use native.Mathlib.Omega.{arith}
 use Rattle.after_split.proofs.Knowns.{cell_known}
 use Rattle.after_split.proofs.Tries.{row_short, row_enough, row_there}
 use Rattle.after_split.proofs.longest_part_of_row.Goals as goal
 
-pub skip_cells-c-requires : goal.skip_cells-c-requires
-skip_cells-c-requires c = c.requires.inside
-
 pub returns-then-c-eq0 : goal.returns-then-c-eq0
 returns-then-c-eq0 c = row_short _ _ _ _ _ _ _ c.skip_cells-c.ensures c.if-c-eq0.true
-
-pub cell-cell-requires : goal.cell-cell-requires
-cell-cell-requires c = (omega arith, omega (arith, c.skip_cells-c.ensures.ends, c.requires.inside))
 
 pub longest_part_of_lines-longest-requires : goal.longest_part_of_lines-longest-requires
 longest_part_of_lines-longest-requires c =
@@ -24,9 +17,6 @@ returns-then-saves_too_little c =
     let cell = c.cell-cell.ensures in
     let found = c.longest_part_of_lines-longest.ensures in
     row_enough _ _ _ _ _ _ _ skipped _ _ _ c.if-c-eq0.false cell (c.unwrap_or.ensures ∙ c.set.ensures _) found _ c.saves_too_little.ensures _ c.if-saves_too_little.true
-
-pub skip_cells-last-requires : goal.skip_cells-last-requires
-skip_cells-last-requires c = omega (arith, c.skip_cells-c.ensures.ends, c.requires.inside)
 
 pub returns : goal.returns
 returns c =

@@ -1,12 +1,6 @@
 use Rattle.after_split.proofs.Knowns.{row_known}
-use Rattle.after_split.proofs.Tries.{rows_begin, rows_enough, rows-again, rows_done}
+use Rattle.after_split.proofs.Tries.{rows_enough, rows-again, rows_done}
 use Rattle.after_split.proofs.longest_part_of_rows.Goals as goal
-
-pub loop-c-init : goal.loop-c-init
-loop-c-init c = rows_begin _ _ _ _ _ c.requires
-
-pub row-row-requires : goal.row-row-requires
-row-row-requires c = (c.loop-c-test.true, c.loop-c.invariant.known.inside)
 
 pub longest_part_of_row-found-requires : goal.longest_part_of_row-found-requires
 longest_part_of_row-found-requires c = row_known _ _ _ _ c.loop-c-test.true c.row-row.ensures c.loop-c.invariant.known

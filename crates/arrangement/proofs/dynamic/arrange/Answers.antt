@@ -1,7 +1,7 @@
 use mathlib.Core.Path.{refl}
 use Rattle.laws.proofs.Accepted.{accepted_limits}
 use Rattle.table.proofs.Held.{held}
-use Rattle.arrangement.proofs.Arranged.{steps_small, steps_finish}
+use Rattle.arrangement.proofs.Arranged.{steps_small}
 use Rattle.arrangement.proofs.Ways.{targeted-at}
 use Rattle.arrangement.proofs.dynamic.arrange.Goals as goal
 
@@ -14,13 +14,3 @@ finish-requires c =
     let fit = c.find_columns_that_fit_into_average.ensures in
     let split = c.optimize_space_after_split.ensures in
     (c.requires.0.few, steps_small _ _ c.requires.0 _ (λ j a l. refl) limits _ _ _ _ _ c.requires.1 first lower fit split)
-
-pub returns : goal.returns
-returns c =
-    let h = held c.args.sheet.now.bytes.now c.args.sheet.now.accepted in
-    let limits = accepted_limits _ _ h.end h.reads in
-    let first = targeted-at c.args.t.now c.args.s c.remaining_width.result c.remaining_width.ensures in
-    let lower = c.enforce_lower_boundary_constraints.ensures in
-    let fit = c.find_columns_that_fit_into_average.ensures in
-    let split = c.optimize_space_after_split.ensures in
-    steps_finish _ _ c.requires.0 _ (λ j a l. refl) limits _ _ _ _ _ c.requires.1 first lower fit split _ c.finish.ensures

@@ -19,4 +19,4 @@ returns c =
     let left = c.has_left_border.ensures in
     let right = c.has_right_border.ensures in
     let junction = c.has_vertical_lines.ensures in
-    describes _ limits _ columns _ _ _ _ _ _ _ _ settings style c.style_from-style.ensures c.from.ensures c.longest-longest.ensures.longest left right junction
+    describes _ limits _ columns _ _ _ _ _ _ _ _ _ settings style c.style_from-style.ensures c.from.ensures c.target_from.ensures c.longest-longest.ensures.longest left right junction

@@ -9,6 +9,3 @@ overflow_add-self c =
     let s = c.args.self.now.0 in
     let i = c.args.i in
     record { fits = rw (shift i (omega arith)) (add-lt set_width s i (omega arith) (search rules) (bit-zero s i c.requires.1)) }
-
-pub returns : goal.returns
-returns c = rw (shift c.args.i c.requires.0)
