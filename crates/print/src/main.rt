@@ -47,11 +47,13 @@ fn write_part<R: Print + Clock, E: Print>(rt: &R, errors: &E, part: &[u8]) -> bo
 fn print<R: Print + Clock, E: Print>(rt: &R, errors: &E, sheet: &[u8], space: &mut [u8])
     requires { longest_line + 1 ≤ length space.old }
 {
-    let examined = sheet::examine(sheet);
-    if examined.number != 0 {
-        refusal::write_refusal(rt, errors, examined.number, examined.place);
-        return;
-    }
+    let examined = match sheet::examine(sheet) {
+        Ok(examined) => examined,
+        Err(refusal) => {
+            refusal::write_refusal(rt, errors, refusal);
+            return;
+        }
+    };
     let mut columns = [[0usize; 6]; MOST_COLUMNS];
     let p = display_info::open(sheet, examined.plain, &mut columns);
     let mut c = cursor::first(p);

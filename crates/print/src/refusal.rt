@@ -2,17 +2,13 @@
 ghost use Rattle.std.specs.Prelude.{◌+◌, ◌≤◌, length};
 ghost use Rattle.io.specs.Counts.{IsPrefixLen};
 
+use rules::Refusal;
 use std::time::Clock;
 
 // Writes `refused N at P` and 0A by one call: a number that is cut would be another number.
-pub fn write_refusal<R: Print + Clock, E: Print>(
-    rt: &R,
-    errors: &E,
-    number: u64,
-    place: u64,
-) -> bool {
+pub fn write_refusal<R: Print + Clock, E: Print>(rt: &R, errors: &E, refusal: Refusal) -> bool {
     let mut line = [0u8; 64];
-    let n = put_refusal(&mut line, number, place);
+    let n = put_refusal(&mut line, u64::from(refusal.reason), refusal.place as u64);
     stream::write_text(
         rt,
         errors,

@@ -1,15 +1,12 @@
 use native.Mathlib.Omega.{arith}
 use mathlib.Core.Path.{refl, sym, ◌∙◌}
 use lib.Seq.{length-take-le}
-use Rattle.table.proofs.Held.{is_accepted}
-use Rattle.page.proofs.Answers.{examined, examined-plain}
+use Rattle.page.proofs.Answers.{accepted, plain_table}
 use Rattle.print.proofs.Rounds.{standing-first, standing_few, round_bytes, round_less}
 use Rattle.print.proofs.print.Goals as goal
 
-pub open-p-requires-clause-plain_table : goal.open-p-requires-clause-plain_table
-open-p-requires-clause-plain_table g c =
-    let e = c.examine-examined.ensures in
-    examined-plain _ _ e (is_accepted _ _ (examined _ _ e) c.if-examined-ne0.false)
+pub open-p-requires : goal.open-p-requires
+open-p-requires g c = let e = c.in-Ok.ensures in record { accepted = (accepted _ _ e, refl); plain_table = plain_table _ _ e }
 
 pub loop-columns-init : goal.loop-columns-init
 loop-columns-init g c = (standing-first _ _ _ c.open-p.ensures.0 _ c.first-c.ensures, refl)
