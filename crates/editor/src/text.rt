@@ -123,6 +123,7 @@ fn most(kind: Kind) -> usize
 }
 
 // The first fault of a text: its length's, or a character's, which stands behind the length.
+#[inline(always)]
 fn judge(part: &[u8], from: Walk, kind: Kind) -> Walk
     ensures { walk_of result ≡ noted (writer.judges (definition.text_format kind) part.now from.place) (walk_of from) }
 {
