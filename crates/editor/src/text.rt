@@ -123,6 +123,7 @@ fn most(kind: Kind) -> usize
 }
 
 // The first fault of a text: its length's, or a character's, which stands behind the length.
+#[inline(always)]
 fn judge(part: &[u8], from: Walk, kind: Kind) -> Walk
     ensures { walk_of result ≡ noted (writer.judges (definition.text_format kind) part.now from.place) (walk_of from) }
 {
@@ -161,7 +162,8 @@ fn put(sheet: &mut [u8], at: usize, part: &[u8])
     buffer::copy(sheet, at + 1, part);
 }
 
-// A text that was taken.
+// A text that was taken. Compiled into its callers, as `text` is.
+#[inline(always)]
 fn enter(sheet: &mut [u8], part: &[u8], from: Walk, kind: Kind) -> Walk
     ensures { state (walk_of result) sheet.new
         ≡ entered (writer.judges (definition.text_format kind) part.now from.place)
@@ -173,7 +175,8 @@ fn enter(sheet: &mut [u8], part: &[u8], from: Walk, kind: Kind) -> Walk
     walk::advance(first, part.len())
 }
 
-// A text: its length, and as many bytes.
+// A text: its length, and as many bytes. Compiled into its callers, each of which knows the kind.
+#[inline(always)]
 pub fn text(
     numbers: &[u16],
     text: &[u8],

@@ -57,7 +57,10 @@ fn rare_bad(sheet: &[u8], from: usize, end: usize) -> usize
     requires { (from ≤ end) × (end ≤ length sheet.now) }
     ensures { BadIs sheet.now from end result }
 {
-    next_bad(sheet, past_printable(sheet, from, end), end)
+    if all_printable(&sheet[from..end]) {
+        return end;
+    }
+    next_bad(sheet, from, end)
 }
 
 // What is no printable character at `at` of bytes that end at `end`. C2 begins a pair, unless it is the last byte: no B0 can follow it there.
