@@ -14,10 +14,8 @@ pub fn fill(dst: &mut [u8], at: usize, n: usize, b: u8) -> usize
         dst[at] = b;
         return at + 1;
     }
-    let mut i = 0;
-    while i < n {
+    for i in 0..n {
         dst[at + i] = b;
-        i += 1;
     }
     at + n
 }
@@ -28,12 +26,10 @@ pub fn copy(dst: &mut [u8], at: usize, src: &[u8]) -> usize
     ensures value { result ≡ at + length src.now }
     ensures dst_after { dst.new ≡ put_at dst.old at src.now }
 {
-    let mut i = 0;
-    while i < src.len() {
-        dst[at + i] = src[i];
-        i += 1;
+    for (i, &byte) in src.iter().enumerate() {
+        dst[at + i] = byte;
     }
-    at + i
+    at + src.len()
 }
 
 // Writes a byte where it is drawn; gives the place after.

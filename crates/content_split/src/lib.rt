@@ -150,9 +150,8 @@ fn at_width(
 }
 
 // The next line that `text` is split into, from `from` on. It is looked for backwards from the place where the width is reached: most bytes
-// of a plain text aren't read. Each kind of text is compiled by itself: what is done for pairs stands apart from a plain text's part, which
-// is short enough to go into its callers.
-pub fn split_line<const PLAIN: bool>(
+// of a plain text aren't read. Each kind of text is compiled by itself.
+fn split_line<const PLAIN: bool>(
     text: &[u8],
     from: usize,
     width: usize,
@@ -180,6 +179,15 @@ pub fn split_line<const PLAIN: bool>(
     Some(at_width(text, start, place.at, width, delimiter, PLAIN))
 }
 
+// The same of a text that may have pairs. It stands apart, so that what is done for plain texts is short enough to go into its callers.
+#[inline(never)]
+fn split_paired(text: &[u8], from: usize, width: usize, delimiter: u8) -> Option<Part>
+    requires { (from ≤ length text.now) × ((0 < width) × Sound delimiter text.now from) }
+    ensures { PartIs width delimiter text.now from result }
+{
+    split_line::<false>(text, from, width, delimiter)
+}
+
 // The same of a text that is plain or not.
 pub fn next_part(text: &[u8], from: usize, width: usize, delimiter: u8, plain: bool) -> Option<Part>
     requires { (from ≤ length text.now) × ((0 < width) × (Sound delimiter text.now from × IsPlain plain text.now)) }
@@ -188,7 +196,7 @@ pub fn next_part(text: &[u8], from: usize, width: usize, delimiter: u8, plain: b
     if plain {
         return split_line::<true>(text, from, width, delimiter);
     }
-    split_line::<false>(text, from, width, delimiter)
+    split_paired(text, from, width, delimiter)
 }
 
 // How many lines `text` wraps into.

@@ -1,11 +1,11 @@
 -- Pieces written one after another, areas, and a cell's line as it is shown. Assumes nothing.
 use Prim.Native.Nat.{ℕ, zero, suc, ◌+◌, ◌-◌, ◌≤◌, ◌<◌}
 use mathlib.Core.Path.{◌≡◌, refl, sym, ap, ◌∙◌}
-use mathlib.Core.List.{List, [], ◌∷◌, ◌++◌, append_assoc, append-nil}
+use mathlib.Core.List.{List, [], ◌++◌, append_assoc, append-nil}
 use mathlib.Core.Bool.{Bool, true, false, cond, ◌&&◌}
 use native.Mathlib.Omega.{arith}
 use lib.ListN.{length, take, drop, length-append, length-replicate}
-use lib.Seq.{slice, length-slice, length-take-le, take-take, take-nil, take_all}
+use lib.Seq.{slice, length-slice, length-take-le, take-take, take_all}
 use lib.Dec.{leb, ltb}
 use borrow.Author.Tests.{le-leb, lt-leb}
 use Rattle.rules.specs.Text.{text_width, bytes_of, first_of, blank}
@@ -14,7 +14,7 @@ use Rattle.rules.specs.Wrap.{shown_indicator, cut_line}
 use Rattle.rules.specs.Page.{before}
 use Rattle.laws.proofs.Text.{width-nil, width-append, width-le, width-first, first-all, bytes-plain, plain-take}
 use Rattle.text_width.specs.Measure.{col, Reached}
-use Rattle.text_width.proofs.Measure.{col_slice, col-le, reached-all, reach_below, first_reach}
+use Rattle.text_width.proofs.Measure.{col_slice, col-le, reached-all, reach_below, first_reach, lent_slice}
 use Rattle.table.specs.Walk.{first_line}
 use Rattle.buffer.specs.Put.{put_at}
 use Rattle.buffer.proofs.Laws.{two}
@@ -56,13 +56,6 @@ marks-wide cut n w e h = rw (e, lt-leb n w h)
 
 pub marks-none : (cut : Bool) (n w : ℕ) → cut ≡ false → 0 ≡ marks_shown cut n w
 marks-none cut n w e = rw e
-
--- the bytes a to e of a text, as they are lent
-pub lent_slice : (a e : ℕ) (l : List ℕ) → take (e - a) (drop a l) ≡ slice a e l
-lent_slice zero e l = let z : e - 0 ≡ e = omega arith in rw z
-lent_slice (suc a) e [] = simp take-nil
-lent_slice (suc a) zero (x ∷ l) = let z : 0 - suc a ≡ 0 = omega arith in rw z
-lent_slice (suc a) (suc e) (x ∷ l) = let z : suc e - suc a ≡ e - a = omega arith in rw z (lent_slice a e l)
 
 -- ---- a line shortened
 

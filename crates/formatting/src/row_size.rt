@@ -52,8 +52,7 @@ fn cell_shown(
 {
     let mut t = row::open_cell(sheet, cells, v, first, plain);
     let mut n: usize = 0;
-    let mut j = first;
-    while j < end {
+    for j in first..end {
         if !content_format::has_line(limit, j, t.line.found) {
             return n;
         }
@@ -61,7 +60,6 @@ fn cell_shown(
         let cut = content_format::is_last(limit, j) & u.line.found;
         n += shown_pairs(sheet, v, t, indicator, cut);
         t = u;
-        j += 1;
     }
     n
 }

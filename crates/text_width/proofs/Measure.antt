@@ -7,8 +7,8 @@ use mathlib.Core.Bool.{Bool, true, false}
 use native.Mathlib.Omega.{arith}
 use native.Mathlib.Numerals.{add-one}
 use borrow.Author.Tests.{eq-eqb, ne_eqb}
-use lib.ListN.{length, take, get_or, take-append-drop, get_or-eq_default}
-use lib.Seq.{slice, slice_empty, slice-cons, take-take, take-suc, drop-append-le, length-take-le, length-slice, take-append_seam, drop-append_seam}
+use lib.ListN.{length, take, drop, get_or, take-append-drop, get_or-eq_default}
+use lib.Seq.{slice, slice_empty, slice-cons, take-take, take-suc, drop-append-le, length-take-le, length-slice, take-append_seam, drop-append_seam, take-nil, take_all}
 use Rattle.rules.specs.Text.{is_second, text_width, bytes_of, first_of, rest_of}
 use Rattle.rules.specs.Limits.{Plain}
 use Rattle.laws.proofs.Text.{width-append, width-nil, width-cons, width-second, width-le, bytes-append, plain-take}
@@ -118,12 +118,16 @@ some_first b h = go (is_second b) refl
     go false e = e
 
 -- a loop that counts columns, and one that goes on until they are reached
-pub counted-on : (T : List ℕ) (from i n one : ℕ) → col T from + n ≡ col T i → i < length T → one ≡ text_width (get_or T i 0 ∷ [])
-    → col T from + (n + one) ≡ col T (i + 1)
-counted-on T from i n one e h o = omega (arith, col-byte T i h)
+pub counted-none : (T : List ℕ) → 0 ≡ col T 0
+unfolding col
+counted-none T = sym width-nil
 
-pub counted-all : (T : List ℕ) (from to i n : ℕ) → from ≤ to → i ≤ to → to ≤ i → col T from + n ≡ col T i → n ≡ text_width (slice from to T)
-counted-all T from to i n h k l e = let q : i ≡ to = omega arith in omega (arith, col_slice T from to h, ap (col T) q)
+pub counted-on : (T : List ℕ) (i n one : ℕ) → n ≡ col T i → i < length T → one ≡ text_width (get_or T i 0 ∷ []) → n + one ≡ col T (i + 1)
+counted-on T i n one e h o = omega (arith, col-byte T i h)
+
+pub counted-all : (T : List ℕ) (i n : ℕ) → length T ≤ i → n ≡ col T i → n ≡ text_width T
+unfolding col
+counted-all T i n h e = e ∙ ap text_width (take_all i T h)
 
 pub walked_on : (T : List ℕ) (from w e left one : ℕ) → col T e + left ≡ col T from + w → e < length T → one ≡ text_width (get_or T e 0 ∷ [])
     → one ≤ left → col T (e + 1) + (left - one) ≡ col T from + w
@@ -147,9 +151,17 @@ walked_out T {e = e} f i q h = record { from = f; within = i; columns = q; whole
 pub counted_few : (T : List ℕ) (from to n : ℕ) → to ≤ length T → n ≡ text_width (slice from to T) → n ≤ to - from
 counted_few T from to n k e = omega (arith, width-le (slice from to T), length-slice from to T k)
 
-pub counted-part : (T : List ℕ) (from i e n few : ℕ) → col T from + n ≡ col T i → i ≤ e → few ≡ text_width (slice i e T)
-    → col T from + (n + few) ≡ col T e
-counted-part T from i e n few q h o = omega (arith, col_slice T i e h)
+-- the bytes from a place up to another, as they are lent
+pub lent_slice : (a e : ℕ) (l : List ℕ) → take (e - a) (drop a l) ≡ slice a e l
+lent_slice zero e l = let z : e - 0 ≡ e = omega arith in rw z
+lent_slice (suc a) e [] = simp take-nil
+lent_slice (suc a) zero (x ∷ l) = let z : 0 - suc a ≡ 0 = omega arith in rw z
+lent_slice (suc a) (suc e) (x ∷ l) = let z : suc e - suc a ≡ e - a = omega arith in rw z (lent_slice a e l)
+
+-- some first bytes counted, and the others
+pub counted-part : (n few : ℕ) (rest first others : List ℕ) (w : ℕ) → n + text_width rest ≡ w → rest ≡ first ++ others → few ≡ text_width first
+    → n + few + text_width others ≡ w
+counted-part n few rest first others w e f g = omega (arith, ap text_width f, width-append first others)
 
 -- columns counted up to a place, and the others reached from there on
 pub reached_from : (T : List ℕ) (from w n : ℕ) {z left : ℕ} → from + w ≤ length T → n ≡ text_width (slice from (from + w) T)

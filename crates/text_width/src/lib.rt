@@ -25,43 +25,24 @@ fn width_of(b: u8) -> u8
 
 // The columns of at most 255 bytes. The sum is one byte and nothing ends the loop early, so that the compiler takes sixteen bytes at
 // a time.
-fn count_few(text: &[u8], from: usize, to: usize) -> u8
-    requires { (from ≤ to) × ((to ≤ length text.now) × (to - from ≤ 255)) }
-    ensures { result ≡ text_width (slice from to text.now) }
+fn count_few(text: &[u8]) -> u8
+    requires { length text.now ≤ 255 }
+    ensures { result ≡ text_width text.now }
 {
     let mut n: u8 = 0;
-    let mut i = from;
-    while i < to {
-        let one = width_of(text[i]);
-        n += one;
-        i += 1;
+    for &b in text {
+        n += width_of(b);
     }
     n
 }
 
-// The end of the next bytes to count.
-fn few_end(from: usize, to: usize) -> usize
-    requires { from < to }
-    ensures { (from < result) × ((result ≤ to) × (result - from ≤ 255)) }
-{
-    if 255 < to - from {
-        return from + 255;
-    }
-    to
-}
-
-// The columns of the bytes from `from` up to `to`, counted.
-fn count(text: &[u8], from: usize, to: usize) -> usize
-    requires { (from ≤ to) × (to ≤ length text.now) }
-    ensures { result ≡ text_width (slice from to text.now) }
+// The columns of a text, counted.
+fn count(text: &[u8]) -> usize
+    ensures { result ≡ text_width text.now }
 {
     let mut n: usize = 0;
-    let mut i = from;
-    while i < to {
-        let e = few_end(i, to);
-        let few = count_few(text, i, e);
-        n += few as usize;
-        i = e;
+    for few in text.chunks(255) {
+        n += usize::from(count_few(few));
     }
     n
 }
@@ -74,7 +55,7 @@ pub fn columns(text: &[u8], from: usize, to: usize, plain: bool) -> usize
     if plain {
         return to - from;
     }
-    count(text, from, to)
+    count(&text[from..to])
 }
 
 // The place after `width` columns of `text` from `from` on, byte by byte.
@@ -82,17 +63,18 @@ fn walk(text: &[u8], from: usize, width: usize) -> Place
     requires { from ≤ length text.now }
     ensures { Reached text.now from width result.at result.left }
 {
-    let mut e = from;
     let mut left = width;
-    while e < text.len() {
-        let one = width_of(text[e]) as usize;
+    for e in from..text.len() {
+        let one = usize::from(width_of(text[e]));
         if left < one {
             return Place { at: e, left };
         }
         left -= one;
-        e += 1;
     }
-    Place { at: e, left }
+    Place {
+        at: text.len(),
+        left,
+    }
 }
 
 // The same, where there are that many bytes: a plain text isn't read; of another, the first `width` bytes are counted, many at a time.
@@ -104,6 +86,6 @@ pub fn reach(text: &[u8], from: usize, width: usize, plain: bool) -> Place
     if plain {
         return Place { at: to, left: 0 };
     }
-    let n = count(text, from, to);
+    let n = count(&text[from..to]);
     walk(text, to, width - n)
 }

@@ -1,14 +1,15 @@
 use native.Mathlib.Omega.{arith}
-use Rattle.text_width.proofs.Measure.{counted-on, counted-all}
+use Rattle.text_width.proofs.Measure.{counted-none, counted-on, counted-all}
 use Rattle.text_width.proofs.count_few.Goals as goal
 
-pub loop-i-init : goal.loop-i-init
-loop-i-init c = (omega arith, omega arith, omega arith, omega arith)
+pub loop-b-init : goal.loop-b-init
+loop-b-init c = record { few = omega arith; so = counted-none c.args.text.now }
 
-pub loop-i-preserved : goal.loop-i-preserved
-loop-i-preserved c =
-    let e = c.width_of-one.ensures in
-    (omega arith, omega arith, omega arith, counted-on _ _ _ _ _ c.loop-i.invariant.3 (omega arith) e.0)
+pub loop-b-preserved : goal.loop-b-preserved
+loop-b-preserved c = record {
+  few = omega (arith, c.loop-b.invariant.few, c.width_of-n.ensures.1);
+  so = counted-on c.args.text.now c.loop-b.b-index _ _ c.loop-b.invariant.so c.loop-b-test.true c.width_of-n.ensures.0;
+}
 
 pub returns : goal.returns
-returns c = let i = c.loop-i.invariant in counted-all _ _ _ _ _ (omega arith) i.1 (omega arith) i.3
+returns c = counted-all c.args.text.now _ _ c.loop-b-test.false c.loop-b.invariant.so

@@ -41,12 +41,6 @@ overflow_add-n c =
     let G = c.loop-j.invariant _ o.stands in
     omega (arith, G.small, G.within, G.onward, c.requires.first_le_end.1, c.shown_pairs-n.ensures.1)
 
-pub overflow_add-j : goal.overflow_add-j
-overflow_add-j c = omega (arith, c.loop-j-test.true, c.requires.first_le_end.1)
-
-pub loop-j-smaller : goal.loop-j-smaller
-loop-j-smaller c = omega (arith, c.loop-j-test.true)
-
 pub loop-j-preserved : goal.loop-j-preserved
 loop-j-preserved c =
     λ ls S.
