@@ -2,7 +2,7 @@
 // its loops. No text is copied: each line is the part of the sheet that holds it.
 #![tactic(auto)]
 
-ghost use Rattle.std.specs.Prelude.{◌≡◌, ℕ, ◌+◌, ◌<◌, max, unwrap_or, ltb};
+ghost use Rattle.std.specs.Prelude.{◌≡◌, ◌+◌, ◌<◌, max, ltb};
 ghost use Rattle.rules.specs.Text.{or_else};
 ghost use Rattle.rules.specs.Sheet.{column_at};
 ghost use Rattle.rules.specs.Widths.{shorter_by3, longest_part};
@@ -15,7 +15,7 @@ ghost use Rattle.after_split.specs.Trial.{of_line, of_lines, Enough, RowTried, R
 use rules::Column;
 use table::accepted::AcceptedSheet;
 use table::records::{Cells, Lines, Rows};
-use table::walk;
+use table::{records, walk};
 
 // The longest part that was found, and where the walk stands.
 #[derive(Clone, Copy)]
@@ -24,23 +24,12 @@ pub struct Tried {
     pub end: usize,
 }
 
-// A delimiter that is set: 0 is none.
-fn set(delimiter: u8) -> Option<u8>
-    ensures { (other : ℕ) → unwrap_or result other ≡ or_else delimiter other }
-{
-    if delimiter == 0 {
-        None
-    } else {
-        Some(delimiter)
-    }
-}
-
 // Where a cell sets no delimiter: the column's, else the table's, else a blank.
 fn delimiter(sheet: &AcceptedSheet<'_>, c: &Column) -> u8
     ensures { result ≡ or_else c.now.delimiter (or_else (table_of sheet.now.bytes.now).delimiter 32) }
 {
     let table = sheet.settings();
-    set(c.delimiter).unwrap_or(set(table.delimiter).unwrap_or(b' '))
+    records::set(c.delimiter).unwrap_or(records::set(table.delimiter).unwrap_or(b' '))
 }
 
 // A line of no more columns than the average isn't split. Where it has as many columns as bytes, no pair is in it. Below an average of 3
@@ -126,7 +115,7 @@ fn longest_part_of_row(
         sheet,
         lines,
         average,
-        set(cell.delimiter).unwrap_or(otherwise),
+        records::set(cell.delimiter).unwrap_or(otherwise),
         before,
     );
     if saves_too_little(average, longest) {

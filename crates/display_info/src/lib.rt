@@ -30,6 +30,7 @@ use rules::{
 use style::column;
 use style::table_style::TableStyle;
 use table::accepted::AcceptedSheet;
+use table::records;
 use table::records::Rows;
 
 // How the lines of a row look: its text lines, the rule after it, and whether that rule is visible.
@@ -66,7 +67,7 @@ pub struct Page {
 fn glyph(c: u8) -> u8
     ensures { result ≡ characters.glyph c }
 {
-    numbers::or_else(c, 32)
+    records::set(c).unwrap_or(b' ')
 }
 
 // A border or a rule, whose four characters begin at k.
@@ -179,8 +180,8 @@ fn show_column(
         width: usize::from(width),
         left: usize::from(c.left),
         right: usize::from(c.right),
-        delimiter: numbers::or_else(c.delimiter, delimiter),
-        alignment: numbers::or_else(c.alignment, 1),
+        delimiter: records::set(c.delimiter).unwrap_or(delimiter),
+        alignment: records::set(c.alignment).unwrap_or(1),
     });
 }
 
@@ -191,7 +192,7 @@ fn show_columns(sheet: &AcceptedSheet<'_>, widths: Widths) -> ArrayVec<VisibleCo
         × (Rising result.items × (UsableAll result.items × NarrowAll result.items)) }
 {
     let head = sheet.settings();
-    let delimiter = numbers::or_else(head.delimiter, 32);
+    let delimiter = records::set(head.delimiter).unwrap_or(b' ');
     let found = sheet.columns();
     let mut columns = ArrayVec::new();
     for j in 0..found.count {

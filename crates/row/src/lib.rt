@@ -14,7 +14,7 @@ ghost use Rattle.row.specs.Open.{CellKnown, OpenedAt, OpenedRow, Rising, UsableA
 use cells::{CellCursor, Next};
 use rules::MOST_COLUMNS;
 use table::records::{Cells, Lines};
-use table::walk;
+use table::{records, walk};
 
 // A visible column as it is drawn: its number in the sheet, its content width and paddings, and what a cell takes that chooses nothing.
 #[derive(Clone, Copy, Default)]
@@ -70,8 +70,8 @@ pub fn open_cell(sheet: &[u8], cells: Cells, v: VisibleColumn, n: usize, plain: 
     }
     let x = walk::cell(sheet, cells);
     let lines = x.lines;
-    let delimiter = numbers::or_else(x.delimiter, v.delimiter);
-    let alignment = numbers::or_else(x.alignment, v.alignment);
+    let delimiter = records::set(x.delimiter).unwrap_or(v.delimiter);
+    let alignment = records::set(x.alignment).unwrap_or(v.alignment);
     let first = cells::first_line(sheet, lines, v.width, delimiter, plain);
     let line = cells::further(sheet, first, v.width, delimiter, n);
     Pending {
@@ -119,7 +119,7 @@ fn open_height(sheet: &[u8], from: Cells, v: VisibleColumn, plain: bool) -> usiz
     }
     let x = walk::cell(sheet, from);
     let lines = x.lines;
-    let delimiter = numbers::or_else(x.delimiter, v.delimiter);
+    let delimiter = records::set(x.delimiter).unwrap_or(v.delimiter);
     cells::cell_height(sheet, lines, v.width, delimiter, plain)
 }
 

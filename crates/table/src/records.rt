@@ -1,5 +1,15 @@
 // What the sheet holds, as values: each record is equal to a part of the definition's table.
+ghost use Rattle.std.specs.Prelude.{ℕ, ◌≡◌, unwrap_or};
+ghost use Rattle.rules.specs.Text.{or_else};
+
 use rules::{Column, MOST_COLUMNS};
+
+// A delimiter or an alignment that is set: 0 is none.
+pub fn set(code: u8) -> Option<u8>
+    ensures { (other : ℕ) → unwrap_or result other ≡ or_else code other }
+{
+    if code == 0 { None } else { Some(code) }
+}
 
 // Codes as the sheet has them: a target or a delimiter of 0 is none.
 #[derive(Clone, Copy)]

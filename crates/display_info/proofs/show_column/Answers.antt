@@ -9,4 +9,4 @@ pub returns : goal.returns
 returns c =
     rw (c.from.ensures, c.from-2.ensures, c.from-3.ensures) at c.push.ensures.items
     ∙ show-visible c.args.columns.now.items c.args.j c.args.c c.args.width c.args.delimiter _ _ _ c.is_hidden.ensures c.if-is_hidden.false
-    c.or_else.ensures c.or_else-2.ensures
+    (c.unwrap_or.ensures ∙ c.set.ensures c.args.delimiter) (c.unwrap_or-2.ensures ∙ c.set-2.ensures 1)

@@ -1,3 +1,4 @@
+use mathlib.Core.Path.{◌∙◌}
 use native.Mathlib.Omega.{arith}
 use Rattle.table.specs.Held.{table_of}
 use Rattle.arrangement.proofs.Layouts.{count_fits, column-at}
@@ -32,7 +33,7 @@ loop-j-preserved c =
     let few = count_fits _ T _ e in
     showing-on t c.loop-j.j _ c.loop-j.invariant _ _ _ _ (column-at t T _ e c.loop-j.j (omega (arith, h, few)))
     (width_is t _ c.loop-j.j c.requires (omega (arith, h, columns-count t _ e))) (delimiter_is t c.settings-head.result _ c.settings-head.ensures
-    c.or_else-delimiter.ensures)
+    (c.unwrap_or-delimiter.ensures ∙ c.set.ensures 32))
     c.show_column.ensures
 
 pub returns : goal.returns

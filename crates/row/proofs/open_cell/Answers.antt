@@ -1,6 +1,6 @@
 use native.Mathlib.Omega.{arith}
 use Prim.Native.Nat.{◌<◌}
-use mathlib.Core.Path.{refl}
+use mathlib.Core.Path.{◌∙◌, refl}
 use Rattle.table.proofs.Walks.{lines_inside}
 use Rattle.row.proofs.Open.{cell_known, texts-here, delimiter-here, opened-missing, opened-cell}
 use Rattle.row.proofs.open_cell.Goals as goal
@@ -24,7 +24,7 @@ first_line-first-requires c =
       width_nonzero = (
         c.requires.width_nonzero.0,
         delimiter-here _ c.args.sheet.now c.args.cells c.cell-x.result c.cell-x.ensures k c.args.v _ c.requires.width_nonzero.1
-            c.or_else-delimiter.ensures,
+            (c.unwrap_or-delimiter.ensures ∙ c.set.ensures c.args.v.delimiter),
       );
     }
 
@@ -36,7 +36,7 @@ further-line-requires c =
       (
         c.requires.width_nonzero.0,
         delimiter-here _ c.args.sheet.now c.args.cells c.cell-x.result c.cell-x.ensures k c.args.v _ c.requires.width_nonzero.1
-            c.or_else-delimiter.ensures,
+            (c.unwrap_or-delimiter.ensures ∙ c.set.ensures c.args.v.delimiter),
       ),
     )
 
@@ -47,5 +47,5 @@ returns c =
     opened-cell c.args.sheet.now c.args.cells c.cell-x.result c.cell-x.ensures c.args.v c.args.n c.args.plain c.requires.width_nonzero.0
     c.first_line-first.result _
     (delimiter-here _ c.args.sheet.now c.args.cells c.cell-x.result c.cell-x.ensures k c.args.v _ c.requires.width_nonzero.1
-    c.or_else-delimiter.ensures)
-    c.or_else-delimiter.ensures c.or_else-alignment.ensures c.first_line-first.ensures c.further-line.ensures
+    (c.unwrap_or-delimiter.ensures ∙ c.set.ensures c.args.v.delimiter))
+    (c.unwrap_or-delimiter.ensures ∙ c.set.ensures c.args.v.delimiter) (c.unwrap_or-alignment.ensures ∙ c.set-2.ensures c.args.v.alignment) c.first_line-first.ensures c.further-line.ensures

@@ -1,3 +1,4 @@
+use mathlib.Core.Path.{◌∙◌}
 use native.Mathlib.Omega.{arith}
 use Prim.Native.Nat.{◌<◌}
 use Rattle.table.proofs.Walks.{lines_inside}
@@ -19,11 +20,11 @@ cell_height-requires c =
       );
       width_nonzero = (
         c.requires.width_nonzero.0,
-        delimiter-here _ c.args.sheet.now c.args.from c.cell-x.result c.cell-x.ensures k c.args.v _ c.requires.width_nonzero.1 c.or_else-delimiter.ensures,
+        delimiter-here _ c.args.sheet.now c.args.from c.cell-x.result c.cell-x.ensures k c.args.v _ c.requires.width_nonzero.1 (c.unwrap_or-delimiter.ensures ∙ c.set.ensures c.args.v.delimiter),
       );
     }
 
 pub returns : goal.returns
 returns c =
-    height-here c.args.sheet.now c.args.from c.cell-x.result c.cell-x.ensures c.args.v _ _ c.or_else-delimiter.ensures
+    height-here c.args.sheet.now c.args.from c.cell-x.result c.cell-x.ensures c.args.v _ _ (c.unwrap_or-delimiter.ensures ∙ c.set.ensures c.args.v.delimiter)
     c.cell_height.ensures
