@@ -191,6 +191,7 @@ fn repeat<S: Step>(step: &S, t: &Layout, s: &mut State)
     requires { (t.now.count ≤ most_columns) × S.fits step.now t.now }
     ensures { s.new ≡ repeated (turn S.ended (S.rule step.now) t.now) s.old }
 {
+    // The numbers are compared and not the sets: a number that is read is known to fit its type.
     let mut before = s.decided.0;
     let mut again = true;
     while again {

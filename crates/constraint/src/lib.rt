@@ -15,7 +15,8 @@ use style::column;
 use style::column::{ColumnConstraint, ConstraintWidth, ContentWidth, Width};
 use style::table::ContentArrangement;
 
-// What the widths depend on, beside the parts that cell lines split into.
+// What the widths depend on, beside the parts that cell lines split into. There is no heap: the arrays have room for the most columns, and
+// the first `count` entries are the sheet's.
 #[derive(Clone, Copy)]
 pub struct Layout {
     pub arrangement: ContentArrangement,
