@@ -8,7 +8,11 @@ use lib.ListN.{length, get_or}
 use borrow.Author.Tests.{lt-ltb, le-ltb, le-leb, lt-leb}
 use Rattle.rules.specs.Text.{flat}
 use Rattle.rules.specs.Format.{written}
-use Rattle.rules.specs.Calls.{put_or, put, not_printed}
+use Rattle.std.specs.Prelude.{Result, Ok, Err}
+use Rattle.rules.specs.declared.Printed.{Printed}
+use Rattle.rules.specs.declared.Refusal.{Refusal}
+use Rattle.rules.proofs.Refusals.{number_some}
+use Rattle.rules.specs.Calls.{put_or, put, not_printed, printed_of}
 use Rattle.buffer.specs.Put as buffer
 use Rattle.small.specs.Listing.{sheets, write_sheet}
 use Rattle.small_sheets.specs.Parts.{cell_bytes, head_bytes, columns_bytes}
@@ -67,3 +71,11 @@ pub sheet_printed : (n : ℕ) (b : List ℕ) → n < 32736 → 72 ≤ length b
 unfolding write_sheet put_or buffer.over
 sheet_printed n b l h =
     rw (sheets-count, lt-ltb n 32736 l, write_sheet, le-leb (length (get_or sheets n [])) (length b) (omega (arith, h, sheet_fits n l)), put_or)
+
+-- the call gives the size
+pub printed_ok : (r : Result ℕ Refusal) (n : ℕ) → printed_of r ≡ record { number = 0; place = 0; written = n } → r ≡ Ok n
+printed_ok (Ok m) n e = let z : m ≡ n = ap (λ (p : Printed). p.written) e in rw z
+printed_ok (Err r) n e = absurd (number_some r.reason (ap (λ (p : Printed). p.number) e))
+
+pub size_given : (r : Result ℕ Refusal) (m n : ℕ) → r ≡ Ok m → printed_of r ≡ record { number = 0; place = 0; written = n } → m ≡ n
+size_given r m n e f = ap (λ (p : Printed). p.written) (rw e at f)

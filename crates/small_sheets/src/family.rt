@@ -1,11 +1,12 @@
 // The sheets of the family by their numbers: what each number chooses, and that sheet's bytes. They are listed in small/specs/Listing.antt.
 ghost use Rattle.std.specs.Prelude.{◌≡◌, ◌+◌, ◌*◌, ◌^◌, ◌≤◌, ◌<◌, length, get_or};
+ghost use Rattle.rules.specs.Calls.{printed_of};
 ghost use Rattle.buffer.specs.Put.{over, put_at};
 ghost use Rattle.small.specs.Listing.{choices, letters, texts, write_sheet};
 ghost use Rattle.small_sheets.specs.Parts.{cell_bytes, head_bytes, columns_bytes};
 ghost use Rattle.small_sheets.specs.Chosen.{text_is, IsSmall, IsTextAt, IsPlace, ChoiceAt, InRange, IsChoice, cells_is, sheet_is};
 
-use rules::{Printed, STYLE_CHARACTERS};
+use rules::{Reason, Refusal, STYLE_CHARACTERS};
 
 // How many sheets there are, and how many of them have one column.
 pub const SHEETS: usize = 32736;
@@ -255,34 +256,26 @@ fn put_sheet(sheet: &mut [u8], c: Choice)
     put_cells(sheet, q, c);
 }
 
-fn refused(number: u64, place: usize) -> Printed
-    ensures { result ≡ record { number = number; place = place; written = 0 } }
-{
-    Printed {
-        number: number,
-        place: place as u64,
-        written: 0,
-    }
-}
-
-// Sheet n over a buffer's beginning, all of it or nothing. 21: there is no such sheet (place: how many there are); 20: a shorter buffer (place: the
-// bytes needed).
-pub fn write_sheet(n: usize, sheet: &mut [u8]) -> Printed
-    ensures value { result ≡ (write_sheet n sheet.old).answer }
+// Sheet n over a buffer's beginning, all of it or nothing: its size. `NoSuchLine`, 21, where there is no such sheet (place: how many there are);
+// `PageOverBuffer`, 20, for a shorter buffer (place: the bytes needed).
+pub fn write_sheet(n: usize, sheet: &mut [u8]) -> Result<usize, Refusal>
+    ensures value { printed_of result ≡ (write_sheet n sheet.old).answer }
     ensures sheet_after { sheet.new ≡ (write_sheet n sheet.old).buffer }
 {
     if SHEETS <= n {
-        return refused(21, SHEETS);
+        return Err(Refusal {
+            reason: Reason::NoSuchLine,
+            place: SHEETS,
+        });
     }
     let c = choose(n);
     let needed = size(c);
     if sheet.len() < needed {
-        return refused(20, needed);
+        return Err(Refusal {
+            reason: Reason::PageOverBuffer,
+            place: needed,
+        });
     }
     put_sheet(sheet, c);
-    Printed {
-        number: 0,
-        place: 0,
-        written: needed as u64,
-    }
+    Ok(needed)
 }

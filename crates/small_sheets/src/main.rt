@@ -23,8 +23,7 @@ fn next_sheet(n: usize, space: &mut [u8]) -> usize
     ensures value { (result ≡ length (get_or sheets n [])) × (result ≤ 72) }
     ensures space_after { space.new ≡ over (get_or sheets n []) space.old }
 {
-    let answer = family::write_sheet(n, space);
-    answer.written as usize
+    family::write_sheet(n, space).unwrap()
 }
 
 fn write_part<R: Print + Clock, E: Print>(rt: &R, errors: &E, part: &[u8]) -> bool {
