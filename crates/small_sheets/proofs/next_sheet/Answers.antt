@@ -1,5 +1,5 @@
 -- `small_sheets::next_sheet` meets its contract. Assumes nothing.
-use mathlib.Core.Path.{ap, ◌∙◌}
+use mathlib.Core.Path.{refl, ap, ◌∙◌}
 use Rattle.rules.specs.Calls.{Written}
 use Rattle.small_sheets.proofs.Answers.{sheet_fits, sheet_printed, printed_ok, size_given}
 use Rattle.small_sheets.proofs.next_sheet.Goals as goal
@@ -7,7 +7,7 @@ use Rattle.small_sheets.proofs.next_sheet.Goals as goal
 pub unwrap-requires : goal.unwrap-requires
 unwrap-requires c =
     let e = sheet_printed c.args.n c.args.space.now c.requires.n_bound c.requires.in_bounds in
-    rw (printed_ok _ _ (c.write_sheet.ensures.value ∙ ap (λ (w : Written). w.answer) e)) tt
+    rw (printed_ok _ _ (c.write_sheet.ensures.value ∙ ap (λ (w : Written). w.answer) e)) refl
 
 pub returns : goal.returns
 returns c =
