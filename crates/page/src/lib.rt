@@ -118,6 +118,7 @@ fn write_page(sheet: &[u8], page: &mut [u8]) -> Result<usize, Refusal>
     Ok(wrote.bytes)
 }
 
+// The page, as the call answers it.
 pub fn print_page(sheet: &[u8], page: &mut [u8]) -> Printed
     ensures value { result ≡ (calls.print_page sheet.now page.old).answer }
     ensures page_after { page.new ≡ (calls.print_page sheet.now page.old).buffer }
@@ -139,6 +140,7 @@ fn write_line(sheet: &[u8], line: usize, page: &mut [u8]) -> Result<usize, Refus
     Ok(drawn.bytes)
 }
 
+// Line k, as the call answers it.
 pub fn print_line(sheet: &[u8], line: usize, page: &mut [u8]) -> Printed
     ensures value { result ≡ (calls.print_line sheet.now line page.old).answer }
     ensures page_after { page.new ≡ (calls.print_line sheet.now line page.old).buffer }
@@ -186,6 +188,7 @@ fn write_lines(sheet: &[u8], line: usize, page: &mut [u8]) -> Result<Totals, Ref
     })
 }
 
+// Lines from line k on, as the call answers them.
 pub fn print_lines(sheet: &[u8], line: usize, page: &mut [u8]) -> PrintedLines
     ensures value { result ≡ (print_lines sheet.now line page.old).answer }
     ensures page_after { page.new ≡ (print_lines sheet.now line page.old).buffer }
