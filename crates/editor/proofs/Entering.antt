@@ -24,10 +24,6 @@ use Rattle.editor.specs.Walk.{cap, State, state, walk_of, first_place, noted, ad
 
 -- ---- places
 
-pub cap-over : (n : ℕ) → 32769 ≤ n → 32769 ≡ cap n
-unfolding cap
-cap-over n h = omega arith
-
 pub cap_under : (n : ℕ) → n ≤ 32769 → n ≡ cap n
 unfolding cap
 cap_under n h = omega arith

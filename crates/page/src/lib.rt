@@ -119,7 +119,7 @@ pub fn write_page(sheet: &[u8], page: &mut [u8]) -> Result<usize, Refusal>
     Ok(wrote.bytes)
 }
 
-// The same for C.
+// The same, as the call for C answers it.
 pub fn print_page(sheet: &[u8], page: &mut [u8]) -> Printed
     ensures value { result ≡ (calls.print_page sheet.now page.old).answer }
     ensures page_after { page.new ≡ (calls.print_page sheet.now page.old).buffer }
@@ -141,7 +141,7 @@ pub fn write_line(sheet: &[u8], line: usize, page: &mut [u8]) -> Result<usize, R
     Ok(drawn.bytes)
 }
 
-// The same for C.
+// The same, as the call for C answers it.
 pub fn print_line(sheet: &[u8], line: usize, page: &mut [u8]) -> Printed
     ensures value { result ≡ (calls.print_line sheet.now line page.old).answer }
     ensures page_after { page.new ≡ (calls.print_line sheet.now line page.old).buffer }
@@ -189,7 +189,7 @@ pub fn write_lines(sheet: &[u8], line: usize, page: &mut [u8]) -> Result<Totals,
     })
 }
 
-// The same for C.
+// The same, as the call for C answers it.
 pub fn print_lines(sheet: &[u8], line: usize, page: &mut [u8]) -> PrintedLines
     ensures value { result ≡ (print_lines sheet.now line page.old).answer }
     ensures page_after { page.new ≡ (print_lines sheet.now line page.old).buffer }

@@ -74,10 +74,6 @@ two_bytes s n p h =
 
 -- ---- with `end` where the bytes end
 
--- a pair is looked for, and isn't cut off
-pub pair_begins : (pairs : Bool) (second end : ℕ) (b : Bool) → b ≡ (pairs && ltb second end) → b ≡ true → (pairs ≡ true) × (second < end)
-pair_begins pairs second end b e f = let h = (and-eq-true_iff pairs (ltb second end)).0 (sym e ∙ f) in (h.0, ltb-true second end h.1)
-
 module _ (pairs : Bool) (s : List ℕ) (end p : ℕ) (some : p < end) where
   less : end - p ≡ suc (end - (p + 1))
   less = omega arith
@@ -194,17 +190,8 @@ module _ (pairs : Bool) (s : List ℕ) (inside end : ℕ) (reach : inside ≡ mi
   left_begin i r b = left_from i r (bytes_from pairs s end i) refl b
 
   module _ (i : ℕ) (w : Step) (c : Left pairs s inside end i w) where
-    pub left_bad : i < length s → i < end → printable (get_or s i 0) ≡ false
-    left_bad h k = c.bad (omega arith)
-
-    pub left_inside : (q : ℕ) → CharacterIs pairs s end i (At q) → q ≤ inside
-    left_inside q f = omega (arith, f.1.0, f.1.1.0)
-
     pub left_next : (q : ℕ) → CharacterIs pairs s end i (At q) → (j : ℕ) → BadIs s q inside j → (i < j) × Left pairs s inside end j w
     left_next q f j b = (omega (arith, f.0, b.order), left_from q j w (sym f.1.1.1 ∙ c.rest) b)
-
-    pub left_refused : (n q : ℕ) → CharacterIs pairs s end i (Refused n q) → Refused n q ≡ w
-    left_refused n q f = f ∙ c.rest
 
     pub left_done : end ≤ i → At i ≡ w
     unfolding bytes_from

@@ -29,24 +29,6 @@ use Rattle.laws.proofs.Stands.{parts-count}
 use Rattle.sheet.specs.Steps.{byte_between, constraint_after, cells_after, head_after, body_after, line_of, reading_of, at_first}
 use Rattle.sheet.specs.Examine.{ExaminedIs}
 
--- a count and as many items, from the step y after the count, and the count v
-pub counted_whole : {A : Type 0} (low high : ℕ) (f : Format A) (s : List ℕ) (x y : Step) (v : ℕ)
-    → y ≡ read_from (byte_between low high 5) s x → v ≡ byte_of s x → times v (after f s) y ≡ after (counted low high f) s x
-unfolding after reads here_of byte_of stands
-counted_whole low high f s x y v e i = rw (e, i)
-
--- a text's length and as many characters
-characters_whole : (low high : ℕ) (good : ℕ → Bool) (s : List ℕ) (x y : Step) (v : ℕ)
-    → y ≡ read_from (byte_between low high 5) s x → v ≡ byte_of s x → times v (read_from (description.character good) s) y ≡ after (text low high good) s
-    x
-unfolding after
-characters_whole low high good s x y v e i = rw (e, i)
-
-pub style_whole : (s : List ℕ) (x y : Step) (v : ℕ)
-    → y ≡ read_from (byte_between 22 22 5) s x → v ≡ byte_of s x → times v (after optional s) y ≡ after (text 22 22 printable_or_zero) s x
-unfolding after reads
-style_whole s x y v e i = characters_whole 22 22 printable_or_zero s x y v e i
-
 -- a byte was read, so the next field starts inside the sheet or at its end
 pub after_inside : (low high n : ℕ) (s : List ℕ) (x : Step) (p : ℕ) → read_from (byte_between low high n) s x ≡ At p → p ≤ length s
 unfolding read_from

@@ -99,58 +99,6 @@ byte_stays good n ns s m =
     ap (λ (c : Cursor). entered (passes (good v) n s.walk.place 0) (low v ∷ []) (state (moved c s.walk) s.sheet)) (number_stays ns (cursor_of s.walk) m)
     ∙ sym (missing_entered (passes (good v) n s.walk.place 0) (low v ∷ []) s.walk s.sheet m)
 
--- ---- the buffer keeps its length
-
-stamped-length : (d : List ℕ) (p : ℕ) (l : List ℕ) → length (stamped d p l) ≡ length d
-unfolding stamped
-stamped-length d p l = go (leb (p + length l) (length d)) refl
-  where
-    go : (b : Bool) → leb (p + length l) (length d) ≡ b → length {A = ℕ} (elim b as (λ z. List ℕ) [ true ↦ put_at d p l | false ↦ d ]) ≡ length d
-    go true e = length-put d p l (leb-true (p + length l) (length d) e)
-    go false e = refl
-
-entered-length : (y : Step) (l : List ℕ) (s : State) → length (entered y l s).sheet ≡ length s.sheet
-unfolding entered
-entered-length y l s = go s.walk.missing
-  where
-    go : (b : Bool) → length (elim b as (λ z. State) [
-      | true ↦ s
-      | false ↦ state (advanced (length l) (noted y s.walk)) (stamped s.sheet s.walk.place l)
-    ]).sheet ≡ length s.sheet
-    go true = refl
-    go false = stamped-length s.sheet s.walk.place l
-
-field-length : {A : Type 0} (x : Format A) (ns ts : List ℕ) (s : State) → length (field_entered x ns ts s).sheet ≡ length s.sheet
-unfolding field_entered
-field-length x ns ts s =
-    let g = takes x ns ts (cursor_of s.walk) in
-    entered-length (judges x g.value s.walk.place) (map low (writes x g.value)) (state (moved g.after s.walk) s.sheet)
-
-again-length : (f : State → State) → ((s : State) → length (f s).sheet ≡ length s.sheet) → (n : ℕ) (s : State)
-    → length (again n f s).sheet ≡ length s.sheet
-unfolding again
-again-length f e zero s = refl
-again-length f e (suc n) s = again-length f e n (f s) ∙ e s
-
-walked-length : {A : Type 0} (x : Format A) (ns ts : List ℕ) (s : State) → length (walked x ns ts s).sheet ≡ length s.sheet
-unfolding walked
-walked-length byte ns ts s = field-length byte ns ts s
-walked-length word ns ts s = field-length word ns ts s
-walked-length (only good fault x) ns ts s = field-length (only good fault x) ns ts s
-walked-length zero_word ns ts s = field-length zero_word ns ts s
-walked-length (text low high good) ns ts s = field-length (text low high good) ns ts s
-walked-length (cell_text low high) ns ts s = field-length (cell_text low high) ns ts s
-walked-length (listed count x) ns ts s =
-    again-length (λ u. walked x ns ts u) (λ u. walked-length x ns ts u) (value_at count ns ts s) (walked count ns ts s) ∙ walked-length count ns ts s
-walked-length (give a) ns ts s = refl
-walked-length (next of x g) ns ts s =
-    walked-length (g (value_at x ns ts s)) ns ts (walked x ns ts s) ∙ walked-length x ns ts s
-
--- as the code leaves it
-pub kept-length : {A : Type 0} (x : Format A) (ns ts : List ℕ) (w r : Walk) (d e : List ℕ) → state r e ≡ walked x ns ts (state w d)
-    → length e ≡ length d
-kept-length x ns ts w r d e f = ap (λ (s : State). length s.sheet) f ∙ walked-length x ns ts (state w d)
-
 -- ---- columns
 
 module _ (ns : List ℕ) where
@@ -274,18 +222,6 @@ module _ (ns ts : List ℕ) where
       let w' = h ∙ byte-walked printable_or_zero bad_character ns ts v in
       j ∙ ap (λ z. walked (text style_characters style_characters printable_or_zero) ns ts z) (i ∙ ap (λ z. walked (text 0 8 printable) ns ts z)
       (w' ∙ ap (λ z. walked optional ns ts z) (g ∙ ap (λ z. walked (word_to 400) ns ts z) (u' ∙ ap (λ z. walked (code 2) ns ts z) t'))))
-
-  pub head-length : (w r : Walk) (d e : List ℕ) → state r e ≡ head_walked ns ts (state w d) → length e ≡ length d
-  unfolding head_walked
-  head-length w r d e f =
-      let edition = walked (only (between 1 1) wrong_edition byte) ns ts (state w d) in
-      let arrangement = walked (code 2) ns ts edition in
-      let target = walked (word_to 400) ns ts arrangement in
-      let delimiter = walked optional ns ts target in
-      ap (λ (s : State). length s.sheet) f
-      ∙ walked-length (text style_characters style_characters printable_or_zero) ns ts (walked (text 0 8 printable) ns ts delimiter) ∙ walked-length (text 0 8 printable) ns ts delimiter
-      ∙ walked-length optional ns ts target ∙ walked-length (word_to 400) ns ts arrangement ∙ walked-length (code 2) ns ts edition
-      ∙ walked-length (only (between 1 1) wrong_edition byte) ns ts (state w d)
 
   again-alike : (f g : State → State) → ((s : State) → f s ≡ g s) → (n : ℕ) (s : State) → again n f s ≡ again n g s
   unfolding again
