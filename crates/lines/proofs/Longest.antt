@@ -1,10 +1,9 @@
 -- The longest of a page's lines, from the borders that are visible and the lines that there are. Assumes nothing.
-use Prim.Native.Nat.{ℕ, zero, suc, ◌<◌}
-use mathlib.Core.Path.{◌≡◌, refl, sym, ap, ◌∙◌}
+use Prim.Native.Nat.{ℕ}
+use mathlib.Core.Path.{◌≡◌, sym, ap, ◌∙◌}
 use mathlib.Core.List.{List}
 use mathlib.Core.Bool.{true, false}
 use native.Mathlib.Omega.{arith}
-use lib.ListN.{length}
 use Rattle.rules.specs.Text.{All}
 use Rattle.rules.specs.Limits.{Optional}
 use Rattle.rules.specs.Style.{top_border, bottom_border, is_visible}

@@ -1,15 +1,9 @@
 -- What the call for widths answers. Assumes nothing.
 use Prim.Native.Nat.{ℕ}
-use mathlib.Core.Path.{◌≡◌, refl, ap, ◌∙◌}
+use mathlib.Core.Path.{◌≡◌}
 use mathlib.Core.List.{List}
-use mathlib.Core.Bool.{false}
-use lib.ListN.{replicate}
-use Rattle.rules.specs.declared.Checked.{Checked}
 use Rattle.rules.specs.declared.Measured.{Measured}
-use Rattle.rules.specs.Sheet.{Table, most_columns}
-use Rattle.rules.specs.Field.{Read, got, refused}
-use Rattle.rules.specs.Format.{sheet}
-use Rattle.rules.specs.Calls.{check, check_of, measure, measure_of}
+use Rattle.rules.specs.Calls.{measure, measure_of}
 use Rattle.table.specs.Held.{IsAccepted, table_of}
 use Rattle.table.proofs.Held.{held}
 use Rattle.arrangement.specs.declared.Widths.{Widths}

@@ -6,12 +6,9 @@ use mathlib.Core.Bool.{Bool, not}
 use lib.IntN.{ℤ, pos, ◌-ℤ◌}
 use lib.Dec.{eqb}
 use borrow.Author.Tests.{eq-eqb, ne_eqb}
-use Rattle.rules.specs.declared.Checked.{Checked}
 use Rattle.rules.specs.declared.Reasoned.{Reasoned}
 use Rattle.rules.specs.Sheet.{Table}
-use Rattle.rules.specs.Field.{refused}
 use Rattle.rules.specs.Page.{page_lines}
-use Rattle.rules.specs.Calls.{check}
 use Rattle.rules.specs.Reasons.{longest_printed, difference, reasons_of, reasons}
 use Rattle.table.specs.Held.{IsAccepted, table_of}
 use Rattle.table.specs.Walk.{rows_in}

@@ -1,5 +1,4 @@
 -- `page::count` meets its contract. Assumes nothing.
-use mathlib.Core.Path.{refl}
 use Rattle.rules.specs.Calls.{count}
 use Rattle.page.proofs.Answers.{accepted, plain_table, refused_by, count-all, count_accepted}
 use Rattle.page.proofs.count.Goals as goal
