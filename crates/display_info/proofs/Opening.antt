@@ -1,18 +1,16 @@
 -- What a page is opened with is the sheet's. Assumes nothing.
 use Prim.Native.Nat.{ℕ, zero, suc, ◌+◌, ◌-◌, ◌≤◌, ◌<◌}
 use mathlib.Core.Path.{◌≡◌, refl, sym, ap, ◌∙◌}
-use mathlib.Core.Logic.{inl, inr, ⊎_elim}
-use mathlib.Core.List.{List, [], ◌∷◌, ◌++◌, map}
+use mathlib.Core.Logic.{inl, inr}
+use mathlib.Core.List.{List, [], ◌∷◌, map}
 use mathlib.Core.Bool.{Bool, true, false}
 use native.Mathlib.Numerals.{add-one}
-use native.Mathlib.Nat.{eq-or-lt_of_le}
 use native.Mathlib.Omega.{arith}
-use lib.ListN.{length, take, get_or, set, replicate, length-append, length-map, length-set, get_or-append}
-use lib.Seq.{take_at, get_or-set_same, get_or-set_other, get_or_at}
+use lib.ListN.{length, get_or, replicate, length-append, length-map, get_or-append}
 use Rattle.rules.specs.declared.Column.{Column}
 use Rattle.rules.specs.Text.{or_else}
 use Rattle.rules.specs.Sheet.{Table, most_columns, no_column, column_at, is_hidden}
-use Rattle.rules.specs.Limits.{Printable, Plain, TableLimits, ColumnLimits}
+use Rattle.rules.specs.Limits.{Printable, TableLimits, ColumnLimits}
 use Rattle.rules.specs.Style.{top_border, header_lines, header_rule, content_lines, row_rule, bottom_border, glyph_at, glyph, any_left, any_right, any_junction, is_visible}
 use Rattle.rules.specs.Calls.{as_array}
 use Rattle.rules.specs.Widths.{visible, contents}

@@ -1,4 +1,3 @@
-use native.Mathlib.Omega.{arith}
 use borrow.Author.Tests.{not-true}
 use Rattle.cells.proofs.Laws.{moving_begins, moving-on, moving-ended, moving_done}
 use Rattle.cells.proofs.further.Goals as goal

@@ -1,4 +1,3 @@
-use Prim.Native.Nat.{◌-◌}
 use Rattle.cells.proofs.Laws.{Moving}
 use Rattle.cells.proofs.further.Given as goal
 

@@ -1,4 +1,3 @@
-use mathlib.Core.Path.{refl}
 use Rattle.table.proofs.Held.{is_accepted}
 use Rattle.page.proofs.Answers.{examined, examined-plain, count_refused, count-all, count_accepted}
 use Rattle.page.proofs.count.Goals as goal

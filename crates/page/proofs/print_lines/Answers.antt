@@ -1,5 +1,5 @@
 use native.Mathlib.Omega.{arith}
-use mathlib.Core.Path.{refl, sym, ap, ◌∙◌}
+use mathlib.Core.Path.{sym, ap, ◌∙◌}
 use Rattle.page.specs.Several.{Several}
 use Rattle.table.proofs.Held.{is_accepted}
 use Rattle.page.proofs.Answers.{examined, examined-plain, lines_refused, lines_turned, lines-bound, lines-answer, lines_few, k_small}

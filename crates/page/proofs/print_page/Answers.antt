@@ -1,5 +1,5 @@
 use native.Mathlib.Omega.{arith}
-use mathlib.Core.Path.{refl, sym, ap, ◌∙◌}
+use mathlib.Core.Path.{sym, ap, ◌∙◌}
 use Rattle.rules.specs.Calls.{Written}
 use Rattle.table.proofs.Held.{is_accepted}
 use Rattle.parts.proofs.Parts.{first-at, first-ahead}
