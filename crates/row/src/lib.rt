@@ -157,7 +157,8 @@ fn open_pairs(sheet: &[u8], from: Cells) -> usize
 // The pairs of a row's cells in the visible columns.
 pub fn row_pairs(sheet: &[u8], columns: &[VisibleColumn], from: Cells) -> usize
     requires { Rising columns.now × ((cells_end sheet.now from ≤ length sheet.now) × (length sheet.now ≤ 32768)) }
-    ensures { (result ≡ added_up_to pairs_held (cells_in sheet.now from) columns.now (length columns.now)) × (result ≤ 32768 * length columns.now) }
+    ensures { (result ≡ added_up_to pairs_held (cells_in sheet.now from) columns.now (length columns.now))
+        × (result ≤ 32768 * length columns.now) }
 {
     let mut left = from;
     let mut passed: usize = 0;

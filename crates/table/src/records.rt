@@ -26,7 +26,8 @@ pub struct Columns {
     pub each: [Column; MOST_COLUMNS],
 }
 
-// Rows still to come: `left` of them, the first at `at` in the sheet. Rows, cells and lines are types of their own, so that none is taken for another.
+// Rows still to come: `left` of them, the first at `at` in the sheet. Rows, cells and lines are types of their own, so that none is taken
+// for another.
 #[derive(Clone, Copy)]
 pub struct Rows {
     pub at: usize,
