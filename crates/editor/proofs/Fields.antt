@@ -2,11 +2,11 @@
 use Prim.Native.Nat.{ℕ, ◌+◌, ◌/◌, ◌%◌, ◌≤◌, ◌<◌}
 use mathlib.Core.Path.{◌≡◌, refl, sym, ap, ◌∙◌}
 use mathlib.Core.List.{List, [], ◌∷◌, map}
-use mathlib.Core.Bool.{Bool, true, false, ◌&&◌, cond}
+use mathlib.Core.Bool.{Bool, true, false, ◌&&◌}
 use native.Mathlib.Omega.{arith}
 use lib.Dec.{leb, eqb}
 use borrow.Author.Tests.{le-leb, lt-leb, eq-eqb, ne_eqb, eqb-true, eqb-false}
-use Rattle.rules.specs.Field.{between, printable, printable_or_zero}
+use Rattle.rules.specs.Field.{between}
 use Rattle.rules.specs.Description.{Fault, number_of, byte, word, only, zero_word, word_to, writes}
 use Rattle.rules.specs.Format.{cell_count}
 use Rattle.rules.specs.Editor.{number_at, takes}

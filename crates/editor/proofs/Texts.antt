@@ -1,6 +1,6 @@
 -- Texts, one law for each way out of the code: their characters, their first fault, their bytes put where there is room. Assumes nothing.
 use Prim.Native.Nat.{ℕ, zero, suc, ◌+◌, ◌-◌, ◌%◌, ◌≤◌, ◌<◌}
-use mathlib.Core.Path.{◌≡◌, refl, sym, ap, subst, ◌∙◌}
+use mathlib.Core.Path.{◌≡◌, refl, sym, ap, ◌∙◌}
 use mathlib.Core.List.{List, [], ◌∷◌, map}
 use mathlib.Core.Bool.{Bool, true, false, not, ◌&&◌, and-eq-true_iff}
 use mathlib.Core.Logic.{⊎_elim}
@@ -14,7 +14,7 @@ use Rattle.buffer.specs.Put.{put_at}
 use Rattle.buffer.proofs.Laws.{put_one, put-put, length-put}
 use Rattle.rules.specs.Text.{All}
 use Rattle.rules.specs.Limits.{IsByte}
-use Rattle.rules.specs.Field.{between, printable, printable_or_zero}
+use Rattle.rules.specs.Field.{between, printable}
 use Rattle.rules.specs.Description.{writes}
 use Rattle.rules.specs.Format.{line}
 use Rattle.rules.specs.Editor.{Cursor, Taken, lacking, number_at, bytes_at, text_taken, takes}

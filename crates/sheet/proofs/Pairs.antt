@@ -1,13 +1,13 @@
 -- A line's bytes, character by character: what they come to, one law for each way out of the code. Assumes nothing.
 use Prim.Native.Nat.{ℕ, zero, suc, ◌+◌, ◌-◌, ◌*◌, ◌<◌, ◌≤◌, min}
-use mathlib.Core.Path.{◌≡◌, refl, sym, ◌∙◌, ap, subst}
+use mathlib.Core.Path.{◌≡◌, refl, sym, ◌∙◌, ap}
 use mathlib.Core.Logic.{◌⊎◌, inl, inr}
 use mathlib.Core.List.{List, [], ◌∷◌}
 use mathlib.Core.Bool.{Bool, true, false, ◌&&◌, cond, and-eq-true_iff}
 use native.Mathlib.Omega.{arith}
 use lib.ListN.{length, get_or, get_or-eq_default}
 use lib.Dec.{ltb, eqb}
-use borrow.Author.Tests.{le-ltb, lt-ltb, le-leb, lt-leb, ltb-true, ltb-false, eq-eqb, ne_eqb}
+use borrow.Author.Tests.{le-ltb, lt-ltb, le-leb, ltb-false, eq-eqb, ne_eqb}
 use Rattle.rules.specs.Field.{Read, got, refused, Reader, only, byte, word, onward, byte_at, word_at, printable, several}
 use Rattle.rules.specs.Description as description
 use Rattle.rules.specs.Description.{text, character, characters}
@@ -18,7 +18,6 @@ use Rattle.laws.proofs.Reading.{between_both, times_off, read_from_off, several_
 use Rattle.sheet.specs.Steps.{byte_between, printables, BadIs, line_of, line_bytes, bytes_from, CharacterIs}
 use Rattle.sheet.proofs.Fields.{only_ended, only_good}
 use Rattle.sheet.proofs.Loops.{printables_none, printables_next}
-use Rattle.sheet.proofs.Sections.{after_inside}
 
 -- ---- a character, and the bytes after it
 

@@ -12,7 +12,6 @@ use lib.Dec.{eqb, leb}
 use borrow.Author.Tests.{lt-ltb, le-ltb, eq-eqb}
 use Rattle.rules.specs.Sheet.{Table, most_columns}
 use Rattle.rules.specs.Field.{Read, got, refused, byte_at, between, printable, printable_or_zero, ended}
-use Rattle.rules.specs.Description as description
 use Rattle.rules.specs.Description.{Format, Faithful, reads, stands, word_to, optional, zero_word, counted, text}
 use Rattle.rules.specs.Format.{line, cell_by, cell_count, row_by, width, column, table_by, sheet_by, sheet}
 use Rattle.rules.specs.Limits.{PlainTable}
@@ -22,7 +21,7 @@ use Rattle.rules.specs.Steps.{Step, At, Refused}
 use Rattle.rules.specs.Calls.{check, check_of}
 use Rattle.rules.specs.declared.Checked.{Checked}
 use Rattle.laws.proofs.Reading.{tested}
-use Rattle.laws.proofs.Reading.{read_from_off, after_off, times_off}
+use Rattle.laws.proofs.Reading.{after_off, times_off}
 use Rattle.laws.proofs.Accepted.{sheet_steps}
 use Rattle.laws.proofs.Plainly.{plainly_got, plainly_refused, plainly-table}
 use Rattle.laws.proofs.Stands.{parts-count}

@@ -1,7 +1,7 @@
 -- `editor::text::text` meets its contract. Assumes nothing.
 use mathlib.Core.Path.{refl}
 use Rattle.std.proofs.lemmas.Result.{err_from_is_err_and}
-use Rattle.editor.specs.Walk.{walk_of, lacking_of}
+use Rattle.editor.specs.Walk.{walk_of}
 use Rattle.editor.proofs.Texts.{text_lacking, text_missing, text_there, taken_order, taken_inside, taken_part}
 use Rattle.editor.proofs.text.text.Goals as goal
 
