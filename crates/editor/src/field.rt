@@ -26,6 +26,7 @@ pub struct Field {
     pub walk: Walk,
 }
 
+// The sheet's tests are of bytes: with a type parameter for the number, these two lines would be no plainer.
 fn between(value: u16, low: u16, high: u16) -> bool
     ensures { result ≡ field.between low high value }
 {

@@ -30,6 +30,7 @@ pub fn widths(sheet: &[u8]) -> Measured
     if let Err(refusal) = sheet::examine(sheet) {
         return Measured::from(refusal);
     }
+    // Locals: an array goes from a field into a literal only by a variable.
     let found = display_info::content_widths(&AcceptedSheet { bytes: sheet });
     let content = found.content;
     let hidden = found.hidden;

@@ -1,5 +1,4 @@
 -- A refusal's number is never 0, which stands for none. Assumes nothing.
-use Prim.Native.Nat.{ℕ}
 use mathlib.Core.Path.{◌≡◌}
 use native.Mathlib.Omega.{arith}
 use Rattle.rules.specs.Refusals.{number_of}

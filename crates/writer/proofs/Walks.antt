@@ -6,7 +6,6 @@ use mathlib.Core.Bool.{Bool, true, false, cond}
 use native.Mathlib.Omega.{arith}
 use lib.ListN.{length}
 use lib.Dec.{leb, eqb}
-use borrow.Author.Tests.{leb-true}
 use Rattle.rules.specs.Sheet.{most_columns}
 use Rattle.rules.specs.Style.{style_characters}
 use Rattle.rules.specs.Field.{between, printable, printable_or_zero}
@@ -15,11 +14,7 @@ use Rattle.rules.specs.Description.{within, code, word_to, optional, counted, un
 use Rattle.rules.specs.Format.{width, column, line, cell_by, cell, cell_count, row_by, row, table_by, table}
 use Rattle.rules.specs.Editor.{Cursor, Taken, number_at, bytes_at, text_taken, several_taken, takes}
 use Rattle.rules.specs.Writer.{passes, judges}
-use Rattle.rules.specs.Steps.{Step}
-use Rattle.buffer.specs.Put.{put_at}
-use Rattle.buffer.proofs.Laws.{length-put}
-use Rattle.editor.specs.Walk.{Walk}
-use Rattle.editor.specs.Walk.{cursor_of, moved, State, state, noted, advanced, stamped, low, entered, field_entered, byte_entered, again, value_at, walked}
+use Rattle.editor.specs.Walk.{cursor_of, moved, State, state, low, entered, field_entered, byte_entered, again, value_at, walked}
 use Rattle.writer.specs.Answer.{constraint_walked, head_walked, body_walked}
 use Rattle.editor.proofs.Entering.{missing_entered}
 use Rattle.editor.proofs.Fields.{byte-walked}

@@ -1,7 +1,7 @@
 -- `writer::write` meets its contract. Assumes nothing.
 use mathlib.Core.Path.{refl}
 use Rattle.std.proofs.lemmas.Result.{err_from_is_err_and}
-use Rattle.editor.specs.Walk.{walk_of, lacking_of}
+use Rattle.editor.specs.Walk.{lacking_of}
 use Rattle.rules.proofs.Refusals.{number_some}
 use Rattle.writer.proofs.Answers.{call_refused, call_missing, call_saved}
 use Rattle.writer.proofs.write.Goals as goal
