@@ -108,11 +108,6 @@ first_known plain s c h a = (subst (All (TextIs plain)) (lines-some s c h) a).0
 pub texts_next : (plain : Bool) (s : List ℕ) (c k : Lines) → LinesNext s c k → All (TextIs plain) (lines_in s c) → All (TextIs plain) (lines_in s k)
 texts_next plain s c k n a = rw n.lines (all_drop (TextIs plain) 1 (lines_in s c) a)
 
--- what is found in the first of them
-pub taken-line : (t : List ℕ) (c : Lines) (plain : Bool) (a e n m : ℕ) → m ≡ text_width (slice a e t)
-    → record { found = true; start = a; end = e; columns = m; cursor = record { lines = c; from = n; plain = plain } } ≡ taken t c plain (Some (record { start = a; end = e; next = n }))
-taken-line t c plain a e n m h = rw h
-
 some_line : (n : ℕ) → ltb 0 (suc n) ≡ true
 some_line n = lt-ltb 0 (suc n) (omega arith)
 

@@ -22,10 +22,6 @@ use Rattle.content_split.proofs.Text.{after, none_left, skip-one, first_joins, f
 below_suc : (s e : ℕ) (P : ℕ → Type 0) → ((k : ℕ) → s ≤ k → k < e → P k) → P e → (k : ℕ) → s ≤ k → k < suc e → P k
 below_suc s e P f p k a b = ⊎_elim (λ q. rw q p) (λ q. f k a q) (eq-or-lt_of_le (le_of_suc-le-suc b))
 
--- what holds from e on and just before e
-pub one_down : (e z : ℕ) (P : ℕ → Type 0) → ((k : ℕ) → e ≤ k → k < z → P k) → P (e - 1) → (k : ℕ) → e - 1 ≤ k → k < z → P k
-one_down e z P f p k a b = ⊎_elim (λ q. rw q at p) (λ q. f k (omega arith) b) (eq-or-lt_of_le a)
-
 -- the line from s to m is begun, and nothing of it is settled yet
 pub record Going (w d : ℕ) (T : List ℕ) (a s m : ℕ) : Type 0 where
   pub from : a ≤ s

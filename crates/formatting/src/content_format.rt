@@ -1,5 +1,5 @@
 // The text lines of a row, drawn one after another. A cell's next wrapped line is found one line ahead, so that each is found once.
-ghost use Rattle.std.specs.Prelude.{◌≡◌, ◌++◌, true, not, ◌&&◌, ◌+◌, ◌-◌, ◌≤◌, ◌<◌, length, take, drop, leb};
+ghost use Rattle.std.specs.Prelude.{◌≡◌, ◌++◌, true, not, ◌&&◌, ◌+◌, ◌-◌, ◌≤◌, ◌<◌, length, drop, leb};
 ghost use Rattle.rules.specs.Limits.{most_lines, longest_line, Plain, Printable};
 ghost use Rattle.rules.specs.Text.{text_width};
 ghost use Rattle.rules.specs.Sheet.{most_columns};

@@ -1,6 +1,6 @@
 // The pairs that lines of a row show, which is what they have more than columns. A cell is walked by itself: it is compiled apart from what draws, which
 // stays short.
-ghost use Rattle.std.specs.Prelude.{◌≡◌, ◌+◌, ◌-◌, ◌*◌, ◌≤◌, ◌<◌, length, take};
+ghost use Rattle.std.specs.Prelude.{◌≡◌, ◌+◌, ◌-◌, ◌*◌, ◌≤◌, ◌<◌, length};
 ghost use Rattle.rules.specs.Text.{All, text_width};
 ghost use Rattle.rules.specs.Limits.{most_lines, Plain, Printable};
 ghost use Rattle.table.specs.Walk.{cells_in, cells_end, first_cell, first_row};

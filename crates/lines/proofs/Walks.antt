@@ -210,9 +210,6 @@ pub filling_begins : (s : List ℕ) (p : Page) (from : Cursor) (b : List ℕ) �
 filling_begins s p from b A = record { stands = A; few = omega arith; rest = refl; part = part_none b }
 
 module _ (s : List ℕ) (p : Page) (from : Cursor) (b page : List ℕ) (c : Cursor) (n at : ℕ) (G : Filling s p from b page c n at) where
-  all : List (List ℕ)
-  all = ahead s p from
-
   pub filling-room : at ≤ length page
   filling-room = part_room _ b page _ G.part
 

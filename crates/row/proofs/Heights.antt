@@ -57,10 +57,6 @@ measuring-on s view R xs left passed most i M h next n m e f o x =
       tall = rw (add-one i) (x ∙ rw (M.tall, o, d));
     }
 
-pub measuring_done : (s : List ℕ) (view : View) (xs : List Cell) (left : Cells) (passed most i : ℕ) → Measuring s view xs left passed most i →
-    length view ≤ i → most ≡ height_up_to xs view (length view)
-measuring_done s view xs left passed most i M h = let w = M.passing.within in let e : i ≡ length view = omega arith in rw e at M.tall
-
 -- ---- pairs
 
 pub pairs-missing : (s : List ℕ) (c : Cells) → c.left ≡ 0 → (0 ≡ pairs_of (first_cell s c).lines) × (0 ≤ length s)

@@ -15,7 +15,6 @@ use Rattle.rules.specs.Text.{All, or_else}
 use Rattle.rules.specs.Limits.{Printable, Optional}
 use Rattle.rules.specs.Sheet.{Cell, no_cell, most_columns}
 use Rattle.rules.specs.Wrap.{wrap_lines}
-use Rattle.laws.proofs.Lists.{all_drop}
 use Rattle.laws.proofs.Text.{width-nil}
 use Rattle.laws.proofs.Split.{wrap_short}
 use Rattle.rules.specs.Places.{past, parts}
@@ -28,7 +27,7 @@ use Rattle.table.specs.declared.records.Cells.{Cells}
 use Rattle.table.specs.declared.records.Cell as records
 use Rattle.row.specs.View.{View, visible_at}
 use Rattle.row.specs.Pending.{no_pending, pending_at, any_found, remaining}
-use Rattle.row.specs.Open.{CellKnown, OpenedAt, OpenedRow, Rising, missing}
+use Rattle.row.specs.Open.{CellKnown, OpenedAt, Rising, missing}
 use Rattle.row.specs.declared.VisibleColumn.{VisibleColumn}
 use Rattle.row.specs.declared.Pending.{Pending}
 use Rattle.row.proofs.Stand.{stands_next, same_below}
@@ -142,10 +141,6 @@ module _ (s : List ℕ) (view : View) (xs : List Cell) (left : Cells) (passed i 
       let y : n + 0 ≡ n = omega arith in
       ap (λ l. get_or l 0 no_cell) cells-here ∙ get_or-drop n xs 0 no_cell ∙ ap (λ q. get_or xs q no_cell) y
 
-  -- what is known of all cells is known of those that are left
-  pub cells_known : (plain : Bool) → All (CellKnown plain) xs → All (CellKnown plain) (cells_in s next)
-  cells_known plain k = rw cells-here (all_drop (CellKnown plain) (visible_at view i).number xs k)
-
   pub passing-on : Rising view → cells_end s next ≡ cells_end s left → Passing s view xs next (visible_at view i).number (i + 1)
   passing-on R f = record { within = omega arith; cells = cells-here; ends = omega (arith, P.ends); order = λ q a b. R.order i q (omega arith) b }
 
@@ -182,10 +177,3 @@ module _ (s : List ℕ) (view : View) (R : Rising view) (xs : List Cell) (n : �
             (eq-or-lt_of_le (omega arith));
         found = rw (add-one i) (x ∙ rw (O.found, same_below ts i i t (omega arith), get_or-set_same ts i t no_pending k));
       }
-
-pub opening_done : (s : List ℕ) (view : View) (xs : List Cell) (n : ℕ) (ts : List Pending) (left : Cells) (passed : ℕ) (more : Bool) (i : ℕ)
-    → Opening s view xs n ts left passed more i → length view ≤ i → OpenedRow s xs view n ts × (more ≡ any_found ts (length view))
-opening_done s view xs n ts left passed more i O h =
-    let w = O.passing.within in
-    let e : i ≡ length view = omega arith in
-    (record { size = O.size; each = λ k l. O.done k (omega arith) }, rw e at O.found)

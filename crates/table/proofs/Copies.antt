@@ -11,9 +11,6 @@ use lib.Seq.{take_all}
 pub record Copied {A : Type 0} (l z : List A) (i : ℕ) (a : List A) : Type 0 where
   pub so : a ≡ take i l ++ drop i z
 
-pub copied_begin : {A : Type 0} (l z : List A) → Copied l z 0 z
-copied_begin l z = record { so = refl }
-
 one_more : {A : Type 0} (d : A) (l z : List A) (i : ℕ) → i < length l → i < length z → set (take i l ++ drop i z) i (get_or l i d) ≡ take (suc i) l ++
     drop (suc i) z
 one_more d [] z i h k = absurd (not-suc-le-zero h)

@@ -4,7 +4,6 @@ use mathlib.Core.Path.{◌≡◌, ap, sym, ◌∙◌}
 use mathlib.Core.List.{List}
 use native.Mathlib.Omega.{arith}
 use lib.ListN.{length, get_or, take, drop, replicate}
-use lib.Seq.{get_or-take, get_or-drop}
 use Rattle.rules.specs.Sheet.{Table, no_column, most_columns}
 use Rattle.rules.specs.declared.Column.{Column}
 use Rattle.rules.specs.Field.{got}
@@ -99,20 +98,6 @@ style-lent s p h e =
     let r = room s h in
     let z : p + 1 + 22 - (p + 1) ≡ byte_at s (style_place s) = omega (arith, r.style) in
     rw z (rw e (sym (style-held s h)))
-
--- character i of a text is the byte i after its length
-pub character-at : (s : List ℕ) (p i : ℕ) → i < byte_at s p → get_or (text_at s p) i 0 ≡ get_or s (p + 1 + i) 0
-unfolding text_at
-character-at s p i h = get_or-take (byte_at s p) (drop (p + 1) s) i 0 h ∙ get_or-drop (p + 1) s i 0
-
--- the indicator is as long as its count says
-pub text_inside : (s : List ℕ) → IsAccepted s → length (text_at s 5) ≡ byte_at s 5
-unfolding line_stop
-text_inside s h = let r = room s h in stands.text-length s 5 (omega arith)
-
-pub style_inside : (s : List ℕ) → IsAccepted s → length (text_at s (style_place s)) ≡ 22
-unfolding line_stop
-style_inside s h = let r = room s h in stands.text-length s (style_place s) (omega arith) ∙ r.style
 
 -- the columns of the table
 pub columns_inside : (s : List ℕ) → IsAccepted s → length (table_of s).columns ≡ byte_at s (columns_place s)

@@ -144,9 +144,6 @@ walked_there T {e = e} f q h o l =
       end = λ k. absurd (omega (arith, byte_one (get_or T e 0)));
     }
 
-pub walked_out : (T : List ℕ) {from w e left : ℕ} → from ≤ e → e ≤ length T → col T e + left ≡ col T from + w → length T ≤ e → Reached T from w e left
-walked_out T {e = e} f i q h = record { from = f; within = i; columns = q; whole = end_whole T e h; end = λ k. omega arith }
-
 -- a part has no more columns than bytes, and is counted part by part
 pub counted_few : (T : List ℕ) (from to n : ℕ) → to ≤ length T → n ≡ text_width (slice from to T) → n ≤ to - from
 counted_few T from to n k e = omega (arith, width-le (slice from to T), length-slice from to T k)

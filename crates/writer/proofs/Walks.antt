@@ -146,9 +146,6 @@ module _ (ns : List ℕ) where
 pub record Left (f : State → State) (n i : ℕ) (s w : State) : Type 0 where
   pub rest : again (n - i) f s ≡ w
 
-pub left_begin : (f : State → State) (n : ℕ) (s : State) → Left f n 0 s (again n f s)
-left_begin f n s = let z : n - 0 ≡ n = omega arith in record { rest = rw z }
-
 turned : (f : State → State) (n i : ℕ) (s w : State) → i < n → Left f n i s w → again (n - (i + 1)) f (f s) ≡ w
 unfolding again
 turned f n i s w h l = let z : n - i ≡ suc (n - (i + 1)) = omega arith in rw z at l.rest
