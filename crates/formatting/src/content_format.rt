@@ -9,6 +9,7 @@ ghost use Rattle.buffer.specs.Put.{over, put_at, byte_if};
 ghost use Rattle.cells.specs.Cell.{Inside};
 ghost use Rattle.formatting.specs.Area.{area_in, marks_shown, LineIn, ShownIs, shown_text, After, column_piece};
 ghost use Rattle.row.specs.Height.{added_up_to};
+ghost use Rattle.row.specs.Open.{WalkedAll};
 ghost use Rattle.row.specs.Pending.{InSheet, Ready, any_found};
 ghost use Rattle.formatting.specs.Line.{line_bytes, ReadyAll, AfterAll};
 ghost use Rattle.formatting.specs.Stand.{in_limit, last_of};
@@ -311,7 +312,8 @@ pub fn enter_row(
     state: &mut [Pending; MOST_COLUMNS],
 ) -> Entered
     requires { Drawable sheet.now columns.now plain here × (length state.old ≡ most_columns) }
-    ensures { EnteredIs sheet.now columns.now (first_row sheet.now here) n result state.new }
+    ensures entered { EnteredIs sheet.now columns.now (first_row sheet.now here) n result state.new }
+    ensures walked { WalkedAll plain columns.now state.new }
 {
     let r = walk::row(sheet, here);
     let cells = r.cells;

@@ -145,26 +145,33 @@ module _ (s : List ℕ) (view : View) (xs : List Cell) (left : Cells) (passed i 
   passing-on R f = record { within = omega arith; cells = cells-here; ends = omega (arith, P.ends); order = λ q a b. R.order i q (omega arith) b }
 
 -- the columns before i are opened
-pub record Opening (s : List ℕ) (view : View) (xs : List Cell) (n : ℕ) (ts : List Pending) (left : Cells) (passed : ℕ) (more : Bool)
+pub record Opening (plain : Bool) (s : List ℕ) (view : View) (xs : List Cell) (n : ℕ) (ts : List Pending) (left : Cells) (passed : ℕ) (more : Bool)
     (i : ℕ) : Type 0 where
   pub passing : Passing s view xs left passed i
   pub size : length ts ≡ most_columns
   pub done : (k : ℕ) → k < i → OpenedAt s (get_or xs (visible_at view k).number no_cell) (visible_at view k) n (pending_at ts k)
   pub found : more ≡ any_found ts i
+  pub walked : (k : ℕ) → k < i → (pending_at ts k).line.cursor.plain ≡ plain
 
-pub opening_begins : (s : List ℕ) (view : View) (c : Cells) (n : ℕ) (ts : List Pending) → length ts ≡ most_columns → cells_end s c ≤ length s
-    → Opening s view (cells_in s c) n ts c 0 false 0
+pub opening_begins : (plain : Bool) (s : List ℕ) (view : View) (c : Cells) (n : ℕ) (ts : List Pending) → length ts ≡ most_columns → cells_end s c ≤ length s
+    → Opening plain s view (cells_in s c) n ts c 0 false 0
 unfolding any_found
-opening_begins s view c n ts l h = record { passing = passing_begins s view c h; size = l; done = λ k x. absurd (omega arith); found = refl }
+opening_begins plain s view c n ts l h = record {
+  passing = passing_begins s view c h;
+  size = l;
+  done = λ k x. absurd (omega arith);
+  found = refl;
+  walked = λ k x. absurd (omega arith);
+}
 
-module _ (s : List ℕ) (view : View) (R : Rising view) (xs : List Cell) (n : ℕ) (ts : List Pending) (left : Cells) (passed : ℕ) (more : Bool) (i : ℕ)
-    (O : Opening s view xs n ts left passed more i) (h : i < length view) where
+module _ (plain : Bool) (s : List ℕ) (view : View) (R : Rising view) (xs : List Cell) (n : ℕ) (ts : List Pending) (left : Cells) (passed : ℕ) (more : Bool)
+    (i : ℕ) (O : Opening plain s view xs n ts left passed more i) (h : i < length view) where
   pub opening_on : (next : Cells) (t : Pending) (m : Bool) → cells_in s next ≡ drop ((visible_at view i).number - passed) (cells_in s left) → cells_end s
       next ≡ cells_end s left
-      → OpenedAt s (first_cell s next) (visible_at view i) n t → m ≡ (more || t.line.found) → Opening s view xs n (set ts i t) next
-      (visible_at view i).number m (i + 1)
+      → OpenedAt s (first_cell s next) (visible_at view i) n t → t.line.cursor.plain ≡ plain → m ≡ (more || t.line.found)
+      → Opening plain s view xs n (set ts i t) next (visible_at view i).number m (i + 1)
   unfolding any_found
-  opening_on next t m e f o x =
+  opening_on next t m e f o w x =
       let k : i < length ts = omega (arith, O.size, R.most) in
       let d = cell-here s view xs left passed i O.passing h next e in
       record {
@@ -173,7 +180,12 @@ module _ (s : List ℕ) (view : View) (R : Rising view) (xs : List Cell) (n : �
         done = λ q l.
             ⊎_elim
             (λ (u : q ≡ i). rw (u, get_or-set_same ts i t no_pending k) (rw d at o))
-            (λ (u : q < i). rw (get_or-set_other ts i q t no_pending (λ w. omega arith)) (O.done q u))
+            (λ (u : q < i). rw (get_or-set_other ts i q t no_pending (λ z. omega arith)) (O.done q u))
             (eq-or-lt_of_le (omega arith));
         found = rw (add-one i) (x ∙ rw (O.found, same_below ts i i t (omega arith), get_or-set_same ts i t no_pending k));
+        walked = λ q l.
+            ⊎_elim
+            (λ (u : q ≡ i). rw (u, get_or-set_same ts i t no_pending k) w)
+            (λ (u : q < i). rw (get_or-set_other ts i q t no_pending (λ z. omega arith)) (O.walked q u))
+            (eq-or-lt_of_le (omega arith));
       }

@@ -40,6 +40,10 @@ pub record OpenedRow (s : List ℕ) (xs : List Cell) (view : View) (n : ℕ) (ts
   pub size : length ts ≡ most_columns
   pub each : (i : ℕ) → i < length view → OpenedAt s (get_or xs (visible_at view i).number no_cell) (visible_at view i) n (pending_at ts i)
 
+-- each visible column's cell is walked as plain lines are, or as lines that may have pairs
+abbrev pub WalkedAll : Bool → View → List Pending → Type 0
+WalkedAll plain view ts = (i : ℕ) → i < length view → (pending_at ts i).line.cursor.plain ≡ plain
+
 -- columns stand in the sheet's order
 pub record Rising (view : View) : Type 0 where
   pub most : length view ≤ most_columns

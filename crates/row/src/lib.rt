@@ -9,7 +9,7 @@ ghost use Rattle.table.specs.Walk.{cells_in, cells_end, first_cell};
 ghost use Rattle.laws.proofs.RowBytes.{pairs_of};
 ghost use Rattle.row.specs.Height.{cell_height, height_up_to, added_up_to, pairs_held};
 ghost use Rattle.row.specs.Pending.{any_found};
-ghost use Rattle.row.specs.Open.{CellKnown, OpenedAt, OpenedRow, Rising, UsableAll, missing};
+ghost use Rattle.row.specs.Open.{CellKnown, OpenedAt, OpenedRow, Rising, UsableAll, WalkedAll, missing};
 
 use cells::{CellCursor, Next};
 use rules::MOST_COLUMNS;
@@ -92,8 +92,9 @@ pub fn format_row(
 ) -> bool
     requires rising { Rising columns.now × (UsableAll columns.now × (length state.old ≡ most_columns)) }
     requires cells_in_bounds { (cells_end sheet.now cells ≤ length sheet.now) × All (CellKnown plain) (cells_in sheet.now cells) }
-    ensures { OpenedRow sheet.now (cells_in sheet.now cells) columns.now n state.new
+    ensures opened { OpenedRow sheet.now (cells_in sheet.now cells) columns.now n state.new
         × (result ≡ any_found state.new (length columns.now)) }
+    ensures walked { WalkedAll plain columns.now state.new }
 {
     let mut left = cells;
     let mut passed: usize = 0;

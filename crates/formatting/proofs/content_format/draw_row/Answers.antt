@@ -18,13 +18,13 @@ most_bytes-most-requires c = (c.requires.sized.small, c.requires.drawable.0.view
 
 pub loop-more-init : goal.loop-more-init
 loop-more-init c =
-    let e = c.enter_row-entered.ensures in
+    let e = c.enter_row-entered.ensures.entered in
     running_begins c.args.sheet.now c.args.columns.now c.args.style (first_row c.args.sheet.now c.args.here) c.args.first
     c.requires.drawable.0.views c.args.page.now _ _ e.stands
 
 pub is_last-last-requires : goal.is_last-last-requires
 is_last-last-requires c =
-    let e = c.enter_row-entered.ensures in
+    let e = c.enter_row-entered.ensures.entered in
     let r = first_row c.args.sheet.now c.args.here in
     let t = c.loop-more-test.true in
     omega (
@@ -36,14 +36,14 @@ is_last-last-requires c =
 
 pub overflow_sub-room : goal.overflow_sub-room
 overflow_sub-room c =
-    let e = c.enter_row-entered.ensures in
+    let e = c.enter_row-entered.ensures.entered in
     let r = first_row c.args.sheet.now c.args.here in
     running-room c.args.sheet.now c.args.columns.now c.args.style r c.args.first c.requires.drawable.0.views c.args.page.now c.loop-more.page
     c.loop-more.state c.loop-more.more c.loop-more.at c.loop-more.line c.loop-more.invariant
 
 pub fits_after_all-fits-requires : goal.fits_after_all-fits-requires
 fits_after_all-fits-requires c =
-    let e = c.enter_row-entered.ensures in
+    let e = c.enter_row-entered.ensures.entered in
     let r = first_row c.args.sheet.now c.args.here in
     let t = c.loop-more-test.true in
     let f = stands_less c.args.sheet.now c.args.columns.now r c.requires.drawable.0.views c.loop-more.line c.loop-more.more c.loop-more.state c.loop-more.invariant.stands t in
@@ -51,20 +51,20 @@ fits_after_all-fits-requires c =
 
 pub overflow_sub-result : goal.overflow_sub-result
 overflow_sub-result c =
-    let e = c.enter_row-entered.ensures in
+    let e = c.enter_row-entered.ensures.entered in
     let r = first_row c.args.sheet.now c.args.here in
     c.loop-more.invariant.onward
 
 pub shape_of-page-then-not-fits : goal.shape_of-page-then-not-fits
 shape_of-page-then-not-fits c =
-    let e = c.enter_row-entered.ensures in
+    let e = c.enter_row-entered.ensures.entered in
     let r = first_row c.args.sheet.now c.args.here in
     running-length c.args.sheet.now c.args.columns.now c.args.style r c.args.first c.requires.drawable.0.views c.args.page.now c.loop-more.page
     c.loop-more.state c.loop-more.more c.loop-more.at c.loop-more.line c.loop-more.invariant
 
 pub returns-then-not-fits : goal.returns-then-not-fits
 returns-then-not-fits c =
-    let e = c.enter_row-entered.ensures in
+    let e = c.enter_row-entered.ensures.entered in
     let r = first_row c.args.sheet.now c.args.here in
     let t = c.loop-more-test.true in
     let m = stands_measurable c.args.sheet.now c.args.columns.now r c.requires.drawable.0.views c.loop-more.line c.loop-more.more
@@ -78,21 +78,21 @@ returns-then-not-fits c =
 
 pub slice_bounds-write_line-count : goal.slice_bounds-write_line-count
 slice_bounds-write_line-count c =
-    let e = c.enter_row-entered.ensures in
+    let e = c.enter_row-entered.ensures.entered in
     let r = first_row c.args.sheet.now c.args.here in
     running-room c.args.sheet.now c.args.columns.now c.args.style r c.args.first c.requires.drawable.0.views c.args.page.now c.loop-more.page
     c.loop-more.state c.loop-more.more c.loop-more.at c.loop-more.line c.loop-more.invariant
 
 pub slice_bounds-write_line-start : goal.slice_bounds-write_line-start
 slice_bounds-write_line-start c =
-    let e = c.enter_row-entered.ensures in
+    let e = c.enter_row-entered.ensures.entered in
     let r = first_row c.args.sheet.now c.args.here in
     running-room c.args.sheet.now c.args.columns.now c.args.style r c.args.first c.requires.drawable.0.views c.args.page.now c.loop-more.page
     c.loop-more.state c.loop-more.more c.loop-more.at c.loop-more.line c.loop-more.invariant
 
 pub write_line-l-requires : goal.write_line-l-requires
 write_line-l-requires c =
-    let e = c.enter_row-entered.ensures in
+    let e = c.enter_row-entered.ensures.entered in
     let r = first_row c.args.sheet.now c.args.here in
     let t = c.loop-more-test.true in
     let m = stands_measurable c.args.sheet.now c.args.columns.now r c.requires.drawable.0.views c.loop-more.line c.loop-more.more
@@ -112,7 +112,7 @@ write_line-l-requires c =
 
 pub overflow_add-at : goal.overflow_add-at
 overflow_add-at c =
-    let e = c.enter_row-entered.ensures in
+    let e = c.enter_row-entered.ensures.entered in
     let r = first_row c.args.sheet.now c.args.here in
     let t = c.loop-more-test.true in
     let m = stands_measurable c.args.sheet.now c.args.columns.now r c.requires.drawable.0.views c.loop-more.line c.loop-more.more
@@ -138,7 +138,7 @@ overflow_add-at c =
 
 pub overflow_add-line : goal.overflow_add-line
 overflow_add-line c =
-    let e = c.enter_row-entered.ensures in
+    let e = c.enter_row-entered.ensures.entered in
     let r = first_row c.args.sheet.now c.args.here in
     let t = c.loop-more-test.true in
     omega (
@@ -150,7 +150,7 @@ overflow_add-line c =
 
 pub loop-more-smaller : goal.loop-more-smaller
 loop-more-smaller c =
-    let e = c.enter_row-entered.ensures in
+    let e = c.enter_row-entered.ensures.entered in
     let r = first_row c.args.sheet.now c.args.here in
     let t = c.loop-more-test.true in
     let m = stands_measurable c.args.sheet.now c.args.columns.now r c.requires.drawable.0.views c.loop-more.line c.loop-more.more
@@ -177,7 +177,7 @@ loop-more-smaller c =
 
 pub loop-more-preserved : goal.loop-more-preserved
 loop-more-preserved c =
-    let e = c.enter_row-entered.ensures in
+    let e = c.enter_row-entered.ensures.entered in
     let t = c.loop-more-test.true in
     let q = first_row c.args.sheet.now c.args.here in
     let m = stands_measurable c.args.sheet.now c.args.columns.now q c.requires.drawable.0.views c.loop-more.line c.loop-more.more c.loop-more.state
@@ -196,20 +196,20 @@ loop-more-preserved c =
 
 pub overflow_sub-result-2 : goal.overflow_sub-result-2
 overflow_sub-result-2 c =
-    let e = c.enter_row-entered.ensures in
+    let e = c.enter_row-entered.ensures.entered in
     let r = first_row c.args.sheet.now c.args.here in
     c.loop-more.invariant.onward
 
 pub shape_of-page : goal.shape_of-page
 shape_of-page c =
-    let e = c.enter_row-entered.ensures in
+    let e = c.enter_row-entered.ensures.entered in
     let r = first_row c.args.sheet.now c.args.here in
     running-length c.args.sheet.now c.args.columns.now c.args.style r c.args.first c.requires.drawable.0.views c.args.page.now c.loop-more.page
     c.loop-more.state c.loop-more.more c.loop-more.at c.loop-more.line c.loop-more.invariant
 
 pub returns : goal.returns
 returns c =
-    let e = c.enter_row-entered.ensures in
+    let e = c.enter_row-entered.ensures.entered in
     let r = first_row c.args.sheet.now c.args.here in
     running_ends c.args.sheet.now c.args.columns.now c.args.style r c.args.first c.requires.drawable.0.views c.args.page.now c.loop-more.page
     c.loop-more.state c.loop-more.more c.loop-more.at c.loop-more.line c.loop-more.invariant c.loop-more-test.false

@@ -10,12 +10,12 @@ format_row-found-requires c = let D = c.requires.0 in
       cells_in_bounds = (cells_inside c.args.sheet.now c.args.here c.row-r.result D.some D.ends c.row-r.ensures, rw c.row-r.ensures.cells D.known);
     }
 
-pub returns : goal.returns
-returns c =
+pub returns-clause-entered : goal.returns-clause-entered
+returns-clause-entered c =
     let D = c.requires.0 in
     record {
       limit = c.row-r.ensures.limit;
       stands = enters c.args.sheet.now c.args.columns.now (first_row c.args.sheet.now c.args.here) D.views c.args.n
-          c.format_row-found.new.state c.format_row-found.result c.has_line.result _ (rw c.row-r.ensures.cells at c.format_row-found.ensures.0) c.format_row-found.ensures.1
+          c.format_row-found.new.state c.format_row-found.result c.has_line.result _ (rw c.row-r.ensures.cells at c.format_row-found.ensures.opened.0) c.format_row-found.ensures.opened.1
           c.row-r.ensures.limit c.has_line.ensures;
     }
