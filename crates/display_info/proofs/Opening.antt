@@ -33,13 +33,17 @@ use Rattle.table.proofs.Held.{room}
 use Rattle.table.proofs.Walks.{rows_number}
 use Rattle.arrangement.specs.declared.Widths.{Widths}
 use Rattle.arrangement.specs.Widths.{style_from, arranged_widths}
+use Rattle.row.specs.Alignment.{aligned}
 use Rattle.row.specs.View.{View, no_column as noVisible, visible_at, shown_of, number_of, Views}
 use Rattle.row.specs.Open.{Rising, UsableAll}
 use Rattle.formatting.specs.RowText.{Marks}
+use Rattle.row.proofs.Alignment.{aligned_left}
 use Rattle.row.proofs.Joined.{map_snoc}
 use Rattle.row.proofs.Open.{or-printable}
 use Rattle.borders.specs.Rule.{NarrowAll, rule_style_of}
 use Rattle.formatting.specs.Stand.{text_style_of}
+use Rattle.row.specs.declared.CellAlignment.{CellAlignment}
+use Rattle.row.specs.declared.CellAlignment.TheVariants.{Left}
 use Rattle.row.specs.declared.VisibleColumn.{VisibleColumn}
 use Rattle.formatting.specs.declared.content_format.TextStyle.{TextStyle}
 use Rattle.borders.specs.declared.RuleStyle.{RuleStyle}
@@ -113,11 +117,12 @@ pub show_hidden : (view : View) (j : ℕ) (c : Column) (w d : ℕ) (b : Bool) �
 unfolding showing
 show_hidden view j c w d b e f = let h : is_hidden c ≡ true = sym e ∙ f in rw (h, showing)
 
-pub show-visible : (view : View) (j : ℕ) (c : Column) (w d x a : ℕ) (b : Bool) → b ≡ is_hidden c → b ≡ false → x ≡ or_else c.delimiter d
-    → a ≡ or_else c.alignment 1
+pub show-visible : (view : View) (j : ℕ) (c : Column) (w d x : ℕ) (a : CellAlignment) (b : Bool) → b ≡ is_hidden c → b ≡ false
+    → x ≡ or_else c.delimiter d
+    → a ≡ aligned c.alignment Left
     → behind view (record { number = j; width = w; left = c.left; right = c.right; delimiter = x; alignment = a }) ≡ showing view j c w d
 unfolding showing
-show-visible view j c w d x a b e f g k = let h : is_hidden c ≡ false = sym e ∙ f in rw (h, showing, g, k)
+show-visible view j c w d x a b e f g k = let h : is_hidden c ≡ false = sym e ∙ f in rw (h, showing, g, k, aligned_left c.alignment)
 
 -- the first j columns have been looked at
 pub record Showing (t : Table) (j : ℕ) (view : View) : Type 0 where

@@ -3,6 +3,7 @@ use Rattle.std.specs.Prelude.{ℕ, true, false, [], ◌∷◌, ◌++◌}
 use Rattle.rules.specs.Text.{or_else}
 use Rattle.rules.specs.declared.Column.{Column}
 use Rattle.rules.specs.Sheet.{is_hidden}
+use Rattle.row.specs.Alignment.{of_code}
 use Rattle.row.specs.declared.VisibleColumn.{VisibleColumn}
 use Rattle.row.specs.View.{View}
 
@@ -14,7 +15,7 @@ shown_from j c w d = record {
   left = c.left;
   right = c.right;
   delimiter = or_else c.delimiter d;
-  alignment = or_else c.alignment 1;
+  alignment = of_code (or_else c.alignment 1);
 }
 
 abbrev pub behind : View → VisibleColumn → View

@@ -22,7 +22,7 @@ use arrangement::{Widths, layout};
 use arrayvec::ArrayVec;
 use borders::RuleStyle;
 use formatting::content_format::TextStyle;
-use row::VisibleColumn;
+use row::{CellAlignment, VisibleColumn};
 use rules::{
     BOTTOM_BORDER, CONTENT_LINES, Column, HEADER_LINES, HEADER_RULE, MOST_COLUMNS, ROW_RULE,
     STYLE_CHARACTERS, TOP_BORDER,
@@ -181,7 +181,7 @@ fn show_column(
         left: usize::from(c.left),
         right: usize::from(c.right),
         delimiter: records::set(c.delimiter).unwrap_or(delimiter),
-        alignment: records::set(c.alignment).unwrap_or(1),
+        alignment: CellAlignment::of(c.alignment).unwrap_or(CellAlignment::Left),
     });
 }
 

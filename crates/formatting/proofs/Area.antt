@@ -20,6 +20,8 @@ use Rattle.buffer.specs.Put.{put_at}
 use Rattle.buffer.proofs.Laws.{two}
 use Rattle.cells.specs.declared.Next.{Next}
 use Rattle.row.specs.Pending.{pending_text, following, InSheet}
+use Rattle.row.specs.Alignment.{code_of}
+use Rattle.row.specs.declared.CellAlignment.{CellAlignment}
 use Rattle.row.specs.declared.VisibleColumn.{VisibleColumn}
 use Rattle.row.specs.declared.Pending.{Pending}
 use Rattle.formatting.specs.Area.{area_in, marks_shown, LineIn, ShownIs, shown_text, After, column_piece}
@@ -37,12 +39,12 @@ four d at a b c e d₁ d₂ d₃ d₄ p q r e₁ e₂ e₃ e₄ x y z h =
     i ∙ ap (put_at d at) (simp append_assoc)
 
 -- an area as it is drawn: blanks, a text, what follows it, blanks
-pub area_is : (v : VisibleColumn) (a : ℕ) (text marks : List ℕ) (spare b : ℕ) → spare ≡ v.width - text_width (text ++ marks) → b ≡ before a spare
+pub area_is : (v : VisibleColumn) (a : CellAlignment) (text marks : List ℕ) (spare b : ℕ) → spare ≡ v.width - text_width (text ++ marks) → b ≡ before (code_of a) spare
     → blank (v.left + b) ++ (text ++ (marks ++ blank (spare - b + v.right))) ≡ area_in v a (text ++ marks)
 unfolding area_in
 area_is v a text marks spare b e q = rw (← e, q, append_assoc)
 
-pub area_total : (v : VisibleColumn) (a : ℕ) (text marks : List ℕ) (spare b : ℕ) → spare ≡ v.width - text_width (text ++ marks) → b ≡ before a spare
+pub area_total : (v : VisibleColumn) (a : CellAlignment) (text marks : List ℕ) (spare b : ℕ) → spare ≡ v.width - text_width (text ++ marks) → b ≡ before (code_of a) spare
     → length (area_in v a (text ++ marks)) ≡ v.left + b + (length text + (length marks + (spare - b + v.right)))
 area_total v a text marks spare b e q =
     sym (ap length (area_is v a text marks spare b e q)) ∙ simp (length-append, length-replicate) (omega arith)

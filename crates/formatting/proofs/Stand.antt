@@ -9,12 +9,15 @@ use lib.Seq.{drop-drop, get_or-drop, get_or_at, get_or-take, length-take-le}
 use lib.Dec.{ltb, eqb}
 use borrow.Author.Tests.{ltb-true, ltb-false, lt-ltb, le-ltb, ne_eqb, eqb-true, eqb-false}
 use Rattle.rules.specs.Sheet.{Row, Table, column_at, cell_at}
+use Rattle.rules.specs.Text.{text_width}
 use Rattle.rules.specs.Wrap.{exceeds, cut_line, cut}
 use Rattle.rules.specs.Page.{area, area_at, alignment_of, wrapped, cell_lines}
+use Rattle.row.specs.Alignment.{of_code}
 use Rattle.row.specs.Pending.{pending_text, following, remaining, Stands}
 use Rattle.row.specs.View.{View, visible_at, shown_of, number_of, Views}
 use Rattle.row.specs.declared.VisibleColumn.{VisibleColumn}
 use Rattle.row.specs.declared.Pending.{Pending}
+use Rattle.row.proofs.Alignment.{before_of}
 use Rattle.row.proofs.Stand.{stands_next}
 use Rattle.formatting.specs.Area.{area_in, shown_text, After, column_piece}
 use Rattle.formatting.specs.Stand.{StandsCell, in_limit, last_of}
@@ -159,9 +162,9 @@ pub shown-wide : (t : Table) (ws : List ℕ) (j : ℕ) → (shown_of t ws j).wid
 unfolding shown_of
 shown-wide t ws j = refl
 
-area_in_lem : (t : Table) (ws : List ℕ) (j a : ℕ) (l : List ℕ) → area_in (shown_of t ws j) a l ≡ area (column_at t j) (get_or ws j 0) a l
+area_in_lem : (t : Table) (ws : List ℕ) (j a : ℕ) (l : List ℕ) → area_in (shown_of t ws j) (of_code a) l ≡ area (column_at t j) (get_or ws j 0) a l
 unfolding area_in area shown_of
-area_in_lem t ws j a l = refl
+area_in_lem t ws j a l = rw (before_of a (get_or ws j 0 - text_width l))
 
 -- a pending line within the limit is shown as the document cuts it
 pub shown-at : (s : List ℕ) (v : VisibleColumn) (ls : List (List ℕ)) (j : ℕ) (t : Pending) → Stands s v ls j t → (ind : List ℕ) (h : ℕ) → in_limit h j ≡ true
@@ -184,7 +187,7 @@ module _ (s : List ℕ) (t : Table) (ws : List ℕ) (r : Row) (view : View) (W :
       let y = shown-at s v ls j st C.stands t.indicator r.limit e _ refl in
       ap (area_in v st.alignment) y
       ∙ rw (C.alignment, w)
-      (ap (λ u. area_in u (alignment_of (column_at t (number_of t i)) (cell_at r (number_of t i)))
+      (ap (λ u. area_in u (of_code (alignment_of (column_at t (number_of t i)) (cell_at r (number_of t i))))
       (get_or (cut (get_or ws (number_of t i) 0) t.indicator r.limit ls) j [])) x
       ∙ area_in_lem t ws (number_of t i) (alignment_of (column_at t (number_of t i)) (cell_at r (number_of t i)))
       (get_or (cut (get_or ws (number_of t i) 0) t.indicator r.limit ls) j []))

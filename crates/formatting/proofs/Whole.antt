@@ -14,11 +14,13 @@ use Rattle.rules.specs.Widths.{visible}
 use Rattle.rules.specs.Page.{area_at, cell_lines, wrapped, height, line_of, text_line}
 use Rattle.laws.proofs.Lists.{up_from-last}
 use Rattle.buffer.specs.Put.{build, byte_if, lead}
+use Rattle.row.specs.Alignment.{of_code}
 use Rattle.row.specs.View.{View, visible_at, shown_of, number_of, Views}
 use Rattle.row.specs.Pending.{pending_at, any_found}
 use Rattle.row.specs.Open.{OpenedAt, OpenedRow}
 use Rattle.row.specs.declared.VisibleColumn.{VisibleColumn}
 use Rattle.row.specs.declared.Pending.{Pending}
+use Rattle.row.proofs.Alignment.{aligned_or}
 use Rattle.row.proofs.Joined.{map_snoc, build-joined, map_numbered, build-same, edge_same}
 use Rattle.formatting.specs.Area.{column_piece}
 use Rattle.formatting.specs.Line.{line_piece, line_bytes, AfterAll, ReadyAll}
@@ -129,13 +131,13 @@ opened-cell s t ws r i v j st e o =
     let n : v.number ≡ number_of t i = ap (λ (u : VisibleColumn). u.number) e in
     let w : v.width ≡ get_or ws (number_of t i) 0 = ap (λ (u : VisibleColumn). u.width) e in
     let d : v.delimiter ≡ or_else (column_at t (number_of t i)).delimiter (or_else t.delimiter 32) = ap (λ (u : VisibleColumn). u.delimiter) e in
-    let a : v.alignment ≡ or_else (column_at t (number_of t i)).alignment 1 = ap (λ (u : VisibleColumn). u.alignment) e in
+    let a : v.alignment ≡ of_code (or_else (column_at t (number_of t i)).alignment 1) = ap (λ (u : VisibleColumn). u.alignment) e in
     let x = cell_at r (number_of t i) in
     let y : get_or r.cells v.number no_cell ≡ x = ap (λ k. get_or r.cells k no_cell) n in
     record {
       stands = rw (← w, ← d, ← y) o.stands;
       delimiter = o.delimiter ∙ rw (d, y);
-      alignment = o.alignment ∙ rw (a, y);
+      alignment = o.alignment ∙ rw (a, y) (aligned_or x.alignment (or_else (column_at t (number_of t i)).alignment 1));
     }
 
 pub opened-stands : (s : List ℕ) (t : Table) (ws : List ℕ) (r : Row) (view : View) (j : ℕ) (ts : List Pending) → Views t ws view

@@ -6,15 +6,18 @@ use Rattle.rules.specs.Wrap.{cut_line}
 use Rattle.rules.specs.Page.{before}
 use Rattle.cells.specs.Cell.{FirstOf}
 use Rattle.cells.specs.declared.Next.{Next}
+use Rattle.row.specs.Alignment.{code_of}
+use Rattle.row.specs.declared.CellAlignment.{CellAlignment}
 use Rattle.row.specs.declared.VisibleColumn.{VisibleColumn}
 use Rattle.row.specs.declared.Pending.{Pending}
 use Rattle.row.specs.Pending.{pending_text, following}
 use Rattle.formatting.specs.declared.content_format.Shown.{Shown}
 
 -- a text in a column, aligned, paddings included
-unfoldable pub area_in : VisibleColumn → ℕ → List ℕ → List ℕ
+unfoldable pub area_in : VisibleColumn → CellAlignment → List ℕ → List ℕ
 area_in v a l =
-    blank (v.left + before a (v.width - text_width l)) ++ (l ++ blank ((v.width - text_width l - before a (v.width - text_width l)) + v.right))
+    blank (v.left + before (code_of a) (v.width - text_width l))
+    ++ (l ++ blank ((v.width - text_width l - before (code_of a) (v.width - text_width l)) + v.right))
 
 -- the indicator's bytes that are shown: none where it is wider than the content
 abbrev pub marks_shown : Bool → ℕ → ℕ → ℕ

@@ -4,6 +4,7 @@ use Rattle.rules.specs.Sheet.{Row, Table, column_at, cell_at, most_columns}
 use Rattle.rules.specs.Style.{glyph_at, glyph, any_left, any_right, any_junction}
 use Rattle.rules.specs.Wrap.{delimiter_of}
 use Rattle.rules.specs.Page.{alignment_of, wrapped}
+use Rattle.row.specs.Alignment.{of_code}
 use Rattle.row.specs.Pending.{pending_at, Stands}
 use Rattle.row.specs.View.{View, visible_at, number_of}
 use Rattle.row.specs.declared.VisibleColumn.{VisibleColumn}
@@ -14,7 +15,7 @@ use Rattle.formatting.specs.declared.content_format.TextStyle.{TextStyle}
 pub record StandsCell (s : List ℕ) (t : Table) (ws : List ℕ) (r : Row) (v : VisibleColumn) (i j : ℕ) (st : Pending) : Type 0 where
   pub stands : Stands s v (wrapped t ws r (number_of t i)) j st
   pub delimiter : st.delimiter ≡ delimiter_of t (column_at t (number_of t i)) (cell_at r (number_of t i))
-  pub alignment : st.alignment ≡ alignment_of (column_at t (number_of t i)) (cell_at r (number_of t i))
+  pub alignment : st.alignment ≡ of_code (alignment_of (column_at t (number_of t i)) (cell_at r (number_of t i)))
 
 pub record StandsRow (s : List ℕ) (t : Table) (ws : List ℕ) (r : Row) (view : View) (j : ℕ) (ts : List Pending) : Type 0 where
   pub size : length ts ≡ most_columns

@@ -8,6 +8,7 @@ ghost use Rattle.table.specs.Walk.{first_row};
 ghost use Rattle.buffer.specs.Put.{over, put_at, byte_if};
 ghost use Rattle.cells.specs.Cell.{Inside};
 ghost use Rattle.formatting.specs.Area.{area_in, marks_shown, LineIn, ShownIs, shown_text, After, column_piece};
+ghost use Rattle.row.specs.Alignment.{code_of};
 ghost use Rattle.row.specs.Height.{added_up_to};
 ghost use Rattle.row.specs.Open.{WalkedAll};
 ghost use Rattle.row.specs.Pending.{InSheet, Ready, any_found};
@@ -19,19 +20,19 @@ ghost use Rattle.formatting.specs.Shown.{pairs_shown};
 
 use crate::row_size;
 use cells::{CellCursor, Next};
-use row::{Pending, VisibleColumn};
+use row::{CellAlignment, Pending, VisibleColumn};
 use rules::MOST_COLUMNS;
 use table::records::{Lines, Rows};
 use table::walk;
 
 // The spaces left of a text that leaves some columns free.
-fn spaces_before(alignment: u8, spare: usize) -> usize
-    ensures { (result ≡ before alignment spare) × (result ≤ spare) }
+fn spaces_before(alignment: CellAlignment, spare: usize) -> usize
+    ensures { (result ≡ before (code_of alignment) spare) × (result ≤ spare) }
 {
     match alignment {
-        2 => spare,
-        3 => spare - spare / 2,
-        _ => 0,
+        CellAlignment::Left => 0,
+        CellAlignment::Right => spare,
+        CellAlignment::Center => spare - spare / 2,
     }
 }
 
@@ -42,7 +43,7 @@ fn align_line(
     text: &[u8],
     marks: &[u8],
     v: VisibleColumn,
-    alignment: u8,
+    alignment: CellAlignment,
     spare: usize,
 ) -> usize
     requires spare { spare ≡ v.width - text_width (text.now ++ marks.now) }

@@ -1,4 +1,5 @@
 pub mod Stand
+pub mod Alignment
 pub mod Joined
 pub mod Open
 pub mod Heights

@@ -25,6 +25,7 @@ use Rattle.table.proofs.Walks.{cells_number}
 use Rattle.table.specs.Walk.{cells_in, cells_end, lines_in, lines_end, first_cell, CellIs}
 use Rattle.table.specs.declared.records.Cells.{Cells}
 use Rattle.table.specs.declared.records.Cell as records
+use Rattle.row.specs.Alignment.{aligned}
 use Rattle.row.specs.View.{View, visible_at}
 use Rattle.row.specs.Pending.{no_pending, pending_at, any_found, remaining}
 use Rattle.row.specs.Open.{CellKnown, OpenedAt, Rising, missing}
@@ -97,12 +98,12 @@ opened-missing s c v n plain wide prints h =
 pub opened-cell : (s : List ℕ) (c : Cells) (x : records.Cell) → CellIs s c x → (v : VisibleColumn) (n : ℕ) (plain : Bool) → 0 < v.width
     → (first : Next) (r : Pending)
     → Printable r.delimiter
-    → r.delimiter ≡ or_else x.delimiter v.delimiter → r.alignment ≡ or_else x.alignment v.alignment
+    → r.delimiter ≡ or_else x.delimiter v.delimiter → r.alignment ≡ aligned x.alignment v.alignment
     → FirstOf s v.width r.delimiter plain (wrap_lines v.width r.delimiter (lines_in s x.lines)) first
     → Further s v.width r.delimiter n first r.line → OpenedAt s (first_cell s c) v n r × (r.line.cursor.plain ≡ plain)
 opened-cell s c x X v n plain wide first r prints e f g m =
     let y : r.delimiter ≡ or_else (first_cell s c).delimiter v.delimiter = e ∙ ap (λ n. or_else n v.delimiter) X.delimiter in
-    let z : r.alignment ≡ or_else (first_cell s c).alignment v.alignment = f ∙ ap (λ n. or_else n v.alignment) X.alignment in
+    let z : r.alignment ≡ aligned (first_cell s c).alignment v.alignment = f ∙ ap (λ n. aligned n v.alignment) X.alignment in
     let ls = wrap_lines v.width r.delimiter (first_cell s c).lines in
     let l = m plain ls (rw X.lines at g) in (
       record {

@@ -1,3 +1,4 @@
+pub mod Alignment
 pub mod View
 pub mod Pending
 pub mod Open

@@ -5,6 +5,7 @@ use Rattle.rules.specs.Limits.{Printable, Optional}
 use Rattle.rules.specs.Sheet.{Cell, no_cell, most_columns}
 use Rattle.rules.specs.Wrap.{wrap_lines}
 use Rattle.cells.specs.Cell.{TextIs}
+use Rattle.row.specs.Alignment.{aligned}
 use Rattle.row.specs.View.{View, visible_at}
 use Rattle.row.specs.Pending.{pending_at, Stands}
 use Rattle.row.specs.declared.VisibleColumn.{VisibleColumn}
@@ -33,7 +34,7 @@ missing v n plain = record {
 pub record OpenedAt (s : List ℕ) (x : Cell) (v : VisibleColumn) (n : ℕ) (t : Pending) : Type 0 where
   pub stands : Stands s v (wrap_lines v.width (or_else x.delimiter v.delimiter) x.lines) n t
   pub delimiter : t.delimiter ≡ or_else x.delimiter v.delimiter
-  pub alignment : t.alignment ≡ or_else x.alignment v.alignment
+  pub alignment : t.alignment ≡ aligned x.alignment v.alignment
 
 -- each visible column's cell at its line n, missing where the row has none
 pub record OpenedRow (s : List ℕ) (xs : List Cell) (view : View) (n : ℕ) (ts : List Pending) : Type 0 where

@@ -4,6 +4,7 @@ use Rattle.rules.specs.Text.{text_width}
 use Rattle.rules.specs.Limits.{Printable}
 use Rattle.table.specs.Walk.{lines_end, first_line}
 use Rattle.cells.specs.Cell.{Inside, rest, text_of}
+use Rattle.row.specs.declared.CellAlignment.TheVariants.{Left}
 use Rattle.row.specs.declared.VisibleColumn.{VisibleColumn}
 use Rattle.row.specs.declared.Pending.{Pending}
 
@@ -18,7 +19,7 @@ no_pending = record {
     cursor = record { lines = record { at = 0; left = 0 }; from = 0; plain = false };
   };
   delimiter = 0;
-  alignment = 0;
+  alignment = Left;
 }
 
 abbrev pub pending_at : List Pending → ℕ → Pending

@@ -3,6 +3,8 @@ use Rattle.std.specs.Prelude.{ℕ, ◌≤◌, ◌<◌, ◌≡◌, List, length, 
 use Rattle.rules.specs.Sheet.{most_columns, Table, column_at}
 use Rattle.rules.specs.Text.{or_else}
 use Rattle.rules.specs.Widths.{visible}
+use Rattle.row.specs.Alignment.{of_code}
+use Rattle.row.specs.declared.CellAlignment.TheVariants.{Left}
 use Rattle.row.specs.declared.VisibleColumn.{VisibleColumn}
 
 -- what lines are drawn from: the visible columns from left to right
@@ -11,7 +13,7 @@ View = List VisibleColumn
 
 -- what a list has past its end
 abbrev pub no_column : VisibleColumn
-no_column = record { number = 0; width = 0; left = 0; right = 0; delimiter = 0; alignment = 0 }
+no_column = record { number = 0; width = 0; left = 0; right = 0; delimiter = 0; alignment = Left }
 
 abbrev pub visible_at : View → ℕ → VisibleColumn
 visible_at view i = get_or view i no_column
@@ -24,7 +26,7 @@ shown_of t ws j = record {
   left = (column_at t j).left;
   right = (column_at t j).right;
   delimiter = or_else (column_at t j).delimiter (or_else t.delimiter 32);
-  alignment = or_else (column_at t j).alignment 1;
+  alignment = of_code (or_else (column_at t j).alignment 1);
 }
 
 -- the number of visible column i

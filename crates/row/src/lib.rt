@@ -1,13 +1,14 @@
 // A row's cells opened at one of its lines, comfy-table's `format_row`, and their heights.
 #![tactic(auto)]
 
-ghost use Rattle.std.specs.Prelude.{◌≡◌, ◌*◌, ◌≤◌, ◌<◌, length};
+ghost use Rattle.std.specs.Prelude.{◌≡◌, ◌*◌, ◌≤◌, ◌<◌, length, unwrap_or};
 ghost use Rattle.rules.specs.Text.{All};
 ghost use Rattle.rules.specs.Sheet.{most_columns};
 ghost use Rattle.rules.specs.Limits.{Printable};
 ghost use Rattle.table.specs.Walk.{cells_in, cells_end, first_cell};
 ghost use Rattle.laws.proofs.RowBytes.{pairs_of};
 ghost use Rattle.row.specs.Height.{cell_height, height_up_to, added_up_to, pairs_held};
+ghost use Rattle.row.specs.Alignment.{aligned};
 ghost use Rattle.row.specs.Pending.{any_found};
 ghost use Rattle.row.specs.Open.{CellKnown, OpenedAt, OpenedRow, Rising, UsableAll, WalkedAll, missing};
 
@@ -15,6 +16,29 @@ use cells::{CellCursor, Next};
 use rules::MOST_COLUMNS;
 use table::records::{Cells, Lines};
 use table::{records, walk};
+
+// Where a line stands in its column.
+#[derive(Clone, Copy, PartialEq, Eq, Default)]
+pub enum CellAlignment {
+    #[default]
+    Left,
+    Right,
+    Center,
+}
+
+impl CellAlignment {
+    // The sheet's codes are read here alone: 0 chooses none.
+    pub fn of(code: u8) -> Option<CellAlignment>
+        ensures { (other : CellAlignment) → unwrap_or result other ≡ aligned code other }
+    {
+        match code {
+            0 => None,
+            2 => Some(CellAlignment::Right),
+            3 => Some(CellAlignment::Center),
+            _ => Some(CellAlignment::Left),
+        }
+    }
+}
 
 // A visible column as it is drawn: its number in the sheet, its content width and paddings, and what a cell takes that chooses nothing.
 #[derive(Clone, Copy, Default)]
@@ -24,7 +48,7 @@ pub struct VisibleColumn {
     pub left: usize,
     pub right: usize,
     pub delimiter: u8,
-    pub alignment: u8,
+    pub alignment: CellAlignment,
 }
 
 // A cell's pending line: the one that is drawn next, and where the line after it is looked for.
@@ -32,7 +56,7 @@ pub struct VisibleColumn {
 pub struct Pending {
     pub line: Next,
     pub delimiter: u8,
-    pub alignment: u8,
+    pub alignment: CellAlignment,
 }
 
 // A missing cell at its line n. It is one blank line, which is no part of the sheet.
@@ -71,7 +95,7 @@ pub fn open_cell(sheet: &[u8], cells: Cells, v: VisibleColumn, n: usize, plain: 
     let x = walk::cell(sheet, cells);
     let lines = x.lines;
     let delimiter = records::set(x.delimiter).unwrap_or(v.delimiter);
-    let alignment = records::set(x.alignment).unwrap_or(v.alignment);
+    let alignment = CellAlignment::of(x.alignment).unwrap_or(v.alignment);
     let first = cells::first_line(sheet, lines, v.width, delimiter, plain);
     let line = cells::further(sheet, first, v.width, delimiter, n);
     Pending {

@@ -48,4 +48,4 @@ returns c =
     c.first_line-first.result _
     (delimiter-here _ c.args.sheet.now c.args.cells c.cell-x.result c.cell-x.ensures k c.args.v _ c.requires.width_nonzero.1
     (c.unwrap_or-delimiter.ensures ∙ c.set.ensures c.args.v.delimiter))
-    (c.unwrap_or-delimiter.ensures ∙ c.set.ensures c.args.v.delimiter) (c.unwrap_or-alignment.ensures ∙ c.set-2.ensures c.args.v.alignment) c.first_line-first.ensures c.further-line.ensures
+    (c.unwrap_or-delimiter.ensures ∙ c.set.ensures c.args.v.delimiter) (c.unwrap_or-alignment.ensures ∙ c.of.ensures c.args.v.alignment) c.first_line-first.ensures c.further-line.ensures
