@@ -39,6 +39,7 @@ fn remaining_width(t: &Layout, s: &State) -> u16
     ensures { result ≡ remaining t.now s.now }
 {
     let mut r = t.room(s.visible).unwrap_or(0);
+    // Kept over numbers: `charge` looks up a column, its bit in a set and its width by one number.
     for i in 0..usize::from(t.count) {
         r = charge(t, s, i, r);
     }

@@ -42,6 +42,7 @@ fn start(t: &Layout) -> State
         remaining: 0,
         visible: t.count_visible_columns(),
     };
+    // Kept over numbers: `evaluate` names the column by its number, and an iterator would only hand that number on.
     for i in 0..usize::from(t.count) {
         t.evaluate(i, &mut s);
     }
@@ -83,8 +84,8 @@ fn hidden_columns(t: &Layout) -> [bool; MOST_COLUMNS]
     ensures { result ≡ marked t.now }
 {
     let mut flags = [false; MOST_COLUMNS];
-    for i in 0..usize::from(t.count) {
-        flags[i] = column::is_hidden(&t.columns[i]);
+    for (i, c) in t.columns[..usize::from(t.count)].iter().enumerate() {
+        flags[i] = column::is_hidden(c);
     }
     flags
 }

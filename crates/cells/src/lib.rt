@@ -116,6 +116,7 @@ pub fn first_line(sheet: &[u8], lines: Lines, width: usize, delimiter: u8, plain
     ensures { FirstOf sheet.now width delimiter plain (wrap_lines width delimiter (lines_in sheet.now lines)) result }
 {
     let mut c = lines;
+    // Kept: the cursor goes into the answer, and counts what is left itself; a `for` over that number would count it twice.
     while 0 < c.left {
         let text = walk::line(sheet, c);
         let part = first_part(text, width, delimiter, plain);

@@ -44,8 +44,8 @@ fn letter(value: u8, zero: bool) -> bool
 fn characters(part: &[u8], zero: bool) -> Result<usize, Refusal>
     ensures { read_to result ≡ writer.in_turn (writer.character_judged (definition.letter zero)) part.now 0 }
 {
-    for i in 0..part.len() {
-        if !letter(part[i], zero) {
+    for (i, &value) in part.iter().enumerate() {
+        if !letter(value, zero) {
             return Err(Refusal {
                 reason: Reason::BadCharacter,
                 place: i,
@@ -77,6 +77,7 @@ fn pairs(part: &[u8]) -> Result<usize, Refusal>
     ensures { read_to result ≡ writer.characters_judged part.now 0 }
 {
     let mut i = 0;
+    // Kept: a character is one byte or two, and the places that the error names are counted on the whole line, not on what is left of it.
     while i < part.len() {
         i = character(part, i)?;
     }

@@ -150,6 +150,7 @@ impl<'a> AcceptedSheet<'a> {
         ensures { (rows_in self.now.bytes.now result ≡ (table_of self.now.bytes.now).rows) × (rows_end self.now.bytes.now result ≡ length self.now.bytes.now) }
     {
         let mut c = header;
+        // Kept: only where the cursor ends is asked for, and it counts what is left itself; a `for` would count it twice.
         while 0 < c.left {
             c = next_row(self.bytes, c);
         }

@@ -80,6 +80,7 @@ fn steps(t: &Layout, a: &Course) -> [u8; MOST_COLUMNS]
 {
     let v = t.count_visible_columns();
     let mut numbers = [0u8; MOST_COLUMNS];
+    // Kept over numbers: what is told of a column stands in several arrays and sets at its number.
     for i in 0..usize::from(t.count) {
         numbers[i] = u8::from(step_of(t, v, i, a));
     }
