@@ -130,7 +130,7 @@ impl<'a> Iterator for Stored<'a> {
 }
 
 impl<'a> Record<'a> {
-    // Every call answers number and place, and nothing else.
+    // Every call answers number and place, which are stored as numbers, and nothing else.
     fn refused(sheet: &'a [u8], number: u64, place: u64) -> Record<'a> {
         Record {
             sheet,

@@ -90,7 +90,7 @@ pub fn read_all<R: Input + Clock>(rt: &R, space: &mut [u8]) -> Result<usize, Fai
     })
 }
 
-// Reads until the space is full, the input ends or a read fails, and gives how many bytes it put at the space's start.
+// The same, but that a read which fails is an end: its callers go on with what was read before.
 pub fn read_full<R: Input>(rt: &R, space: &mut [u8]) -> usize
     ensures { IsPrefixLen result space.new }
 {
