@@ -7,6 +7,8 @@ use mathlib.Core.Bool.{Bool, true, false}
 use native.Mathlib.Numerals.{add-one}
 use native.Mathlib.Omega.{arith}
 use lib.ListN.{length, get_or, replicate, length-append, length-map, get_or-append}
+use Rattle.std.specs.Prelude.{Option}
+use Rattle.std.specs.Bool.{then_some}
 use Rattle.rules.specs.declared.Column.{Column}
 use Rattle.rules.specs.Text.{or_else}
 use Rattle.rules.specs.Sheet.{Table, most_columns, no_column, column_at, is_hidden}
@@ -63,26 +65,18 @@ glyph_is (suc c) r e = e
 
 -- ---- the look of a style
 
-pub rule_style_is : (S : List ℕ) (k l f j r : ℕ) (opens joined closes : Bool) → l ≡ glyph (glyph_at S k) → f ≡ glyph (glyph_at S (k + 1)) → j ≡ glyph
-    (glyph_at S (k + 2)) → r ≡ glyph (glyph_at S (k + 3))
-    → opens ≡ any_left S → closes ≡ any_right S → record {
-      left = l;
-      fill = f;
-      junction = j;
-      right = r;
-      opens = opens;
-      joined = joined;
-      closes = closes;
-    } ≡ rule_style_of S joined k
+pub rule_style_is : (S : List ℕ) (k f : ℕ) (l j r : Option ℕ) (joined : Bool) → l ≡ then_some (any_left S) (glyph (glyph_at S k))
+    → f ≡ glyph (glyph_at S (k + 1)) → j ≡ then_some joined (glyph (glyph_at S (k + 2)))
+    → r ≡ then_some (any_right S) (glyph (glyph_at S (k + 3)))
+    → record { left = l; fill = f; junction = j; right = r } ≡ rule_style_of S joined k
 unfolding rule_style_of
-rule_style_is S k l f j r opens joined closes a b c d e g = rw (a, b, c, d, e, g)
+rule_style_is S k f l j r joined a b c d = rw (a, b, c, d)
 
-pub text_style_is : (S : List ℕ) (k l j r : ℕ) (opens joined closes : Bool) → l ≡ glyph (glyph_at S k) → j ≡ glyph (glyph_at S (k + 1)) → r ≡ glyph
-    (glyph_at S (k + 2))
-    → opens ≡ any_left S → joined ≡ any_junction S → closes ≡ any_right S → record
-    { left = l; junction = j; right = r; opens = opens; joined = joined; closes = closes } ≡ text_style_of S k
+pub text_style_is : (S : List ℕ) (k : ℕ) (l j r : Option ℕ) → l ≡ then_some (any_left S) (glyph (glyph_at S k))
+    → j ≡ then_some (any_junction S) (glyph (glyph_at S (k + 1))) → r ≡ then_some (any_right S) (glyph (glyph_at S (k + 2)))
+    → record { left = l; junction = j; right = r } ≡ text_style_of S k
 unfolding text_style_of
-text_style_is S k l j r opens joined closes a b c d e f = rw (a, b, c, d, e, f)
+text_style_is S k l j r a b c = rw (a, b, c)
 
 -- which edges the style record says are drawn
 pub edges_are : (S : List ℕ) (y : TableStyle) (opens joined closes : Bool) → y ≡ style_from S → opens ≡ any_left (bytes_of y) → joined ≡ any_junction
