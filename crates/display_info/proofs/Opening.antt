@@ -65,18 +65,18 @@ glyph_is (suc c) r e = e
 
 -- ---- the look of a style
 
-pub rule_style_is : (S : List ℕ) (k f : ℕ) (l j r : Option ℕ) (joined : Bool) → l ≡ then_some (any_left S) (glyph (glyph_at S k))
-    → f ≡ glyph (glyph_at S (k + 1)) → j ≡ then_some joined (glyph (glyph_at S (k + 2)))
-    → r ≡ then_some (any_right S) (glyph (glyph_at S (k + 3)))
+pub rule_style_is : (S : List ℕ) (k x f y z : ℕ) (opens joined closes : Bool) (l j r : Option ℕ) → x ≡ glyph (glyph_at S k)
+    → f ≡ glyph (glyph_at S (k + 1)) → y ≡ glyph (glyph_at S (k + 2)) → z ≡ glyph (glyph_at S (k + 3)) → opens ≡ any_left S → closes ≡ any_right S
+    → l ≡ then_some opens x → j ≡ then_some joined y → r ≡ then_some closes z
     → record { left = l; fill = f; junction = j; right = r } ≡ rule_style_of S joined k
 unfolding rule_style_of
-rule_style_is S k f l j r joined a b c d = rw (a, b, c, d)
+rule_style_is S k x f y z opens joined closes l j r a b c d e g p q o = rw (p, q, o, a, b, c, d, e, g)
 
-pub text_style_is : (S : List ℕ) (k : ℕ) (l j r : Option ℕ) → l ≡ then_some (any_left S) (glyph (glyph_at S k))
-    → j ≡ then_some (any_junction S) (glyph (glyph_at S (k + 1))) → r ≡ then_some (any_right S) (glyph (glyph_at S (k + 2)))
-    → record { left = l; junction = j; right = r } ≡ text_style_of S k
+pub text_style_is : (S : List ℕ) (k x y z : ℕ) (opens joined closes : Bool) (l j r : Option ℕ) → x ≡ glyph (glyph_at S k)
+    → y ≡ glyph (glyph_at S (k + 1)) → z ≡ glyph (glyph_at S (k + 2)) → opens ≡ any_left S → joined ≡ any_junction S → closes ≡ any_right S
+    → l ≡ then_some opens x → j ≡ then_some joined y → r ≡ then_some closes z → record { left = l; junction = j; right = r } ≡ text_style_of S k
 unfolding text_style_of
-text_style_is S k l j r a b c = rw (a, b, c)
+text_style_is S k x y z opens joined closes l j r a b c d e f p q o = rw (p, q, o, a, b, c, d, e, f)
 
 -- which edges the style record says are drawn
 pub edges_are : (S : List ℕ) (y : TableStyle) (opens joined closes : Bool) → y ≡ style_from S → opens ≡ any_left (bytes_of y) → joined ≡ any_junction
