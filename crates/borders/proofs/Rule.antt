@@ -5,12 +5,13 @@ use mathlib.Core.List.{List, [], ◌∷◌, ◌++◌, append_assoc, map}
 use native.Mathlib.Omega.{arith}
 use lib.ListN.{length, set, length-append, length-replicate, get_or, replicate}
 use mathlib.Core.Bool.{Bool, ◌||◌}
+use Rattle.std.specs.Bool.{then_some}
 use Rattle.rules.specs.Sheet.{Table, column_at}
 use Rattle.rules.specs.Text.{up_from}
 use Rattle.rules.specs.Style.{glyph_at, glyph, any_left, any_right, any_junction}
 use Rattle.rules.specs.Widths.{visible}
 use Rattle.rules.specs.Page.{line_of, ruled, visible_width, visible_widths}
-use Rattle.buffer.specs.Put.{over, put_at, build, byte_if, lead}
+use Rattle.buffer.specs.Put.{over, put_at, build, drawn, lead}
 use Rattle.buffer.proofs.Laws.{put-nil, put_one, over-put-zero, build-room, build_more, two}
 use Rattle.row.specs.View.{View, visible_at, shown_of, number_of, Views}
 use Rattle.row.specs.declared.VisibleColumn.{VisibleColumn}
@@ -19,8 +20,8 @@ use Rattle.borders.specs.Rule.{rule_area, rule_piece, rule_text, rule_bytes, rul
 use Rattle.borders.specs.declared.RuleStyle.{RuleStyle}
 
 module _ (view : View) (style : RuleStyle) where
-  pub rule_is : rule_bytes view style ≡ byte_if style.opens style.left ++
-      (build (rule_piece view style) (length view) ++ (byte_if style.closes style.right ++ (10 ∷ [])))
+  pub rule_is : rule_bytes view style ≡ drawn style.left ++
+      (build (rule_piece view style) (length view) ++ (drawn style.right ++ (10 ∷ [])))
   unfolding rule_bytes
   rule_is = refl
 
@@ -29,25 +30,25 @@ module _ (view : View) (style : RuleStyle) where
   rule_text_lem = simp append_assoc
 
   pub rule-length : length (rule_bytes view style)
-      ≡ length (byte_if style.opens style.left) + length (build (rule_piece view style) (length view)) + length
-      (byte_if style.closes style.right) + 1
+      ≡ length (drawn style.left) + length (build (rule_piece view style) (length view)) + length
+      (drawn style.right) + 1
   unfolding rule_bytes
   rule-length =
-      let l = byte_if style.opens style.left in
+      let l = drawn style.left in
       let b = build (rule_piece view style) (length view) in
-      let r = byte_if style.closes style.right in
+      let r = drawn style.right in
       omega (arith, length-append l (b ++ (r ++ (10 ∷ []))), length-append b (r ++ (10 ∷ [])), length-append r (10 ∷ []))
 
   -- the whole, once its last byte is stored
-  pub rule_whole : (d d₁ d₂ d₃ : List ℕ) (p q e : ℕ) → d₁ ≡ put_at d 0 (byte_if style.opens style.left) → d₂ ≡ put_at d₁ p
+  pub rule_whole : (d d₁ d₂ d₃ : List ℕ) (p q e : ℕ) → d₁ ≡ put_at d 0 (drawn style.left) → d₂ ≡ put_at d₁ p
       (build (rule_piece view style) (length view))
-      → d₃ ≡ put_at d₂ q (byte_if style.closes style.right) → length (byte_if style.opens style.left) ≡ p → p + length
+      → d₃ ≡ put_at d₂ q (drawn style.right) → length (drawn style.left) ≡ p → p + length
       (build (rule_piece view style) (length view)) ≡ q
-      → q + length (byte_if style.closes style.right) ≡ e → e < length d₃ → set d₃ e 10 ≡ over (rule_bytes view style) d
+      → q + length (drawn style.right) ≡ e → e < length d₃ → set d₃ e 10 ≡ over (rule_bytes view style) d
   rule_whole d d₁ d₂ d₃ p q e e₁ e₂ e₃ x y z h =
-      let l = byte_if style.opens style.left in
+      let l = drawn style.left in
       let b = build (rule_piece view style) (length view) in
-      let r = byte_if style.closes style.right in
+      let r = drawn style.right in
       let f : d₂ ≡ put_at d 0 (l ++ b) = two d 0 l b d₁ d₂ p e₁ e₂ (omega arith) (omega arith) in
       let g : d₃ ≡ put_at d 0 ((l ++ b) ++ r) = two d 0 (l ++ b) r d₂ d₃ q f e₃ (omega (arith, length-append l b)) (omega arith) in
       let i : set d₃ e 10 ≡ put_at d 0 (((l ++ b) ++ r) ++ (10 ∷ [])) =
@@ -67,23 +68,23 @@ module _ (view : View) (style : RuleStyle) (page₀ : List ℕ) (at₀ : ℕ) wh
   ruling_begins = record { within = omega arith; place = omega arith; text = sym (put-nil page₀ at₀); size = refl }
 
   module _ (page : List ℕ) (at i : ℕ) (D : Ruling view style page₀ at₀ page at i) (h : i < length view) where
-    here-length : length (rule_piece view style i) ≡ length (byte_if (lead i style.joined) style.junction) +
+    here-length : length (rule_piece view style i) ≡ length (drawn (lead i style.junction)) +
         ((visible_at view i).left + ((visible_at view i).width + (visible_at view i).right))
     unfolding rule_piece
     here-length =
-        length-append (byte_if (lead i style.joined) style.junction) (rule_area (visible_at view i) style.fill)
-        ∙ ap (λ n. length (byte_if (lead i style.joined) style.junction) + n)
+        length-append (drawn (lead i style.junction)) (rule_area (visible_at view i) style.fill)
+        ∙ ap (λ n. length (drawn (lead i style.junction)) + n)
         (length-replicate ((visible_at view i).left + ((visible_at view i).width + (visible_at view i).right)) style.fill)
 
     pub ruling-room : at₀ + length (build (rule_piece view style) (length view)) ≤ length page₀
-        → at + (length (byte_if (lead i style.joined) style.junction) +
+        → at + (length (drawn (lead i style.junction)) +
         ((visible_at view i).left + ((visible_at view i).width + (visible_at view i).right))) ≤ length page
     ruling-room r = omega (arith, D.place, D.size, here-length, build-room (rule_piece view style) i (length view) h)
 
     pub ruling-on : (page₁ : List ℕ) (at₁ : ℕ) → at₀ + length (build (rule_piece view style) (length view)) ≤ length page₀
-        → at₁ ≡ at + (length (byte_if (lead i style.joined) style.junction) +
+        → at₁ ≡ at + (length (drawn (lead i style.junction)) +
         ((visible_at view i).left + ((visible_at view i).width + (visible_at view i).right)))
-        → page₁ ≡ put_at page at (byte_if (lead i style.joined) style.junction ++ rule_area (visible_at view i) style.fill)
+        → page₁ ≡ put_at page at (drawn (lead i style.junction) ++ rule_area (visible_at view i) style.fill)
         → length page₁ ≡ length page → Ruling view style page₀ at₀ page₁ at₁ (i + 1)
     unfolding rule_piece
     ruling-on page₁ at₁ r e w l =
@@ -118,16 +119,16 @@ rule-drawn t ws view W S always k =
     let b = always || any_junction S in
     let f = glyph (glyph_at S (k + 1)) in
     let g : ℕ → List ℕ = λ i. replicate (visible_width t ws (number_of t i)) f in
-    let p : build (λ i. byte_if (lead i b) (glyph (glyph_at S (k + 2))) ++ rule_area (visible_at view i) f) (length view) ≡ build
-    (λ i. byte_if (lead i b) (glyph (glyph_at S (k + 2))) ++ g i) (length view) =
-    build-same _ _ (length view) (λ i h. ap (λ l. byte_if (lead i b) (glyph (glyph_at S (k + 2))) ++ l)
+    let p : build (λ i. drawn (lead i (then_some b (glyph (glyph_at S (k + 2))))) ++ rule_area (visible_at view i) f) (length view) ≡ build
+    (λ i. drawn (lead i (then_some b (glyph (glyph_at S (k + 2))))) ++ g i) (length view) =
+    build-same _ _ (length view) (λ i h. ap (λ l. drawn (lead i (then_some b (glyph (glyph_at S (k + 2))))) ++ l)
     (area_fill t ws (number_of t i) f (visible_at view i) (W.each i h))) in
     let q : map (λ v. replicate v f) (map (visible_width t ws) (visible t)) ≡ map g (up_from 0 (length view)) =
     map-map (visible_width t ws) (λ v. replicate v f) (visible t) ∙ map_numbered (λ j. replicate (visible_width t ws j) f) 0 (visible t) ∙ ap
     (λ n. map g (up_from 0 n)) (sym W.count) in
     rw (
       p,
-      build-joined b (glyph (glyph_at S (k + 2))) g (length view),
+      build-joined (then_some b (glyph (glyph_at S (k + 2)))) g (length view),
       q,
       edge_same (any_left S) (glyph_at S k),
       edge_same b (glyph_at S (k + 2)),

@@ -2,38 +2,28 @@
 #![tactic(auto)]
 
 ghost use Rattle.std.specs.Prelude.{◌≡◌, ◌++◌, ◌+◌, ◌≤◌, ◌<◌, length};
-ghost use Rattle.buffer.specs.Put.{over, put_at, byte_if};
+ghost use Rattle.buffer.specs.Put.{over, put_at, drawn};
 ghost use Rattle.borders.specs.Rule.{rule_bytes, NarrowAll, rule_area};
 
 use row::VisibleColumn;
 
-// The characters of a border or a rule, and which of them are drawn.
+// The characters of a border or a rule that are drawn.
 #[derive(Clone, Copy)]
 pub struct RuleStyle {
-    pub left: u8,
+    pub left: Option<u8>,
     pub fill: u8,
-    pub junction: u8,
-    pub right: u8,
-    pub opens: bool,
-    pub joined: bool,
-    pub closes: bool,
+    pub junction: Option<u8>,
+    pub right: Option<u8>,
 }
 
 // A junction, if one stands before the column, and the column's fill.
-fn draw_fill(
-    page: &mut [u8],
-    at: usize,
-    v: VisibleColumn,
-    joins: bool,
-    junction: u8,
-    fill: u8,
-) -> usize
+fn draw_fill(page: &mut [u8], at: usize, v: VisibleColumn, junction: Option<u8>, fill: u8) -> usize
     requires right_bound { v.left + (v.width + v.right) < 65536 }
-    requires right_in_bounds { at + (length (byte_if joins junction) + (v.left + (v.width + v.right))) ≤ length page.old }
-    ensures value { result ≡ at + (length (byte_if joins junction) + (v.left + (v.width + v.right))) }
-    ensures page_after { page.new ≡ put_at page.old at (byte_if joins junction ++ rule_area v fill) }
+    requires right_in_bounds { at + (length (drawn junction) + (v.left + (v.width + v.right))) ≤ length page.old }
+    ensures value { result ≡ at + (length (drawn junction) + (v.left + (v.width + v.right))) }
+    ensures page_after { page.new ≡ put_at page.old at (drawn junction ++ rule_area v fill) }
 {
-    let p = buffer::draw_edge(page, at, joins, junction);
+    let p = buffer::draw_edge(page, at, junction);
     buffer::fill(page, p, v.left + (v.width + v.right), fill)
 }
 
@@ -44,12 +34,12 @@ pub fn draw_line(page: &mut [u8], columns: &[VisibleColumn], style: RuleStyle) -
     ensures value { result ≡ length (rule_bytes columns.now style) }
     ensures page_after { page.new ≡ over (rule_bytes columns.now style) page.old }
 {
-    let mut at = buffer::draw_edge(page, 0, style.opens, style.left);
+    let mut at = buffer::draw_edge(page, 0, style.left);
     for (i, &v) in columns.iter().enumerate() {
-        let joins = buffer::joins_before(i, style.joined);
-        at = draw_fill(page, at, v, joins, style.junction, style.fill);
+        let junction = buffer::joins_before(i, style.junction);
+        at = draw_fill(page, at, v, junction, style.fill);
     }
-    let e = buffer::draw_edge(page, at, style.closes, style.right);
+    let e = buffer::draw_edge(page, at, style.right);
     page[e] = 10;
     e + 1
 }

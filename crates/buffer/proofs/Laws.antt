@@ -9,8 +9,8 @@ use lib.Seq.{drop-drop, drop-cons, set_at, length-take-le, take_at, drop_at, tak
 use borrow.Rule.Slice.PartMut.{put_mid}
 use mathlib.Core.Logic.{⊎_elim}
 use native.Mathlib.Nat.{eq-or-lt_of_le, not-suc-le-zero, le_of_suc-le-suc}
-use mathlib.Core.Bool.{Bool, true, false}
-use Rattle.buffer.specs.Put.{over, put_at, build, byte_if, lead}
+use Rattle.std.specs.Prelude.{Option, Some, None}
+use Rattle.buffer.specs.Put.{over, put_at, build, drawn}
 
 pub length_over : (l d : List ℕ) → length l ≤ length d → length (over l d) ≡ length d
 unfolding over
@@ -114,25 +114,17 @@ lent_back p a l ys h e =
     ap (λ (t : List ℕ). take a p ++ (ys ++ t)) (drop_of_length-le (drop a p) {i = length p - a} (omega (arith, length-drop a p)))
     ∙ ap (λ (t : List ℕ). take a p ++ t) (append-nil ys ∙ e ∙ ap (λ (t : List ℕ). l ++ drop (length l) t) (lent p a))
 
--- a byte where it is drawn
-pub edge-put : (d : List ℕ) (at b : ℕ) (drawn : Bool) → drawn ≡ true → at < length d → set d at b ≡ put_at d at (byte_if drawn b)
-edge-put d at b drawn e h = rw e (put_one d at b h)
+-- a character that is drawn, if there is one
+pub edge-put : (d : List ℕ) (at b : ℕ) (edge : Option ℕ) → edge ≡ Some b → at < length d → set d at b ≡ put_at d at (drawn edge)
+edge-put d at b edge e h = rw e (put_one d at b h)
 
-pub edge-one : (b : ℕ) (drawn : Bool) → drawn ≡ true → length (byte_if drawn b) ≡ 1
-edge-one b drawn e = rw e
+pub edge-one : (b : ℕ) (edge : Option ℕ) → edge ≡ Some b → length (drawn edge) ≡ 1
+edge-one b edge e = rw e
 
-pub edge_none : (b : ℕ) (drawn : Bool) → drawn ≡ false → byte_if drawn b ≡ []
-edge_none b drawn e = rw e
-
-pub edge_skip : (d : List ℕ) (at b : ℕ) (drawn : Bool) → drawn ≡ false → d ≡ put_at d at (byte_if drawn b)
-edge_skip d at b drawn e = rw e (sym (put-nil d at))
+pub edge_skip : (d : List ℕ) (at : ℕ) (edge : Option ℕ) → edge ≡ None → d ≡ put_at d at (drawn edge)
+edge_skip d at edge e = rw e (sym (put-nil d at))
 
 -- two pieces, one after the other
 pub two : (d : List ℕ) (at : ℕ) (a b d₁ d₂ : List ℕ) (p : ℕ) → d₁ ≡ put_at d at a → d₂ ≡ put_at d₁ p b → at + length a ≡ p → at ≤ length d → d₂ ≡ put_at
     d at (a ++ b)
 two d at a b d₁ d₂ p e₁ e₂ x h = e₂ ∙ ap (λ (t : List ℕ). put_at t p b) e₁ ∙ put-put d at a b p x h
-
--- a junction before a part that isn't the first
-pub lead-some : (i : ℕ) (joined : Bool) → (i ≡ 0 → ⊥) → joined ≡ lead i joined
-lead-some zero joined h = absurd (h refl)
-lead-some (suc i) joined h = refl

@@ -1,5 +1,5 @@
 -- What is written where. Assumes nothing.
-use Rattle.std.specs.Prelude.{ℕ, zero, suc, List, [], ◌∷◌, ◌++◌, Bool, true, false, length, take, drop}
+use Rattle.std.specs.Prelude.{ℕ, zero, suc, List, [], ◌∷◌, ◌++◌, Option, Some, None, length, take, drop}
 
 -- d with the list l written over its start
 unfoldable pub over : List ℕ → List ℕ → List ℕ
@@ -15,12 +15,12 @@ abbrev pub build : (ℕ → List ℕ) → ℕ → List ℕ
 build g zero = []
 build g (suc n) = build g n ++ g n
 
--- a byte where it is drawn
-abbrev pub byte_if : Bool → ℕ → List ℕ
-byte_if true b = b ∷ []
-byte_if false b = []
+-- a character that is drawn, if there is one
+abbrev pub drawn : Option ℕ → List ℕ
+drawn (Some b) = b ∷ []
+drawn None = []
 
 -- a junction stands before every visible column but the first
-abbrev pub lead : ℕ → Bool → Bool
-lead zero joined = false
-lead (suc i) joined = joined
+abbrev pub lead : ℕ → Option ℕ → Option ℕ
+lead zero junction = None
+lead (suc i) junction = junction

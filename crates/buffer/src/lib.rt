@@ -2,7 +2,7 @@
 #![tactic(auto)]
 
 ghost use Rattle.std.specs.Prelude.{◌≡◌, ◌+◌, ◌≤◌, length, replicate};
-ghost use Rattle.buffer.specs.Put.{put_at, byte_if, lead};
+ghost use Rattle.buffer.specs.Put.{put_at, drawn, lead};
 
 // Writes a byte n times; gives the place after. One byte, as most paddings are, is stored by itself: the loop is compiled to a call.
 pub fn fill(dst: &mut [u8], at: usize, n: usize, b: u8) -> usize
@@ -32,25 +32,24 @@ pub fn copy(dst: &mut [u8], at: usize, src: &[u8]) -> usize
     at + src.len()
 }
 
-// Writes a byte where it is drawn; gives the place after.
-pub fn draw_edge(dst: &mut [u8], at: usize, drawn: bool, b: u8) -> usize
-    requires { at + length (byte_if drawn b) ≤ length dst.old }
-    ensures value { result ≡ at + length (byte_if drawn b) }
-    ensures dst_after { dst.new ≡ put_at dst.old at (byte_if drawn b) }
+// Writes a character, if one is drawn; gives the place after.
+pub fn draw_edge(dst: &mut [u8], at: usize, edge: Option<u8>) -> usize
+    requires { at + length (drawn edge) ≤ length dst.old }
+    ensures value { result ≡ at + length (drawn edge) }
+    ensures dst_after { dst.new ≡ put_at dst.old at (drawn edge) }
 {
-    if drawn {
-        dst[at] = b;
-        return at + 1;
+    match edge {
+        Some(b) => {
+            dst[at] = b;
+            at + 1
+        }
+        None => at,
     }
-    at
 }
 
 // A junction stands before every visible column but the first.
-pub fn joins_before(i: usize, joined: bool) -> bool
-    ensures { result ≡ lead i joined }
+pub fn joins_before(i: usize, junction: Option<u8>) -> Option<u8>
+    ensures { result ≡ lead i junction }
 {
-    if i == 0 {
-        return false;
-    }
-    joined
+    if i == 0 { None } else { junction }
 }

@@ -7,6 +7,8 @@ use mathlib.Core.Bool.{Bool, true, false}
 use native.Mathlib.Numerals.{add-one}
 use native.Mathlib.Omega.{arith}
 use lib.ListN.{length, get_or, replicate, length-append, length-map, get_or-append}
+use Rattle.std.specs.Prelude.{Option}
+use Rattle.std.specs.Bool.{then_some}
 use Rattle.rules.specs.declared.Column.{Column}
 use Rattle.rules.specs.Text.{or_else}
 use Rattle.rules.specs.Sheet.{Table, most_columns, no_column, column_at, is_hidden}
@@ -63,26 +65,18 @@ glyph_is (suc c) r e = e
 
 -- ---- the look of a style
 
-pub rule_style_is : (S : List ℕ) (k l f j r : ℕ) (opens joined closes : Bool) → l ≡ glyph (glyph_at S k) → f ≡ glyph (glyph_at S (k + 1)) → j ≡ glyph
-    (glyph_at S (k + 2)) → r ≡ glyph (glyph_at S (k + 3))
-    → opens ≡ any_left S → closes ≡ any_right S → record {
-      left = l;
-      fill = f;
-      junction = j;
-      right = r;
-      opens = opens;
-      joined = joined;
-      closes = closes;
-    } ≡ rule_style_of S joined k
+pub rule_style_is : (S : List ℕ) (k x f y z : ℕ) (opens joined closes : Bool) (l j r : Option ℕ) → x ≡ glyph (glyph_at S k)
+    → f ≡ glyph (glyph_at S (k + 1)) → y ≡ glyph (glyph_at S (k + 2)) → z ≡ glyph (glyph_at S (k + 3)) → opens ≡ any_left S → closes ≡ any_right S
+    → l ≡ then_some opens x → j ≡ then_some joined y → r ≡ then_some closes z
+    → record { left = l; fill = f; junction = j; right = r } ≡ rule_style_of S joined k
 unfolding rule_style_of
-rule_style_is S k l f j r opens joined closes a b c d e g = rw (a, b, c, d, e, g)
+rule_style_is S k x f y z opens joined closes l j r a b c d e g p q o = rw (p, q, o, a, b, c, d, e, g)
 
-pub text_style_is : (S : List ℕ) (k l j r : ℕ) (opens joined closes : Bool) → l ≡ glyph (glyph_at S k) → j ≡ glyph (glyph_at S (k + 1)) → r ≡ glyph
-    (glyph_at S (k + 2))
-    → opens ≡ any_left S → joined ≡ any_junction S → closes ≡ any_right S → record
-    { left = l; junction = j; right = r; opens = opens; joined = joined; closes = closes } ≡ text_style_of S k
+pub text_style_is : (S : List ℕ) (k x y z : ℕ) (opens joined closes : Bool) (l j r : Option ℕ) → x ≡ glyph (glyph_at S k)
+    → y ≡ glyph (glyph_at S (k + 1)) → z ≡ glyph (glyph_at S (k + 2)) → opens ≡ any_left S → joined ≡ any_junction S → closes ≡ any_right S
+    → l ≡ then_some opens x → j ≡ then_some joined y → r ≡ then_some closes z → record { left = l; junction = j; right = r } ≡ text_style_of S k
 unfolding text_style_of
-text_style_is S k l j r opens joined closes a b c d e f = rw (a, b, c, d, e, f)
+text_style_is S k x y z opens joined closes l j r a b c d e f p q o = rw (p, q, o, a, b, c, d, e, f)
 
 -- which edges the style record says are drawn
 pub edges_are : (S : List ℕ) (y : TableStyle) (opens joined closes : Bool) → y ≡ style_from S → opens ≡ any_left (bytes_of y) → joined ≡ any_junction

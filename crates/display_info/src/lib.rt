@@ -82,13 +82,10 @@ fn rule_style(
     ensures { result ≡ rule_style_of b joined k }
 {
     RuleStyle {
-        left: glyph(b[k]),
+        left: opens.then_some(glyph(b[k])),
         fill: glyph(b[k + 1]),
-        junction: glyph(b[k + 2]),
-        right: glyph(b[k + 3]),
-        opens,
-        joined,
-        closes,
+        junction: joined.then_some(glyph(b[k + 2])),
+        right: closes.then_some(glyph(b[k + 3])),
     }
 }
 
@@ -104,12 +101,9 @@ fn text_style(
     ensures { result ≡ text_style_of b k }
 {
     TextStyle {
-        left: glyph(b[k]),
-        junction: glyph(b[k + 1]),
-        right: glyph(b[k + 2]),
-        opens,
-        joined,
-        closes,
+        left: opens.then_some(glyph(b[k])),
+        junction: joined.then_some(glyph(b[k + 1])),
+        right: closes.then_some(glyph(b[k + 2])),
     }
 }
 

@@ -10,7 +10,7 @@ use native.Mathlib.Nat.{eq-or-lt_of_le}
 use lib.ListN.{length, set, length-set, length-append}
 use lib.Seq.{get_or-set_same, get_or-set_other}
 use Rattle.rules.specs.Sheet.{most_columns}
-use Rattle.buffer.specs.Put.{over, put_at, build, byte_if, lead}
+use Rattle.buffer.specs.Put.{over, put_at, build, drawn, lead}
 use Rattle.buffer.proofs.Laws.{put-nil, put_one, over-put-zero, build-room, build_more, two}
 use Rattle.row.specs.Pending.{no_pending, pending_at, Ready, any_found}
 use Rattle.row.specs.View.{View, visible_at}
@@ -63,31 +63,31 @@ module _ (s : List ℕ) (view : View) where
 -- ---- lengths
 
 module _ (s : List ℕ) (view : View) (ind : List ℕ) (style : TextStyle) (ts : List Pending) (last : Bool) where
-  pub line_is : line_bytes s view ind style ts last ≡ byte_if style.opens style.left ++
-      (build (line_piece s view ind style ts last) (length view) ++ (byte_if style.closes style.right ++ (10 ∷ [])))
+  pub line_is : line_bytes s view ind style ts last ≡ drawn style.left ++
+      (build (line_piece s view ind style ts last) (length view) ++ (drawn style.right ++ (10 ∷ [])))
   unfolding line_bytes
   line_is = refl
 
   pub line-length : length (line_bytes s view ind style ts last)
-      ≡ length (byte_if style.opens style.left) + length (build (line_piece s view ind style ts last) (length view)) + length
-      (byte_if style.closes style.right) + 1
+      ≡ length (drawn style.left) + length (build (line_piece s view ind style ts last) (length view)) + length
+      (drawn style.right) + 1
   unfolding line_bytes
   line-length =
-      let l = byte_if style.opens style.left in
+      let l = drawn style.left in
       let b = build (line_piece s view ind style ts last) (length view) in
-      let r = byte_if style.closes style.right in
+      let r = drawn style.right in
       omega (arith, length-append l (b ++ (r ++ (10 ∷ []))), length-append b (r ++ (10 ∷ [])), length-append r (10 ∷ []))
 
   -- the whole, once its last byte is stored
-  pub line_whole : (d d₁ d₂ d₃ : List ℕ) (p q e : ℕ) → d₁ ≡ put_at d 0 (byte_if style.opens style.left) → d₂ ≡ put_at d₁ p
+  pub line_whole : (d d₁ d₂ d₃ : List ℕ) (p q e : ℕ) → d₁ ≡ put_at d 0 (drawn style.left) → d₂ ≡ put_at d₁ p
       (build (line_piece s view ind style ts last) (length view))
-      → d₃ ≡ put_at d₂ q (byte_if style.closes style.right) → length (byte_if style.opens style.left) ≡ p → p + length
+      → d₃ ≡ put_at d₂ q (drawn style.right) → length (drawn style.left) ≡ p → p + length
       (build (line_piece s view ind style ts last) (length view)) ≡ q
-      → q + length (byte_if style.closes style.right) ≡ e → e < length d₃ → set d₃ e 10 ≡ over (line_bytes s view ind style ts last) d
+      → q + length (drawn style.right) ≡ e → e < length d₃ → set d₃ e 10 ≡ over (line_bytes s view ind style ts last) d
   line_whole d d₁ d₂ d₃ p q e e₁ e₂ e₃ x y z h =
-      let l = byte_if style.opens style.left in
+      let l = drawn style.left in
       let b = build (line_piece s view ind style ts last) (length view) in
-      let r = byte_if style.closes style.right in
+      let r = drawn style.right in
       let f : d₂ ≡ put_at d 0 (l ++ b) = two d 0 l b d₁ d₂ p e₁ e₂ (omega arith) (omega arith) in
       let g : d₃ ≡ put_at d 0 ((l ++ b) ++ r) = two d 0 (l ++ b) r d₂ d₃ q f e₃ (omega (arith, length-append l b)) (omega arith) in
       let i : set d₃ e 10 ≡ put_at d 0 (((l ++ b) ++ r) ++ (10 ∷ [])) =
@@ -117,27 +117,27 @@ module _ (s : List ℕ) (view : View) (ind : List ℕ) (style : TextStyle) (ts�
     pub column_ready : Ready s (visible_at view i) (pending_at ts i)
     column_ready = ready
 
-    piece-at : byte_if (lead i style.joined) style.junction ++ column_piece s (visible_at view i) (pending_at ts i) ind last ≡ line_piece s view ind
+    piece-at : drawn (lead i style.junction) ++ column_piece s (visible_at view i) (pending_at ts i) ind last ≡ line_piece s view ind
         style ts₀ last i
     unfolding line_piece
     piece-at = rw (D.passing.todo i (omega arith))
 
-    here-length : length (line_piece s view ind style ts₀ last i) ≡ length (byte_if (lead i style.joined) style.junction)
+    here-length : length (line_piece s view ind style ts₀ last i) ≡ length (drawn (lead i style.junction))
         + length (column_piece s (visible_at view i) (pending_at ts i) ind last)
     here-length =
         sym (ap length piece-at)
-        ∙ length-append (byte_if (lead i style.joined) style.junction) (column_piece s (visible_at view i) (pending_at ts i) ind last)
+        ∙ length-append (drawn (lead i style.junction)) (column_piece s (visible_at view i) (pending_at ts i) ind last)
 
     pub drawing-room : at₀ + length (build (line_piece s view ind style ts₀ last) (length view)) ≤ length page₀
-        → at + (length (byte_if (lead i style.joined) style.junction) + length (column_piece s (visible_at view i) (pending_at ts i) ind last))
+        → at + (length (drawn (lead i style.junction)) + length (column_piece s (visible_at view i) (pending_at ts i) ind last))
         ≤ length page
     drawing-room r = omega (arith, D.place, D.size, here-length, build-room (line_piece s view ind style ts₀ last) i (length view) h)
 
     pub drawing-on : (page₁ : List ℕ) (u : Pending) (at₁ : ℕ) (m : Bool) → at₀ + length (build (line_piece s view ind style ts₀ last) (length view)) ≤
         length page₀
-        → at₁ ≡ at + (length (byte_if (lead i style.joined) style.junction) + length (column_piece s (visible_at view i) (pending_at ts i) ind last))
+        → at₁ ≡ at + (length (drawn (lead i style.junction)) + length (column_piece s (visible_at view i) (pending_at ts i) ind last))
         → After s (visible_at view i).width (pending_at ts i) u
-        → page₁ ≡ put_at page at (byte_if (lead i style.joined) style.junction ++ column_piece s (visible_at view i) (pending_at ts i) ind last)
+        → page₁ ≡ put_at page at (drawn (lead i style.junction) ++ column_piece s (visible_at view i) (pending_at ts i) ind last)
         → length page₁ ≡ length page → m ≡ (more || u.line.found) → Drawing s view ind style ts₀ last page₀ at₀ page₁ (set ts i u) m at₁ (i + 1)
     drawing-on page₁ u at₁ m r e a w l x =
         let g = line_piece s view ind style ts₀ last in

@@ -13,7 +13,7 @@ use Rattle.rules.specs.Style.{glyph_at, any_left, any_right, any_junction}
 use Rattle.rules.specs.Widths.{visible}
 use Rattle.rules.specs.Page.{area_at, cell_lines, wrapped, height, line_of, text_line}
 use Rattle.laws.proofs.Lists.{up_from-last}
-use Rattle.buffer.specs.Put.{build, byte_if, lead}
+use Rattle.buffer.specs.Put.{build, drawn, lead}
 use Rattle.row.specs.Alignment.{of_code}
 use Rattle.row.specs.View.{View, visible_at, shown_of, number_of, Views}
 use Rattle.row.specs.Pending.{pending_at, any_found}
@@ -48,14 +48,14 @@ module _ (s : List ℕ) (t : Table) (ws : List ℕ) (r : Row) (view : View) (W :
   unfolding line_bytes line_piece styled line_of
   line-styled y e =
       let g : ℕ → List ℕ = λ i. area_at t ws r j (number_of t i) in
-      let p : build (λ i. byte_if (lead i y.joined) y.junction ++ column_piece s (visible_at view i) (pending_at ts i) t.indicator
+      let p : build (λ i. drawn (lead i y.junction) ++ column_piece s (visible_at view i) (pending_at ts i) t.indicator
       (last_of r.limit j)) (length view)
-      ≡ build (λ i. byte_if (lead i y.joined) y.junction ++ g i) (length view) =
-      build-same _ _ (length view) (λ i h. ap (λ l. byte_if (lead i y.joined) y.junction ++ l)
+      ≡ build (λ i. drawn (lead i y.junction) ++ g i) (length view) =
+      build-same _ _ (length view) (λ i h. ap (λ l. drawn (lead i y.junction) ++ l)
       (piece-area s t ws r view W j i (pending_at ts i) h (R.each i h) e)) in
       let q : map (area_at t ws r j) (visible t) ≡ map g (up_from 0 (length view)) = map_numbered (area_at t ws r j) 0 (visible t) ∙ ap
       (λ n. map g (up_from 0 n)) (sym W.count) in
-      rw (p, build-joined y.joined y.junction g (length view), q) (simp append_assoc)
+      rw (p, build-joined y.junction g (length view), q) (simp append_assoc)
 
 -- ---- a row's height
 

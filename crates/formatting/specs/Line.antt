@@ -1,7 +1,7 @@
 -- A text line, by what stands ready for each visible column. Assumes nothing.
 use Rattle.std.specs.Prelude.{ℕ, ◌≤◌, ◌<◌, ◌≡◌, List, [], ◌∷◌, ◌++◌, Bool, length}
 use Rattle.rules.specs.Sheet.{most_columns}
-use Rattle.buffer.specs.Put.{build, byte_if, lead}
+use Rattle.buffer.specs.Put.{build, drawn, lead}
 use Rattle.row.specs.declared.Pending.{Pending}
 use Rattle.row.specs.View.{View, visible_at}
 use Rattle.row.specs.Pending.{pending_at, Ready}
@@ -10,12 +10,12 @@ use Rattle.formatting.specs.declared.content_format.TextStyle.{TextStyle}
 
 -- what visible column i adds, ind being the indicator
 unfoldable pub line_piece : List ℕ → View → List ℕ → TextStyle → List Pending → Bool → ℕ → List ℕ
-line_piece s view ind style ts last i = byte_if (lead i style.joined) style.junction ++ column_piece s (visible_at view i) (pending_at ts i) ind last
+line_piece s view ind style ts last i = drawn (lead i style.junction) ++ column_piece s (visible_at view i) (pending_at ts i) ind last
 
 -- the line with its 0A
 unfoldable pub line_bytes : List ℕ → View → List ℕ → TextStyle → List Pending → Bool → List ℕ
 line_bytes s view ind style ts last =
-    byte_if style.opens style.left ++ (build (line_piece s view ind style ts last) (length view) ++ (byte_if style.closes style.right ++ (10 ∷ [])))
+    drawn style.left ++ (build (line_piece s view ind style ts last) (length view) ++ (drawn style.right ++ (10 ∷ [])))
 
 -- every visible column has a width, and its cell stands in the sheet
 pub record ReadyAll (s : List ℕ) (view : View) (ts : List Pending) : Type 0 where

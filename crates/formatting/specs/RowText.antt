@@ -8,7 +8,7 @@ use Rattle.rules.specs.Page.{line_of, areas, height}
 use Rattle.table.specs.Held.{table_of}
 use Rattle.table.specs.Walk.{rows_end, first_row}
 use Rattle.table.specs.declared.records.Rows.{Rows}
-use Rattle.buffer.specs.Put.{byte_if}
+use Rattle.buffer.specs.Put.{drawn}
 use Rattle.row.specs.View.{View, Views}
 use Rattle.row.specs.Height.{added_up_to}
 use Rattle.row.specs.Open.{CellKnown, Rising, UsableAll}
@@ -20,7 +20,7 @@ use Rattle.formatting.specs.declared.content_format.Entered.{Entered}
 
 -- a text line of these parts
 unfoldable pub styled : TextStyle → List (List ℕ) → List ℕ
-styled y ps = line_of (byte_if y.opens y.left) (byte_if y.joined y.junction) (byte_if y.closes y.right) ps
+styled y ps = line_of (drawn y.left) (drawn y.junction) (drawn y.right) ps
 
 -- a row's lines, and how many they are
 unfoldable pub row_lines : List ℕ → TextStyle → Row → List (List ℕ)

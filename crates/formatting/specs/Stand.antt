@@ -1,5 +1,6 @@
 -- What is pending for a row, against the document's rules for it. Assumes nothing.
 use Rattle.std.specs.Prelude.{ℕ, zero, suc, ◌+◌, ◌<◌, ◌≡◌, List, Bool, true, false, length, eqb, ltb}
+use Rattle.std.specs.Bool.{then_some}
 use Rattle.rules.specs.Sheet.{Row, Table, column_at, cell_at, most_columns}
 use Rattle.rules.specs.Style.{glyph_at, glyph, any_left, any_right, any_junction}
 use Rattle.rules.specs.Wrap.{delimiter_of}
@@ -33,10 +34,7 @@ last_of (suc h) j = eqb (j + 1) (suc h)
 -- the characters of text lines, whose three begin at k
 unfoldable pub text_style_of : List ℕ → ℕ → TextStyle
 text_style_of S k = record {
-  left = glyph (glyph_at S k);
-  junction = glyph (glyph_at S (k + 1));
-  right = glyph (glyph_at S (k + 2));
-  opens = any_left S;
-  joined = any_junction S;
-  closes = any_right S;
+  left = then_some (any_left S) (glyph (glyph_at S k));
+  junction = then_some (any_junction S) (glyph (glyph_at S (k + 1)));
+  right = then_some (any_right S) (glyph (glyph_at S (k + 2)));
 }

@@ -5,7 +5,7 @@ ghost use Rattle.rules.specs.Text.{text_width};
 ghost use Rattle.rules.specs.Sheet.{most_columns};
 ghost use Rattle.rules.specs.Page.{before};
 ghost use Rattle.table.specs.Walk.{first_row};
-ghost use Rattle.buffer.specs.Put.{over, put_at, byte_if};
+ghost use Rattle.buffer.specs.Put.{over, put_at, drawn};
 ghost use Rattle.cells.specs.Cell.{Inside};
 ghost use Rattle.formatting.specs.Area.{area_in, marks_shown, LineIn, ShownIs, shown_text, After, column_piece};
 ghost use Rattle.row.specs.Alignment.{code_of};
@@ -190,19 +190,18 @@ fn draw_column(
     t: Pending,
     indicator: &[u8],
     last: bool,
-    joins: bool,
-    junction: u8,
+    junction: Option<u8>,
 ) -> Drawn
     requires ready { Ready sheet.now v t × Plain indicator.now }
-    requires last_in_bounds { at + (length (byte_if joins junction) + length (column_piece sheet.now v t indicator.now last)) ≤ length page.old }
-    ensures place { (result.at ≡ at + (length (byte_if joins junction) + length (column_piece sheet.now v t indicator.now last)))
+    requires last_in_bounds { at + (length (drawn junction) + length (column_piece sheet.now v t indicator.now last)) ≤ length page.old }
+    ensures place { (result.at ≡ at + (length (drawn junction) + length (column_piece sheet.now v t indicator.now last)))
         × After sheet.now v.width t result.pending }
     ensures page_after { page.new ≡ put_at page.old at
-        (byte_if joins junction ++ column_piece sheet.now v t indicator.now last) }
+        (drawn junction ++ column_piece sheet.now v t indicator.now last) }
 {
     let next = advance(sheet, v.width, t);
     let cut = last & next.line.found;
-    let p = buffer::draw_edge(page, at, joins, junction);
+    let p = buffer::draw_edge(page, at, junction);
     let q = draw_cell(page, p, sheet, v, t, indicator, cut);
     Drawn {
         at: q,
@@ -210,15 +209,12 @@ fn draw_column(
     }
 }
 
-// The characters of a text line, and which of them are drawn.
+// The characters of a text line that are drawn.
 #[derive(Clone, Copy)]
 pub struct TextStyle {
-    pub left: u8,
-    pub junction: u8,
-    pub right: u8,
-    pub opens: bool,
-    pub joined: bool,
-    pub closes: bool,
+    pub left: Option<u8>,
+    pub junction: Option<u8>,
+    pub right: Option<u8>,
 }
 
 // What was written, and whether a cell has a line after it.
@@ -249,25 +245,15 @@ fn write_line(
         style state.old last) page.old }
 {
     let mut more = false;
-    let mut at = buffer::draw_edge(page, 0, style.opens, style.left);
+    let mut at = buffer::draw_edge(page, 0, style.left);
     for (i, &v) in columns.iter().enumerate() {
-        let joins = buffer::joins_before(i, style.joined);
-        let d = draw_column(
-            page,
-            at,
-            sheet,
-            v,
-            state[i],
-            indicator,
-            last,
-            joins,
-            style.junction,
-        );
+        let junction = buffer::joins_before(i, style.junction);
+        let d = draw_column(page, at, sheet, v, state[i], indicator, last, junction);
         at = d.at;
         more |= d.pending.line.found;
         state[i] = d.pending;
     }
-    let e = buffer::draw_edge(page, at, style.closes, style.right);
+    let e = buffer::draw_edge(page, at, style.right);
     page[e] = 10;
     Lined {
         written: e + 1,

@@ -2,10 +2,12 @@
 use Prim.Native.Nat.{ℕ, zero, suc, ◌+◌, ◌-◌, ◌≤◌, ◌<◌}
 use mathlib.Core.Path.{◌≡◌, refl, sym, ap, ◌∙◌}
 use mathlib.Core.List.{List, [], ◌∷◌, ◌++◌, map}
-use mathlib.Core.Bool.{cond}
+use mathlib.Core.Bool.{Bool, true, false, cond}
 use native.Mathlib.Omega.{arith}
 use native.Mathlib.Numerals.{add-one}
 use lib.ListN.{length, get_or}
+use Rattle.std.specs.Prelude.{is_some}
+use Rattle.std.specs.Bool.{then_some}
 use Rattle.rules.specs.Text.{sum, greatest, up_from, one_if}
 use Rattle.rules.specs.Sheet.{Cell, Row, Table, cell_at, no_cell}
 use Rattle.rules.specs.Style.{any_left, any_right, any_junction, borders_of}
@@ -74,20 +76,29 @@ module _ (t : Table) (ws : List ℕ) (view : View) (W : Views t ws view) where
   width-sum = up_to (length view) (omega arith) ∙ sym (ap sum (map_numbered (visible_width t ws) 0 (visible t) ∙ ap (λ n. map here (up_from 0 n))
       (sym W.count)))
 
+-- a character is there where it is drawn
+some-drawn : (b : Bool) (c : ℕ) → is_some (then_some b c) ≡ b
+some-drawn true c = refl
+some-drawn false c = refl
+
 -- the lengths from their parts
-pub lengths_are : (s : List ℕ) (p : Page) → Opened s p → (a b i j n : ℕ) → a ≡ cond p.styles.body.rule.opens 1 0 → b
-    ≡ cond p.styles.body.rule.closes 1 0
-    → i ≡ length p.columns.items - 1 → j ≡ cond p.styles.body.rule.joined i 0 → n ≡ width_up_to p.columns.items (length p.columns.items) → LengthsAre s
+pub lengths_are : (s : List ℕ) (p : Page) → Opened s p → (a b i j n : ℕ) → a ≡ cond (is_some p.styles.body.rule.left) 1 0 → b
+    ≡ cond (is_some p.styles.body.rule.right) 1 0
+    → i ≡ length p.columns.items - 1 → j ≡ cond (is_some p.styles.body.rule.junction) i 0 → n ≡ width_up_to p.columns.items (length p.columns.items) → LengthsAre s
     (record { line = a + b + j + n; border = a + b + i + n })
 unfolding line_length border_length borders borders_of styles_of rule_style_of
 lengths_are s p O a b i j n ea eb ei ej en =
     let S = (table_of s).style in
     let L = limits_of s O.passes in
     let w : n ≡ sum (visible_widths (table_of s) (widths_in s)) = en ∙ width-sum (table_of s) (widths_in s) p.columns.items O.views in
-    let x : a ≡ one_if (any_left S) = ea ∙ ap (λ (l : LineStyles). cond l.body.rule.opens 1 0) O.styles ∙ one_if-cond (any_left S) in
-    let y : b ≡ one_if (any_right S) = eb ∙ ap (λ (l : LineStyles). cond l.body.rule.closes 1 0) O.styles ∙ one_if-cond (any_right S) in
+    let left : is_some p.styles.body.rule.left ≡ any_left S = ap (λ (l : LineStyles). is_some l.body.rule.left) O.styles ∙ some-drawn (any_left S) _ in
+    let right : is_some p.styles.body.rule.right ≡ any_right S = ap (λ (l : LineStyles). is_some l.body.rule.right) O.styles ∙ some-drawn (any_right S) _ in
+    let inner : is_some p.styles.body.rule.junction ≡ any_junction S = ap (λ (l : LineStyles). is_some l.body.rule.junction) O.styles
+    ∙ some-drawn (any_junction S) _ in
+    let x : a ≡ one_if (any_left S) = ea ∙ ap (λ k. cond k 1 0) left ∙ one_if-cond (any_left S) in
+    let y : b ≡ one_if (any_right S) = eb ∙ ap (λ k. cond k 1 0) right ∙ one_if-cond (any_right S) in
     let v : i ≡ length (visible (table_of s)) - 1 = ei ∙ ap (λ k. k - 1) O.views.count in
-    let u : j ≡ cond (any_junction S) (length (visible (table_of s)) - 1) 0 = ej ∙ ap (λ (l : LineStyles). cond l.body.rule.joined i 0) O.styles
+    let u : j ≡ cond (any_junction S) (length (visible (table_of s)) - 1) 0 = ej ∙ ap (λ k. cond k i 0) inner
     ∙ ap (λ k. cond (any_junction S) k 0) v in
     let e : a + b + j + n ≡ line_length (table_of s) (widths_in s) = rw (x, y, u, w) in
     let f : a + b + i + n ≡ border_length (table_of s) (widths_in s) = rw (x, y, v, w) in

@@ -41,9 +41,9 @@ pub fn measure(sheet: &[u8], p: &Page) -> Lengths
     let style = p.styles.body.rule;
     let columns = p.columns.as_slice();
     let inside = columns.len().saturating_sub(1);
-    let edges = where_drawn(style.opens, 1) + where_drawn(style.closes, 1);
+    let edges = where_drawn(style.left.is_some(), 1) + where_drawn(style.right.is_some(), 1);
     let sum = visible_width(columns);
-    let line = edges + where_drawn(style.joined, inside) + sum;
+    let line = edges + where_drawn(style.junction.is_some(), inside) + sum;
     let border = edges + inside + sum;
     Lengths { line, border }
 }

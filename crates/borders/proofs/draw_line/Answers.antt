@@ -11,14 +11,14 @@ loop-i-init c = ruling_begins c.args.columns.now c.args.style c.draw_edge-at.new
 
 pub draw_fill-at-requires-clause-right_in_bounds : goal.draw_fill-at-requires-clause-right_in_bounds
 draw_fill-at-requires-clause-right_in_bounds c =
-    rw c.joins_before-joins.ensures
+    rw c.joins_before-junction.ensures
     (ruling-room c.args.columns.now c.args.style c.draw_edge-at.new.dst c.draw_edge-at.result c.loop-i.page c.loop-i.at c.loop-i.i c.loop-i.invariant
     c.loop-i-test.true
     (omega (arith, c.requires.style_in_bounds, c.draw_edge-at.ensures.value, c.draw_edge-at.auto.dst, rule-length c.args.columns.now c.args.style)))
 
 pub loop-i-preserved : goal.loop-i-preserved
 loop-i-preserved c =
-    let j = c.joins_before-joins.ensures in
+    let j = c.joins_before-junction.ensures in
     ruling-on c.args.columns.now c.args.style c.draw_edge-at.new.dst c.draw_edge-at.result c.loop-i.page c.loop-i.at c.loop-i.i c.loop-i.invariant
     c.loop-i-test.true c.draw_fill-at.new.page c.draw_fill-at.result
     (omega (arith, c.requires.style_in_bounds, c.draw_edge-at.ensures.value, c.draw_edge-at.auto.dst, rule-length c.args.columns.now c.args.style))

@@ -1,15 +1,11 @@
--- `buffer::draw_edge` meets its contract. Assumes nothing.
 use Rattle.std.proofs.Common.{arith}
 use Rattle.buffer.proofs.Laws.{edge-one, edge-put, edge_skip}
 use Rattle.buffer.proofs.draw_edge.Goals as goal
 
-pub returns-then-drawn-clause-dst_after : goal.returns-then-drawn-clause-dst_after
-returns-then-drawn-clause-dst_after c =
+pub returns-in-Some-clause-dst_after : goal.returns-in-Some-clause-dst_after
+returns-in-Some-clause-dst_after c =
     let a = c.args in
-    let one = edge-one a.b a.drawn c.if-drawn.true in
-    edge-put a.dst.now a.at a.b a.drawn c.if-drawn.true (omega (arith, c.requires, one))
+    edge-put a.dst.now a.at c.in-Some.b a.edge c.in-Some.is (omega (arith, c.requires, edge-one c.in-Some.b a.edge c.in-Some.is))
 
-pub returns-clause-dst_after : goal.returns-clause-dst_after
-returns-clause-dst_after c =
-    let a = c.args in
-    edge_skip a.dst.now a.at a.b a.drawn c.if-drawn.false
+pub returns-in-None-clause-dst_after : goal.returns-in-None-clause-dst_after
+returns-in-None-clause-dst_after c = edge_skip c.args.dst.now c.args.at c.args.edge c.in-None.is

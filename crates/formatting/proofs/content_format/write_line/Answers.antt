@@ -27,7 +27,7 @@ draw_column-d-requires c =
             c.draw_edge-at.result R c.loop-i.page c.loop-i.state c.loop-i.more c.loop-i.at c.loop-i.i D h,
         c.requires.ready_all.1,
       );
-      last_in_bounds = rw c.joins_before-joins.ensures
+      last_in_bounds = rw c.joins_before-junction.ensures
           (drawing-room c.args.sheet.now c.args.columns.now c.args.indicator.now c.args.style c.args.state.now c.args.last c.draw_edge-at.new.dst
           c.draw_edge-at.result R c.loop-i.page c.loop-i.state c.loop-i.more c.loop-i.at c.loop-i.i D h
           (omega (
@@ -41,7 +41,7 @@ draw_column-d-requires c =
 
 pub loop-i-preserved : goal.loop-i-preserved
 loop-i-preserved c =
-    let j = c.joins_before-joins.ensures in
+    let j = c.joins_before-junction.ensures in
     drawing-on c.args.sheet.now c.args.columns.now c.args.indicator.now c.args.style c.args.state.now c.args.last c.draw_edge-at.new.dst
     c.draw_edge-at.result c.requires.ready_all.0 c.loop-i.page c.loop-i.state c.loop-i.more c.loop-i.at c.loop-i.i c.loop-i.invariant
     c.loop-i-test.true c.draw_column-d.new.page c.draw_column-d.result.pending c.draw_column-d.result.at _
