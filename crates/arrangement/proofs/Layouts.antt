@@ -4,8 +4,10 @@ use mathlib.Core.Path.{◌≡◌, refl, sym, ap, ◌∙◌}
 use mathlib.Core.List.{List, [], ◌∷◌, ◌++◌, map, append_assoc}
 use mathlib.Core.Bool.{Bool, false}
 use native.Mathlib.Omega.{arith}
-use lib.ListN.{length, get_or, set, replicate, length-map, length-append, get_or-append}
-use lib.Seq.{set_at}
+use lib.ListN.{length, get_or, set, replicate, take, length-map, length-append}
+use lib.Seq.{set_at, get_or-take}
+use Rattle.arrayvec.specs.ArrayVec.{ArrayVec}
+use Rattle.rules.specs.declared.Column.{Column}
 use Rattle.rules.specs.Text.{up_from}
 use Rattle.rules.specs.Sheet.{Table, most_columns, no_column, column_at, is_hidden}
 use Rattle.rules.specs.Limits.{TableLimits}
@@ -21,7 +23,6 @@ use Rattle.style.specs.declared.table.ContentArrangement.{ContentArrangement}
 use Rattle.style.specs.declared.table_style.TableStyle.{TableStyle}
 use Rattle.table.specs.Held.{settings_of, columns_of}
 use Rattle.table.specs.declared.records.Settings.{Settings}
-use Rattle.table.specs.declared.records.Columns.{Columns}
 use Rattle.constraint.specs.declared.Layout.{Layout}
 use Rattle.constraint.specs.Widths.{in_order, column}
 use Rattle.arrangement.specs.declared.Widths.{Widths}
@@ -33,17 +34,22 @@ use Rattle.arrangement.proofs.Offers.{hidden_as}
 use Rattle.arrangement.proofs.Arranged.{arranged-contents}
 use Rattle.arrangement.proofs.Placed.{map_last}
 
-module _ (t : Table) (limits : TableLimits t) (x : Columns) (columns : x ≡ columns_of t) where
-  -- no more columns than there can be
-  pub count_fits : x.count ≤ most_columns
+module _ (t : Table) (limits : TableLimits t) (x : ArrayVec Column) (columns : x ≡ columns_of t) where
+  columns-count : length x.items ≡ length t.columns
   unfolding columns_of
-  count_fits = omega (arith, ap (λ (y : Columns). y.count) columns, limits.columns)
+  columns-count = ap (λ (y : ArrayVec Column). length y.items) columns
 
-  pub column-at : (j : ℕ) → j < x.count → get_or x.each j no_column ≡ column_at t j
-  unfolding columns_of as_array
-  column-at j h =
-      let k : j < length t.columns = omega (arith, ap (λ (y : Columns). y.count) columns) in
-      rw columns (get_or-append t.columns (replicate (most_columns - length t.columns) no_column) no_column j k)
+  -- no more columns than there can be
+  pub count_fits : length x.items ≤ most_columns
+  count_fits = omega (arith, columns-count, limits.columns)
+
+  pub column-at : (j : ℕ) → get_or x.items j no_column ≡ column_at t j
+  unfolding columns_of
+  column-at j = ap (λ (y : ArrayVec Column). get_or y.items j no_column) columns
+
+  column-padded : (cs : List Column) → take (length x.items) cs ≡ x.items → (j : ℕ) → j < length x.items → get_or cs j no_column ≡ column_at t j
+  column-padded cs e j h =
+      sym (get_or-take (length x.items) cs j no_column h) ∙ ap (λ (l : List Column). get_or l j no_column) e ∙ column-at j
 
   longest-at : (j : ℕ) → j < most_columns → get_or (map (doc.longest t) (up_from 0 most_columns)) j 0 ≡ doc.longest t j
   longest-at j h =
@@ -51,7 +57,7 @@ module _ (t : Table) (limits : TableLimits t) (x : Columns) (columns : x ≡ col
       ∙ ap (doc.longest t) (get_d-up_from 0 most_columns j 0 h ∙ omega arith)
 
   -- what was read from the sheet
-  pub describes : (h : Settings) (S : List ℕ) (y : TableStyle) (r : ContentArrangement) (w : std.Option ℕ) (ns : List ℕ) (a b c : Bool) → h ≡ settings_of t → S ≡ t.style → y ≡ style_from S
+  pub describes : (h : Settings) (S : List ℕ) (y : TableStyle) (r : ContentArrangement) (w : std.Option ℕ) (ns : List ℕ) (a b c : Bool) (cs : List Column) (n : ℕ) → take (length x.items) cs ≡ x.items → n ≡ length x.items → h ≡ settings_of t → S ≡ t.style → y ≡ style_from S
       → r ≡ arrangement_of h.arrangement → w ≡ target_of h.target → ns ≡ map (doc.longest t) (up_from 0 most_columns)
       → a ≡ any_left (bytes_of y) → b ≡ any_right (bytes_of y) → c ≡ any_junction (bytes_of y)
       → Describes (record {
@@ -60,22 +66,22 @@ module _ (t : Table) (limits : TableLimits t) (x : Columns) (columns : x ≡ col
         left = a;
         right = b;
         junction = c;
-        columns = x.each;
-        count = x.count;
+        columns = cs;
+        count = n;
         longest = ns;
       }) t
-  unfolding settings_of columns_of
-  describes h S y z w ns a b c e f g q p i l r m =
+  unfolding settings_of
+  describes h S y z w ns a b c cs n padded counted e f g q p i l r m =
       record {
-        count = ap (λ (z : Columns). z.count) columns;
-        few = count_fits;
-        column = column-at;
+        count = counted ∙ columns-count;
+        few = omega (arith, counted, count_fits);
+        column = λ j k. column-padded cs padded j (omega (arith, counted));
         target = p ∙ ap (λ (z : Settings). target_of z.target) e;
         arrangement = q ∙ ap (λ (z : Settings). arrangement_of z.arrangement) e;
         left = l ∙ rw (g, f);
         right = r ∙ rw (g, f);
         junction = m ∙ rw (g, f);
-        longest = λ j k. rw i (longest-at j (omega (arith, count_fits)));
+        longest = λ j k. rw i (longest-at j (omega (arith, counted, count_fits)));
       }
 
 -- entries set one after another

@@ -30,7 +30,7 @@ use Rattle.table.specs.Held.{IsAccepted, table_of, settings_of, columns_of}
 use Rattle.table.specs.Walk.{rows_in, rows_end}
 use Rattle.table.specs.declared.records.Rows.{Rows}
 use Rattle.table.specs.declared.records.Settings.{Settings}
-use Rattle.table.specs.declared.records.Columns.{Columns}
+use Rattle.arrayvec.specs.ArrayVec.{ArrayVec}
 use Rattle.table.proofs.Held.{room}
 use Rattle.table.proofs.Walks.{rows_number}
 use Rattle.arrangement.specs.declared.Widths.{Widths}
@@ -157,9 +157,9 @@ module _ (t : Table) (j : ℕ) (view : View) (S : Showing t j view) where
       go false p v = added p (shown_from j c w d) v
 
 -- what was read: how many columns, column j's content width, the delimiter where a column sets none
-pub columns-count : (t : Table) (x : Columns) → x ≡ columns_of t → x.count ≡ length t.columns
+pub columns-count : (t : Table) (x : ArrayVec Column) → x ≡ columns_of t → length x.items ≡ length t.columns
 unfolding columns_of
-columns-count t x e = rw e
+columns-count t x e = ap (λ (y : ArrayVec Column). length y.items) e
 
 pub width_is : (t : Table) (x : Widths) (j : ℕ) → x ≡ arranged_widths t → j < length t.columns → get_or x.content j 0 ≡ get_or (contents t) j 0
 unfolding arranged_widths as_array

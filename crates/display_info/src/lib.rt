@@ -189,8 +189,8 @@ fn show_columns(sheet: &AcceptedSheet<'_>, widths: Widths) -> ArrayVec<VisibleCo
     let delimiter = records::set(head.delimiter).unwrap_or(b' ');
     let found = sheet.columns();
     let mut columns = ArrayVec::new();
-    for j in 0..found.count {
-        show_column(&mut columns, j, found.each[j], widths.content[j], delimiter);
+    for (j, &c) in found.iter().enumerate() {
+        show_column(&mut columns, j, c, widths.content[j], delimiter);
     }
     columns
 }

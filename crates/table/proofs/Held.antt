@@ -3,18 +3,19 @@ use Prim.Native.Nat.{ℕ, ◌+◌, ◌-◌, ◌*◌, ◌≤◌, ◌<◌}
 use mathlib.Core.Path.{◌≡◌, ap, sym, ◌∙◌}
 use mathlib.Core.List.{List}
 use native.Mathlib.Omega.{arith}
-use lib.ListN.{length, get_or, take, drop, replicate}
+use lib.ListN.{length, get_or, take, drop}
 use Rattle.rules.specs.Sheet.{Table, no_column, most_columns}
 use Rattle.rules.specs.declared.Column.{Column}
 use Rattle.rules.specs.Field.{got}
 use Rattle.rules.specs.Description as description
 use Rattle.rules.specs.Format.{table_by, sheet}
-use Rattle.rules.specs.Calls.{check, as_array}
+use Rattle.rules.specs.Calls.{check}
 use Rattle.rules.specs.declared.Checked.{Checked}
 use Rattle.rules.specs.Places.{byte_at, word_at, text_at, column_here, columns_place, header_place, rows_place, style_place, line_stop, table_here}
 use Rattle.laws.proofs.Accepted.{accepted, accepted_limits, accepted_places, checked-reading}
 use Rattle.laws.proofs.Stands as stands
-use Rattle.table.proofs.Copies.{Copied, copied_done, drop-replicate}
+use Rattle.arrayvec.specs.ArrayVec.{ArrayVec}
+use Rattle.table.proofs.Copies.{Copied, copied_done}
 use Rattle.table.specs.Held.{IsAccepted, table_of, settings_of, columns_of}
 
 -- a caller that has asked the check knows that the sheet is accepted
@@ -103,18 +104,12 @@ style-lent s p h e =
 pub columns_inside : (s : List ℕ) → IsAccepted s → length (table_of s).columns ≡ byte_at s (columns_place s)
 columns_inside s h = let r = held s h in stands.column-count s (table_of s) r.end r.reads
 
-pub columns_whole : (s : List ℕ) (n i : ℕ) (a : List Column) → IsAccepted s → n ≡ byte_at s (columns_place s) → i ≤ n → n ≤ i → Copied (table_of s).columns
-    (replicate most_columns no_column) i a → record { count = n; each = a } ≡ columns_of (table_of s)
-unfolding columns_of as_array
-columns_whole s n i a h e j k c =
+pub columns_whole : (s : List ℕ) (n i : ℕ) (v : ArrayVec Column) → IsAccepted s → n ≡ byte_at s (columns_place s) → n ≤ i
+    → Copied (table_of s).columns i v.items → v ≡ columns_of (table_of s)
+unfolding columns_of
+columns_whole s n i v h e k c =
     let l = columns_inside s h in
-    let m : n ≡ length (table_of s).columns = omega arith in
-    rw (
-      m,
-      copied_done (table_of s).columns (replicate most_columns no_column) i a (omega arith) c,
-      drop-replicate (length (table_of s).columns)
-          most_columns no_column,
-    )
+    ap (λ (xs : List Column). record { items = xs }) (copied_done (table_of s).columns i v.items (omega arith) c)
 
 pub column_copied : (s : List ℕ) (p j : ℕ) (v : Column) → IsAccepted s → j < byte_at s (columns_place s) → p ≡ columns_place s + 1 + 11 * j → v ≡ column_here
     s p → v ≡ get_or (table_of s).columns j no_column

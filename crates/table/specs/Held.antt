@@ -1,11 +1,12 @@
 -- What an accepted sheet holds, and the records that the code hands out of it. Assumes nothing.
-use Rattle.std.specs.Prelude.{ℕ, ◌≡◌, List, [], length}
-use Rattle.rules.specs.Sheet.{Table, no_column}
+use Rattle.std.specs.Prelude.{ℕ, ◌≡◌, List, []}
+use Rattle.arrayvec.specs.ArrayVec.{ArrayVec}
+use Rattle.rules.specs.declared.Column.{Column}
+use Rattle.rules.specs.Sheet.{Table}
 use Rattle.rules.specs.Field.{Read, got, refused}
 use Rattle.rules.specs.Format.{sheet}
-use Rattle.rules.specs.Calls.{check, as_array}
+use Rattle.rules.specs.Calls.{check}
 use Rattle.table.specs.declared.records.Settings.{Settings}
-use Rattle.table.specs.declared.records.Columns.{Columns}
 
 -- the check answers 0
 abbrev pub IsAccepted : List ℕ → Type 0
@@ -26,6 +27,6 @@ table_of s = held_by (sheet s)
 unfoldable pub settings_of : Table → Settings
 settings_of t = record { arrangement = t.arrangement; target = t.target; delimiter = t.delimiter }
 
--- the columns, an empty one past them
-unfoldable pub columns_of : Table → Columns
-columns_of t = record { count = length t.columns; each = as_array no_column t.columns }
+-- the columns
+unfoldable pub columns_of : Table → ArrayVec Column
+columns_of t = record { items = t.columns }

@@ -2,8 +2,6 @@
 ghost use Rattle.std.specs.Prelude.{ℕ, ◌≡◌, unwrap_or};
 ghost use Rattle.rules.specs.Text.{or_else};
 
-use rules::{Column, MOST_COLUMNS};
-
 // A delimiter or an alignment that is set: 0 is none.
 pub fn set(code: u8) -> Option<u8>
     ensures { (other : ℕ) → unwrap_or result other ≡ or_else code other }
@@ -17,13 +15,6 @@ pub struct Settings {
     pub arrangement: u8,
     pub target: u16,
     pub delimiter: u8,
-}
-
-// The first `count` columns are the sheet's.
-#[derive(Clone, Copy)]
-pub struct Columns {
-    pub count: usize,
-    pub each: [Column; MOST_COLUMNS],
 }
 
 // Rows still to come: `left` of them, the first at `at` in the sheet. Rows, cells and lines are types of their own, so that none is taken

@@ -4,7 +4,8 @@ ghost use Rattle.rules.specs.Places.{word_at, width_here, column_here};
 ghost use Rattle.table.specs.Held.{table_of, settings_of, columns_of};
 
 use super::accepted::AcceptedSheet;
-use super::records::{Columns, Settings};
+use super::records::Settings;
+use arrayvec::ArrayVec;
 use rules::{Column, MOST_COLUMNS, STYLE_CHARACTERS, Width};
 
 // Two bytes, low byte first.
@@ -42,17 +43,6 @@ fn column_at(sheet: &[u8], at: usize) -> Column
     }
 }
 
-// What stands past the columns: nothing is set.
-const NONE: Column = Column {
-    left: 0,
-    right: 0,
-    delimiter: 0,
-    alignment: 0,
-    constraint: 0,
-    first: Width { unit: 0, value: 0 },
-    second: Width { unit: 0, value: 0 },
-};
-
 impl<'a> AcceptedSheet<'a> {
     // Arrangement, target and table delimiter stand at fixed places, so no byte before them is read.
     pub fn settings(&self) -> Settings
@@ -84,15 +74,15 @@ impl<'a> AcceptedSheet<'a> {
     }
 
     // The columns are copied once: widths and drawing ask for them again and again.
-    pub fn columns(&self) -> Columns
+    pub fn columns(&self) -> ArrayVec<Column, MOST_COLUMNS>
         ensures { result ≡ columns_of (table_of self.now.bytes.now) }
     {
         let place = self.columns_place();
         let count = usize::from(self.bytes[place]);
-        let mut each = [NONE; MOST_COLUMNS];
+        let mut columns = ArrayVec::new();
         for i in 0..count {
-            each[i] = column_at(self.bytes, place + 1 + 11 * i);
+            columns.push(column_at(self.bytes, place + 1 + 11 * i));
         }
-        Columns { count, each }
+        columns
     }
 }

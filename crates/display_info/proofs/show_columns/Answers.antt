@@ -1,4 +1,8 @@
-use mathlib.Core.Path.{◌∙◌}
+use mathlib.Core.Path.{ap, ◌∙◌}
+use mathlib.Core.List.{List}
+use lib.ListN.{length, get_or}
+use Rattle.rules.specs.Sheet.{no_column}
+use Rattle.rules.specs.declared.Column.{Column}
 use native.Mathlib.Omega.{arith}
 use Rattle.table.specs.Held.{table_of}
 use Rattle.arrangement.proofs.Layouts.{count_fits, column-at}
@@ -8,12 +12,6 @@ use Rattle.display_info.proofs.show_columns.Goals as goal
 
 pub loop-j-init : goal.loop-j-init
 loop-j-init c = showing_begin _ _ c.new-columns.ensures
-
-pub offset_bounds-found-j : goal.offset_bounds-found-j
-offset_bounds-found-j c = omega (arith, count_fits _ (limits_of _ c.args.sheet.now.accepted) _ c.columns-found.ensures)
-
-pub bounds-found-j : goal.bounds-found-j
-bounds-found-j c = omega (arith, count_fits _ (limits_of _ c.args.sheet.now.accepted) _ c.columns-found.ensures)
 
 pub offset_bounds-widths-j : goal.offset_bounds-widths-j
 offset_bounds-widths-j c = omega (arith, count_fits _ (limits_of _ c.args.sheet.now.accepted) _ c.columns-found.ensures)
@@ -30,14 +28,15 @@ loop-j-preserved c =
     let T = limits_of _ c.args.sheet.now.accepted in
     let e = c.columns-found.ensures in
     let h = c.loop-j-test.true in
-    let few = count_fits _ T _ e in
-    showing-on t c.loop-j.j _ c.loop-j.invariant _ _ _ _ (column-at t T _ e c.loop-j.j (omega (arith, h, few)))
-    (width_is t _ c.loop-j.j c.requires (omega (arith, h, columns-count t _ e))) (delimiter_is t c.settings-head.result _ c.settings-head.ensures
+    let lent = c.deref-c-items.ensures.0 in
+    let column = ap (λ (l : List Column). get_or l c.loop-j.j no_column) lent ∙ column-at t T _ e c.loop-j.j in
+    showing-on t c.loop-j.j _ c.loop-j.invariant _ _ _ _ column
+    (width_is t _ c.loop-j.j c.requires (omega (arith, h, columns-count t _ e, ap length lent))) (delimiter_is t c.settings-head.result _ c.settings-head.ensures
     (c.unwrap_or-delimiter.ensures ∙ c.set.ensures 32))
     c.show_column.ensures
 
 pub returns : goal.returns
 returns c =
     let T = limits_of _ c.args.sheet.now.accepted in
-    let W = showing_done _ _ _ T (omega (arith, columns-count _ _ c.columns-found.ensures, c.loop-j.auto.j-end, c.loop-j-test.false)) c.loop-j.invariant in
+    let W = showing_done _ _ _ T (omega (arith, columns-count _ _ c.columns-found.ensures, ap length c.deref-c-items.ensures.0, c.loop-j.auto.j-end, c.loop-j-test.false)) c.loop-j.invariant in
     (W, (view_rising _ _ T W, (view_usable _ _ T W, view_narrow _ _ T W)))

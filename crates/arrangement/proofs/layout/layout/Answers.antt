@@ -16,7 +16,8 @@ returns c =
     let columns = c.columns-found.ensures in
     let settings = c.settings-head.ensures in
     let style = c.style.ensures in
+    let padded = rw c.deref.ensures.0 at c.padded-columns.ensures in
     let left = c.has_left_border.ensures in
     let right = c.has_right_border.ensures in
     let junction = c.has_vertical_lines.ensures in
-    describes _ limits _ columns _ _ _ _ _ _ _ _ _ settings style c.style_from-style.ensures c.from.ensures c.target_from.ensures c.longest-longest.ensures.longest left right junction
+    describes _ limits _ columns _ _ _ _ _ _ _ _ _ _ _ padded c.len.ensures.value settings style c.style_from-style.ensures c.from.ensures c.target_from.ensures c.longest-longest.ensures.longest left right junction

@@ -4,7 +4,7 @@ use mathlib.Core.Path.{◌≡◌}
 use mathlib.Core.List.{List}
 use Rattle.rules.specs.Sheet.{no_column}
 use Rattle.table.proofs.Held.{room, columns_inside, columns_whole, column_copied}
-use Rattle.table.proofs.Copies.{copied-again}
+use Rattle.table.proofs.Copies.{copied_begin, copied-again}
 use Rattle.rules.specs.Places.{byte_at}
 use Rattle.table.proofs.accepted.AcceptedSheet.columns.Goals as goal
 
@@ -17,19 +17,24 @@ bounds-self-place c = let r = room _ c.args.self.now.accepted in omega (arith, c
 pub column_at-requires : goal.column_at-requires
 column_at-requires c = let r = room _ c.args.self.now.accepted in omega (arith, c.columns_place-place.ensures, count-read c.args.self.now.bytes.now _ _ _ c.columns_place-place.ensures c.from-count.ensures)
 
-pub bounds-each-i : goal.bounds-each-i
-bounds-each-i c = let r = room _ c.args.self.now.accepted in omega (arith, c.columns_place-place.ensures, count-read c.args.self.now.bytes.now _ _ _ c.columns_place-place.ensures c.from-count.ensures)
+pub loop-i-init : goal.loop-i-init
+loop-i-init c = copied_begin _ _ c.new-columns.ensures
+
+pub push-requires : goal.push-requires
+push-requires c = let r = room _ c.args.self.now.accepted in omega (arith, c.loop-i.invariant.few, c.columns_place-place.ensures, count-read c.args.self.now.bytes.now _ _ _ c.columns_place-place.ensures c.from-count.ensures)
 
 pub loop-i-preserved : goal.loop-i-preserved
 loop-i-preserved c =
     let r = room _ c.args.self.now.accepted in
     let n = columns_inside _ c.args.self.now.accepted in
-    copied-again no_column _ _ _ _ _ (omega (arith, c.columns_place-place.ensures, count-read c.args.self.now.bytes.now _ _ _ c.columns_place-place.ensures c.from-count.ensures)) (omega (arith, c.columns_place-place.ensures, count-read c.args.self.now.bytes.now _ _ _ c.columns_place-place.ensures c.from-count.ensures))
-    (column_copied _ _ _ _ c.args.self.now.accepted (omega (arith, c.columns_place-place.ensures, count-read c.args.self.now.bytes.now _ _ _ c.columns_place-place.ensures c.from-count.ensures)) (omega (arith, c.columns_place-place.ensures))
+    let count = count-read c.args.self.now.bytes.now _ _ _ c.columns_place-place.ensures c.from-count.ensures in
+    copied-again no_column _ _ _ _ _ (omega (arith, c.columns_place-place.ensures, count))
+    (column_copied _ _ _ _ c.args.self.now.accepted (omega (arith, c.columns_place-place.ensures, count)) (omega (arith, c.columns_place-place.ensures))
     c.column_at.ensures)
+    c.push.ensures.items
     c.loop-i.invariant
 
 pub returns : goal.returns
 returns c =
-    columns_whole _ _ _ _ c.args.self.now.accepted (omega (arith, c.columns_place-place.ensures, count-read c.args.self.now.bytes.now _ _ _ c.columns_place-place.ensures c.from-count.ensures)) c.loop-i.auto.i-end c.loop-i-test.false
-    c.loop-i.invariant
+    columns_whole _ _ _ _ c.args.self.now.accepted (count-read c.args.self.now.bytes.now _ _ _ c.columns_place-place.ensures c.from-count.ensures)
+    c.loop-i-test.false c.loop-i.invariant
