@@ -12,6 +12,7 @@ ghost use Rattle.formatting.specs.RowText.{Drawable};
 ghost use Rattle.formatting.specs.Shown.{pairs_shown};
 
 use crate::content_format;
+use row::visible::VisibleCells;
 use row::{Pending, VisibleColumn};
 use table::records::{Cells, Rows};
 use table::walk;
@@ -81,14 +82,10 @@ pub fn row_shown(
 {
     let r = walk::row(sheet, here);
     let limit = r.limit;
-    let mut left = r.cells;
-    let mut passed: usize = 0;
+    let cells = r.cells;
     let mut sum: usize = 0;
-    for &v in columns {
-        left = walk::skip_cells(sheet, left, v.number - passed);
-        passed = v.number;
-        let more = cell_shown(sheet, left, v, indicator, limit, first, end, plain);
-        sum += more;
+    for (v, here) in VisibleCells::new(sheet, columns, cells) {
+        sum += cell_shown(sheet, here, v, indicator, limit, first, end, plain);
     }
     sum
 }

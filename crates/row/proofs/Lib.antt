@@ -2,4 +2,5 @@ pub mod Stand
 pub mod Alignment
 pub mod Joined
 pub mod Open
+pub mod ByColumn
 pub mod Heights

@@ -1,5 +1,5 @@
 -- A row's cells opened, exit by exit and column by column. Assumes nothing.
-use Prim.Native.Nat.{ℕ, zero, suc, ◌+◌, ◌-◌, ◌≤◌, ◌<◌}
+use Prim.Native.Nat.{ℕ, zero, suc, ◌+◌, ◌≤◌, ◌<◌}
 use mathlib.Core.Path.{◌≡◌, refl, sym, ap, subst, ◌∙◌}
 use mathlib.Core.List.{List, [], ◌∷◌}
 use mathlib.Core.Logic.{inl, inr, ⊎_elim}
@@ -8,7 +8,7 @@ use native.Mathlib.Omega.{arith}
 use native.Mathlib.Numerals.{add-one}
 use native.Mathlib.Nat.{eq-or-lt_of_le}
 use lib.ListN.{length, drop, get_or, set, length-set}
-use lib.Seq.{get_or-set_same, get_or-set_other, get_or-drop, drop-drop, drop-nil}
+use lib.Seq.{get_or-set_same, get_or-set_other, drop-nil}
 use lib.Dec.{eqb}
 use borrow.Author.Tests.{ne_eqb}
 use Rattle.rules.specs.Text.{All, or_else}
@@ -22,16 +22,19 @@ use Rattle.cells.specs.Cell.{TextIs, rest, FirstOf, Further}
 use Rattle.cells.specs.declared.Next.{Next}
 use Rattle.cells.proofs.Laws.{rest-none, wrap_more, wrap-none, first_others}
 use Rattle.table.proofs.Walks.{cells_number}
-use Rattle.table.specs.Walk.{cells_in, cells_end, lines_in, lines_end, first_cell, CellIs}
+use Rattle.table.specs.Walk.{cells_in, lines_in, lines_end, first_cell, CellIs}
 use Rattle.table.specs.declared.records.Cells.{Cells}
 use Rattle.table.specs.declared.records.Cell as records
 use Rattle.row.specs.Alignment.{aligned}
 use Rattle.row.specs.View.{View, visible_at}
 use Rattle.row.specs.Pending.{no_pending, pending_at, any_found, remaining}
-use Rattle.row.specs.Open.{CellKnown, OpenedAt, Rising, missing}
+use Rattle.row.specs.Open.{CellKnown, OpenedAt, missing}
+use Rattle.row.specs.Visible.{KnownLeft, Begins, Gives}
+use Rattle.row.specs.declared.visible.VisibleCells.{VisibleCells}
 use Rattle.row.specs.declared.VisibleColumn.{VisibleColumn}
 use Rattle.row.specs.declared.Pending.{Pending}
 use Rattle.row.proofs.Stand.{stands_next, same_below}
+use Rattle.row.proofs.ByColumn.{Walking, walking_begins, walked-here, walking-on}
 
 -- ---- one cell
 
@@ -116,71 +119,44 @@ opened-cell s c x X v n plain wide first r prints e f g m =
 
 -- ---- a row's cells, column by column
 
--- before visible column i, `passed` cells of xs are passed
-pub record Passing (s : List ℕ) (view : View) (xs : List Cell) (left : Cells) (passed i : ℕ) : Type 0 where
-  pub within : i ≤ length view
-  pub cells : cells_in s left ≡ drop passed xs
-  pub ends : cells_end s left ≤ length s
-  pub order : (k : ℕ) → i ≤ k → k < length view → passed ≤ (visible_at view k).number
-
-pub passing_begins : (s : List ℕ) (view : View) (c : Cells) → cells_end s c ≤ length s → Passing s view (cells_in s c) c 0 0
-passing_begins s view c h = record { within = omega arith; cells = refl; ends = h; order = λ k x y. omega arith }
-
-module _ (s : List ℕ) (view : View) (xs : List Cell) (left : Cells) (passed i : ℕ) (P : Passing s view xs left passed i) (h : i < length view)
-    (next : Cells) (e : cells_in s next ≡ drop ((visible_at view i).number - passed) (cells_in s left)) where
-  cells-here : cells_in s next ≡ drop (visible_at view i).number xs
-  cells-here =
-      let n = (visible_at view i).number in
-      let p = P.order i (omega arith) h in
-      let z : passed + (n - passed) ≡ n = omega arith in
-      e ∙ ap (drop (n - passed)) P.cells ∙ drop-drop (n - passed) passed xs ∙ ap (λ q. drop q xs) z
-
-  -- the cell of visible column i
-  pub cell-here : first_cell s next ≡ get_or xs (visible_at view i).number no_cell
-  cell-here =
-      let n = (visible_at view i).number in
-      let y : n + 0 ≡ n = omega arith in
-      ap (λ l. get_or l 0 no_cell) cells-here ∙ get_or-drop n xs 0 no_cell ∙ ap (λ q. get_or xs q no_cell) y
-
-  pub passing-on : Rising view → cells_end s next ≡ cells_end s left → Passing s view xs next (visible_at view i).number (i + 1)
-  passing-on R f = record { within = omega arith; cells = cells-here; ends = omega (arith, P.ends); order = λ q a b. R.order i q (omega arith) b }
-
 -- the columns before i are opened
-pub record Opening (plain : Bool) (s : List ℕ) (view : View) (xs : List Cell) (n : ℕ) (ts : List Pending) (left : Cells) (passed : ℕ) (more : Bool)
+pub record Opening (plain : Bool) (s : List ℕ) (view : View) (xs : List Cell) (n : ℕ) (ts : List Pending) (c : VisibleCells) (more : Bool)
     (i : ℕ) : Type 0 where
-  pub passing : Passing s view xs left passed i
+  pub walking : Walking s view xs c i
+  pub known : KnownLeft plain c
   pub size : length ts ≡ most_columns
   pub done : (k : ℕ) → k < i → OpenedAt s (get_or xs (visible_at view k).number no_cell) (visible_at view k) n (pending_at ts k)
   pub found : more ≡ any_found ts i
   pub walked : (k : ℕ) → k < i → (pending_at ts k).line.cursor.plain ≡ plain
 
-pub opening_begins : (plain : Bool) (s : List ℕ) (view : View) (c : Cells) (n : ℕ) (ts : List Pending) → length ts ≡ most_columns → cells_end s c ≤ length s
-    → Opening plain s view (cells_in s c) n ts c 0 false 0
+pub opening_begins : (plain : Bool) (s : List ℕ) (view : View) (cells : Cells) (n : ℕ) (ts : List Pending) → length ts ≡ most_columns → (c : VisibleCells)
+    → Begins s view cells c → All (CellKnown plain) (cells_in s cells) → Opening plain s view (cells_in s cells) n ts c false 0
 unfolding any_found
-opening_begins plain s view c n ts l h = record {
-  passing = passing_begins s view c h;
+opening_begins plain s view cells n ts l c B h = record {
+  walking = walking_begins s view cells c B;
+  known = B.known plain h;
   size = l;
   done = λ k x. absurd (omega arith);
   found = refl;
   walked = λ k x. absurd (omega arith);
 }
 
-module _ (plain : Bool) (s : List ℕ) (view : View) (R : Rising view) (xs : List Cell) (n : ℕ) (ts : List Pending) (left : Cells) (passed : ℕ) (more : Bool)
-    (i : ℕ) (O : Opening plain s view xs n ts left passed more i) (h : i < length view) where
-  pub opening_on : (next : Cells) (t : Pending) (m : Bool) → cells_in s next ≡ drop ((visible_at view i).number - passed) (cells_in s left) → cells_end s
-      next ≡ cells_end s left
-      → OpenedAt s (first_cell s next) (visible_at view i) n t → t.line.cursor.plain ≡ plain → m ≡ (more || t.line.found)
-      → Opening plain s view xs n (set ts i t) next (visible_at view i).number m (i + 1)
+module _ (plain : Bool) (s : List ℕ) (view : View) (few : length view ≤ most_columns) (xs : List Cell) (n : ℕ) (ts : List Pending) (c d : VisibleCells)
+    (more : Bool) (i : ℕ) (O : Opening plain s view xs n ts c more i) (v : VisibleColumn) (cells : Cells) (G : Gives c v cells d) where
+  pub opening_on : (t : Pending) (m : Bool) → OpenedAt s (first_cell s cells) v n t → t.line.cursor.plain ≡ plain → m ≡ (more || t.line.found)
+      → Opening plain s view xs n (set ts i t) d m (i + 1)
   unfolding any_found
-  opening_on next t m e f o w x =
-      let k : i < length ts = omega (arith, O.size, R.most) in
-      let d = cell-here s view xs left passed i O.passing h next e in
+  opening_on t m o w x =
+      let H = walked-here s view xs c d i O.walking v cells G in
+      let k : i < length ts = omega (arith, O.size, H.within, few) in
+      let p = rw (H.cell, H.column) at o in
       record {
-        passing = passing-on s view xs left passed i O.passing h next e R f;
+        walking = walking-on s view xs c d i O.walking v cells G;
+        known = G.still plain O.known;
         size = length-set ts i t ∙ O.size;
         done = λ q l.
             ⊎_elim
-            (λ (u : q ≡ i). rw (u, get_or-set_same ts i t no_pending k) (rw d at o))
+            (λ (u : q ≡ i). rw (u, get_or-set_same ts i t no_pending k) p)
             (λ (u : q < i). rw (get_or-set_other ts i q t no_pending (λ z. omega arith)) (O.done q u))
             (eq-or-lt_of_le (omega arith));
         found = rw (add-one i) (x ∙ rw (O.found, same_below ts i i t (omega arith), get_or-set_same ts i t no_pending k));

@@ -3,3 +3,4 @@ pub mod View
 pub mod Pending
 pub mod Open
 pub mod Height
+pub mod Visible

@@ -50,6 +50,10 @@ pub record Rising (view : View) : Type 0 where
   pub most : length view ≤ most_columns
   pub order : (i k : ℕ) → i ≤ k → k < length view → (visible_at view i).number ≤ (visible_at view k).number
 
+-- columns still to come stand in that order too, none before column n
+abbrev pub RisingFrom : ℕ → View → Type 0
+RisingFrom n view = (i k : ℕ) → i ≤ k → k < length view → (n ≤ (visible_at view i).number) × ((visible_at view i).number ≤ (visible_at view k).number)
+
 -- a column has a width, and a delimiter for the cells that choose none
 abbrev pub UsableAll : View → Type 0
 UsableAll view = (i : ℕ) → i < length view → (0 < (visible_at view i).width) × Printable (visible_at view i).delimiter

@@ -1,6 +1,8 @@
 // A row's cells opened at one of its lines, comfy-table's `format_row`, and their heights.
 #![tactic(auto)]
 
+pub mod visible;
+
 ghost use Rattle.std.specs.Prelude.{◌≡◌, ◌*◌, ◌≤◌, ◌<◌, length, unwrap_or};
 ghost use Rattle.rules.specs.Text.{All};
 ghost use Rattle.rules.specs.Sheet.{most_columns};
@@ -16,6 +18,7 @@ use cells::{CellCursor, Next};
 use rules::MOST_COLUMNS;
 use table::records::{Cells, Lines};
 use table::{records, walk};
+use visible::VisibleCells;
 
 // Where a line stands in its column.
 #[derive(Clone, Copy, PartialEq, Eq, Default)]
@@ -120,13 +123,9 @@ pub fn format_row(
         × (result ≡ any_found state.new (length columns.now)) }
     ensures walked { WalkedAll plain columns.now state.new }
 {
-    let mut left = cells;
-    let mut passed: usize = 0;
     let mut more = false;
-    for (i, &v) in columns.iter().enumerate() {
-        left = walk::skip_cells(sheet, left, v.number - passed);
-        passed = v.number;
-        let t = open_cell(sheet, left, v, n, plain);
+    for (i, (v, here)) in VisibleCells::new(sheet, columns, cells).enumerate() {
+        let t = open_cell(sheet, here, v, n, plain);
         more |= t.line.found;
         state[i] = t;
     }
@@ -154,13 +153,9 @@ pub fn row_height(sheet: &[u8], columns: &[VisibleColumn], from: Cells, plain: b
     requires from_in_bounds { (cells_end sheet.now from ≤ length sheet.now) × All (CellKnown plain) (cells_in sheet.now from) }
     ensures { result ≡ height_up_to (cells_in sheet.now from) columns.now (length columns.now) }
 {
-    let mut left = from;
-    let mut passed: usize = 0;
     let mut most: usize = 0;
-    for &v in columns {
-        left = walk::skip_cells(sheet, left, v.number - passed);
-        passed = v.number;
-        let lines = open_height(sheet, left, v, plain);
+    for (v, here) in VisibleCells::new(sheet, columns, from) {
+        let lines = open_height(sheet, here, v, plain);
         most = most.max(lines);
     }
     most
@@ -185,14 +180,9 @@ pub fn row_pairs(sheet: &[u8], columns: &[VisibleColumn], from: Cells) -> usize
     ensures { (result ≡ added_up_to pairs_held (cells_in sheet.now from) columns.now (length columns.now))
         × (result ≤ 32768 * length columns.now) }
 {
-    let mut left = from;
-    let mut passed: usize = 0;
     let mut sum: usize = 0;
-    for &v in columns {
-        left = walk::skip_cells(sheet, left, v.number - passed);
-        passed = v.number;
-        let more = open_pairs(sheet, left);
-        sum += more;
+    for (_, here) in VisibleCells::new(sheet, columns, from) {
+        sum += open_pairs(sheet, here);
     }
     sum
 }

@@ -80,6 +80,7 @@ impl<'a> AcceptedSheet<'a> {
         let place = self.columns_place();
         let count = usize::from(self.bytes[place]);
         let mut columns = ArrayVec::new();
+        // Kept over numbers: by definition a column stands at a place of the sheet; as a part of it each would begin at 0, and no line is saved.
         for i in 0..count {
             columns.push(column_at(self.bytes, place + 1 + 11 * i));
         }

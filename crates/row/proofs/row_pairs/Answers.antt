@@ -1,13 +1,21 @@
 use native.Mathlib.Omega.{arith}
+use lib.ListN.{length-append}
 use Rattle.row.specs.Height.{pairs_held}
-use Rattle.row.proofs.Heights.{adding_begins, adding-on}
+use Rattle.row.proofs.Heights.{adding_begins, adding-on, adding_done}
 use Rattle.row.proofs.row_pairs.Goals as goal
 
-pub loop-v-init : goal.loop-v-init
-loop-v-init c = adding_begins pairs_held 32768 c.args.sheet.now c.args.columns.now c.args.from c.requires.1.0
+pub loop-here-init : goal.loop-here-init
+loop-here-init c =
+    rw c.into_iter-here-iterator.ensures.into_iter_gives
+    (adding_begins pairs_held 32768 c.args.sheet.now c.args.columns.now c.args.from c.new-here-items.result c.new-here-items.ensures)
 
-pub loop-v-preserved : goal.loop-v-preserved
-loop-v-preserved c =
-    adding-on pairs_held 32768 c.args.sheet.now c.args.columns.now _ c.loop-v.left c.loop-v.passed c.loop-v.sum c.loop-v.v-index c.loop-v.invariant
-    c.requires.0 c.loop-v-test.true c.skip_cells-left.result _ c.skip_cells-left.ensures.cells c.skip_cells-left.ensures.ends
-    (c.open_pairs-more.ensures.0, omega (arith, c.open_pairs-more.ensures.1, c.requires.1.1))
+pub loop-here-preserved : goal.loop-here-preserved
+loop-here-preserved c =
+    adding-on pairs_held 32768 c.args.sheet.now c.args.columns.now _ c.loop-here.here-iterator c.loop-here.sum _ c.loop-here.invariant c.next.new.self
+    c.in-Some.field-0-0 c.in-Some.here c.in-Some.ensures.steps _ _ (c.open_pairs-sum.ensures.0, omega (arith, c.open_pairs-sum.ensures.1, c.requires.1.1))
+    (length-append c.loop-here.yielded _)
+
+pub returns : goal.returns
+returns c =
+    adding_done pairs_held 32768 c.args.sheet.now c.args.columns.now _ c.loop-here.here-iterator c.loop-here.sum _ c.loop-here.invariant
+    c.in-None.ensures.steps.0
