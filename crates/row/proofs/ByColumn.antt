@@ -28,14 +28,16 @@ numbered xs n m (v ∷ vs) h r =
     get_or-drop (m - n) xs (v.number - m) no_cell ∙ ap (λ k. get_or xs k no_cell) e in
     rw (x, numbered xs n m vs h (λ i l. r (suc i) (omega arith)))
 
+-- none of the columns after v comes before it
+pub rising-next : (n : ℕ) (v : VisibleColumn) (view vs : View) → view ≡ v ∷ vs → RisingFrom n view → RisingFrom v.number vs
+rising-next n v view vs V O i k h l =
+    let R : RisingFrom n (v ∷ vs) = subst (RisingFrom n) V O in
+    ((R 0 (suc i) (omega arith) (omega arith)).1, (R (suc i) (suc k) (omega arith) (omega arith)).1)
+
 module _ (s : List ℕ) (left next : Cells) (n : ℕ) (v : VisibleColumn) (view vs : View) (V : view ≡ v ∷ vs) (O : RisingFrom n view)
     (e : cells_in s next ≡ drop (v.number - n) (cells_in s left)) where
-  R : RisingFrom n (v ∷ vs)
-  R = subst (RisingFrom n) V O
-
-  -- none of the columns after v comes before it
-  pub rising-next : RisingFrom v.number vs
-  rising-next i k h l = ((R 0 (suc i) (omega arith) (omega arith)).1, (R (suc i) (suc k) (omega arith) (omega arith)).1)
+  from_next : n ≤ v.number
+  from_next = ((subst (RisingFrom n) V O) 0 0 (omega arith) (omega arith)).0
 
   pub cells-next : cells_by (cells_in s left) n view ≡ (v, first_cell s next) ∷ cells_by (cells_in s next) v.number vs
   cells-next =
@@ -44,7 +46,7 @@ module _ (s : List ℕ) (left next : Cells) (n : ℕ) (v : VisibleColumn) (view 
       let z : k + 0 ≡ k = omega arith in
       let x : first_cell s next ≡ get_or xs k no_cell = ap (λ l. get_or l 0 no_cell) e ∙ get_or-drop k xs 0 no_cell ∙ ap (λ q. get_or xs q no_cell) z in
       let y : cells_by (cells_in s next) v.number vs ≡ cells_by xs n vs =
-      ap (λ l. cells_by l v.number vs) e ∙ numbered xs n v.number vs (R 0 0 (omega arith) (omega arith)).0 (λ i l. (rising-next i i (omega arith) l).0) in
+      ap (λ l. cells_by l v.number vs) e ∙ numbered xs n v.number vs from_next (λ i l. (rising-next n v view vs V O i i (omega arith) l).0) in
       ap (cells_by xs n) V ∙ rw (x, y)
 
   pub known-next : (plain : Bool) → All (CellKnown plain) (cells_in s left) → All (CellKnown plain) (cells_in s next)
