@@ -1,6 +1,6 @@
 -- `editor::text::put` meets its contract. Assumes nothing.
 use native.Mathlib.Omega.{arith}
-use Rattle.editor.proofs.Texts.{text_short, text_room, text_length, text_put}
+use Rattle.editor.proofs.Texts.{text_short, text_put}
 use Rattle.editor.proofs.Entering.{stamped-past}
 use Rattle.editor.proofs.text.put.Goals as goal
 
@@ -9,12 +9,6 @@ returns-then-sheet-at c = stamped-past _ _ _ _ c.if-sheet-at.true
 
 pub returns-then-sheet-at-2 : goal.returns-then-sheet-at-2
 returns-then-sheet-at-2 c = text_short _ _ _ c.args.part.now c.if-sheet-at.false c.if-sheet-at-2.true
-
-pub copy-requires : goal.copy-requires
-copy-requires c = text_room c.args.sheet.now _ _ _ c.if-sheet-at-2.false
-
-pub shape_of-sheet : goal.shape_of-sheet
-shape_of-sheet c = text_length c.args.sheet.now c.copy.new.dst c.args.part.now _ _ c.if-sheet-at-2.false c.copy.ensures.dst_after
 
 pub returns : goal.returns
 returns c =

@@ -1,10 +1,7 @@
 -- `sheet::field::items` meets its contract. Assumes nothing.
 use Rattle.std.proofs.lemmas.Result.{err_from_is_err_and}
-use Rattle.sheet.proofs.Loops.{items_begin, items-again, items_done, items_stopped}
+use Rattle.sheet.proofs.Loops.{items-again, items_done, items_stopped}
 use Rattle.sheet.proofs.field.items.Goals as goal
-
-pub loop-init : goal.loop-init
-loop-init g c = λ f h. items_begin f _ _
 
 pub returns-in_err-at : goal.returns-in_err-at
 returns-in_err-at g c = λ f h.

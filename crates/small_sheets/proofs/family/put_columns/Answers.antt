@@ -1,13 +1,5 @@
-use native.Mathlib.Omega.{arith}
 use Rattle.small_sheets.proofs.Puts.{columns-put}
-use Rattle.small_sheets.proofs.Bytes.{columns-length}
 use Rattle.small_sheets.proofs.family.put_columns.Goals as goal
-
-pub fill-q-requires : goal.fill-q-requires
-fill-q-requires c = omega (arith, c.requires.columns_in_bounds, columns-length c.args.columns, c.copy-p.ensures.value, c.copy-p.auto.dst)
-
-pub copy-requires : goal.copy-requires
-copy-requires c = omega (arith, c.requires.columns_in_bounds, columns-length c.args.columns, c.copy-p.ensures.value, c.copy-p.auto.dst, c.fill-q.ensures.value, c.fill-q.auto.dst)
 
 pub returns : goal.returns
 returns c =

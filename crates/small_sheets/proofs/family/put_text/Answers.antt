@@ -1,16 +1,9 @@
 use borrow.Author.Rules.{rules}
-use native.Mathlib.Omega.{arith}
 use Rattle.small_sheets.proofs.Puts.{put_begins, put-again, put_ends}
 use Rattle.small_sheets.proofs.family.put_text.Goals as goal
 
 pub loop-left-init : goal.loop-left-init
 loop-left-init c = search (rules, put_begins)
-
-pub texts_of-half-requires : goal.texts_of-half-requires
-texts_of-half-requires c = let h = c.loop-left.invariant in omega (arith, h.short, h.count)
-
-pub bounds-sheet-place : goal.bounds-sheet-place
-bounds-sheet-place c = let h = c.loop-left.invariant in omega (arith, h.stands, h.count, h.room, h.size)
 
 pub loop-left-preserved : goal.loop-left-preserved
 loop-left-preserved c = search (rules, put-again)

@@ -7,6 +7,3 @@ returns-then-max-from c = line_shorter _ c.args.line.now (omega (arith, c.if-max
 
 pub overflow_cast-max : goal.overflow_cast-max
 overflow_cast-max c = omega (arith, c.max-2.ensures, (line-counted c.args.line.now _ c.columns-characters.ensures).1, c.requires)
-
-pub returns : goal.returns
-returns c = omega (arith, c.max-3.ensures, c.max-2.ensures, (line-counted c.args.line.now _ c.columns-characters.ensures).0)

@@ -14,9 +14,6 @@ overflow_add-end c =
     let h = line_bytes _ _ _ c.requires.0 c.requires.1.0 in
     omega (arith, c.from.ensures)
 
-pub overflow_sub-j : goal.overflow_sub-j
-overflow_sub-j c = omega (arith, c.requires.0.counted.started c.requires.1.0)
-
 pub slice_bounds-longer-end : goal.slice_bounds-longer-end
 slice_bounds-longer-end c =
     let h = line_bytes _ _ _ c.requires.0 c.requires.1.0 in

@@ -1,10 +1,9 @@
 use native.Mathlib.Omega.{arith}
 use Prim.Native.Nat.{ℕ}
-use mathlib.Core.Path.{◌≡◌}
 use mathlib.Core.List.{List}
 use Rattle.rules.specs.Sheet.{no_column}
 use Rattle.table.proofs.Held.{room, columns_inside, columns_whole, column_copied}
-use Rattle.table.proofs.Copies.{copied_begin, copied-again}
+use Rattle.table.proofs.Copies.{copied-again}
 use Rattle.rules.specs.Places.{byte_at}
 use Rattle.table.proofs.accepted.AcceptedSheet.columns.Goals as goal
 
@@ -16,9 +15,6 @@ bounds-self-place c = let r = room _ c.args.self.now.accepted in omega (arith, c
 
 pub column_at-requires : goal.column_at-requires
 column_at-requires c = let r = room _ c.args.self.now.accepted in omega (arith, c.columns_place-place.ensures, count-read c.args.self.now.bytes.now _ _ _ c.columns_place-place.ensures c.from-count.ensures)
-
-pub loop-i-init : goal.loop-i-init
-loop-i-init c = copied_begin _ _ c.new-columns.ensures
 
 pub push-requires : goal.push-requires
 push-requires c = let r = room _ c.args.self.now.accepted in omega (arith, c.loop-i.invariant.few, c.columns_place-place.ensures, count-read c.args.self.now.bytes.now _ _ _ c.columns_place-place.ensures c.from-count.ensures)

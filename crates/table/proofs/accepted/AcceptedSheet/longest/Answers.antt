@@ -19,9 +19,6 @@ slice_bounds-step-count c = omega (arith, pass_inside _ _ c.loop-taken.invariant
 pub slice_bounds-step-start : goal.slice_bounds-step-start
 slice_bounds-step-start c = omega (arith, pass_inside _ _ c.loop-taken.invariant)
 
-pub slice_bounds-step-end : goal.slice_bounds-step-end
-slice_bounds-step-end c = omega (arith, pass_inside _ _ c.loop-taken.invariant)
-
 pub step-requires : goal.step-requires
 step-requires c = pass_asks _ _ c.loop-taken.invariant
 

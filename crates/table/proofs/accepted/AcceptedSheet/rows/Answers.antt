@@ -2,21 +2,12 @@
 use Rattle.table.proofs.Walks.{rows_are, rows_none, rows-room}
 use Rattle.table.proofs.Walks.{rows_are, rows_none}
 use Rattle.table.proofs.Held.{room}
-use mathlib.Core.Path.{sym, ◌∙◌}
+use mathlib.Core.Path.{sym}
 use native.Mathlib.Omega.{arith}
 use Rattle.table.proofs.accepted.AcceptedSheet.rows.Goals as goal
 
-pub loop-c-init : goal.loop-c-init
-loop-c-init c = c.requires
-
 pub next_row-c-requires : goal.next_row-c-requires
 next_row-c-requires c = (c.loop-c-test.true, let r = room _ c.args.self.now.accepted in omega (arith, c.loop-c.invariant))
-
-pub loop-c-smaller : goal.loop-c-smaller
-loop-c-smaller c = omega (arith, c.next_row-c.ensures.left)
-
-pub loop-c-preserved : goal.loop-c-preserved
-loop-c-preserved c = c.next_row-c.ensures.ends ∙ c.loop-c.invariant
 
 pub bounds-self-place : goal.bounds-self-place
 bounds-self-place c = let h = rows-room c.args.self.now.bytes.now c.loop-c.c c.args.self.now.accepted c.loop-c.invariant c.loop-c-test.false in omega arith
