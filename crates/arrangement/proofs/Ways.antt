@@ -23,23 +23,23 @@ pub untargeted_rule : (t : Layout) (i : ℕ) (s : State) (c : Column) (b : Optio
 unfolding untargeted
 untargeted_rule t i s c b w f e q = ap some (q ∙ ap (trimmed c (longest t i)) e ∙ rw f)
 
-module _ (t : Layout) (s : State) (i r : ℕ) (h : Bool) (p : h ≡ is_hidden (column t i)) where
-  pub charged_hidden : h ≡ true → r ≡ charged t s i r
+module _ (c : Column) (s : State) (i r : ℕ) (h : Bool) (p : h ≡ is_hidden c) where
+  pub charged_hidden : h ≡ true → r ≡ charged c s i r
   unfolding charged
-  charged_hidden a = if-true (is_hidden (column t i)) h r _ r p a refl
+  charged_hidden a = if-true (is_hidden c) h r _ r p a refl
 
-  module _ (a : h ≡ false) (d : ℕ) (z : d ≡ padding (column t i)) (k : Bool) (e : k ≡ contains s.decided i) where
-    pub charged-decided : (m q : ℕ) → k ≡ true → m ≡ r - get_or s.widths i 0 → q ≡ m - d → q ≡ charged t s i r
+  module _ (a : h ≡ false) (d : ℕ) (z : d ≡ padding c) (k : Bool) (e : k ≡ contains s.decided i) where
+    pub charged-decided : (m q : ℕ) → k ≡ true → m ≡ r - get_or s.widths i 0 → q ≡ m - d → q ≡ charged c s i r
     unfolding charged
     charged-decided m q y u v =
-        if-false (is_hidden (column t i)) h r _ q p a
-        (if-true (contains s.decided i) k _ (r - padding (column t i)) q e y (omega arith))
+        if-false (is_hidden c) h r _ q p a
+        (if-true (contains s.decided i) k _ (r - padding c) q e y (omega arith))
 
-    pub charged_open : (q : ℕ) → k ≡ false → q ≡ r - d → q ≡ charged t s i r
+    pub charged_open : (q : ℕ) → k ≡ false → q ≡ r - d → q ≡ charged c s i r
     unfolding charged
     charged_open q y u =
-        if-false (is_hidden (column t i)) h r _ q p a
-        (if-false (contains s.decided i) k (r - (get_or s.widths i 0 + padding (column t i))) _ q e y (omega arith))
+        if-false (is_hidden c) h r _ q p a
+        (if-false (contains s.decided i) k (r - (get_or s.widths i 0 + padding c)) _ q e y (omega arith))
 
 pub targeted-at : (t : Layout) (s : State) (r : ℕ) → r ≡ remaining t s
     → ◌≡◌ {A = State} (record { widths = s.widths; decided = s.decided; remaining = r; visible = s.visible }) (targeted t s)

@@ -2,11 +2,13 @@
 use Prim.Native.Nat.{ℕ, zero, suc, ◌+◌, ◌≤◌}
 use mathlib.Core.Path.{◌≡◌, refl, sym, ap, ◌∙◌}
 use mathlib.Core.Bool.{Bool, true, false, not}
+use mathlib.Core.List.{List}
 use mathlib.Core.Logic.{◌⊎◌, inl, inr}
 use mathlib.Core.Option.{Option, none, some}
 use native.Mathlib.Omega.{arith}
 use native.Mathlib.Numerals.{add-one}
 use lib.ListN.{length, take}
+use lib.Seq.{take_all}
 use borrow.Author.Tests.{ne_eqb}
 use Rattle.std.specs.Prelude as std
 use Rattle.std.specs.Prelude.{Some, None}
@@ -98,67 +100,68 @@ module _ (t : Layout) (v : ℕ) where
             go (Absolute w) m n = refl
             go (LowerBoundary w) m n = refl
 
-module _ (t : Layout) (i v : ℕ) where
+module _ (t : Layout) (c : Column) (n v : ℕ) where
   abbrev rest : Option ℕ
-  rest = covered (column t i) (longest t i) (lower t v (column t i))
+  rest = covered c n (lower t v c)
 
   abbrev first_by : std.Option ColumnConstraint → Option ℕ
-  first_by (Some ContentWidth) = some (longest t i)
-  first_by (Some (Absolute w)) = absolute (column t i) (value t v w)
+  first_by (Some ContentWidth) = some n
+  first_by (Some (Absolute w)) = absolute c (value t v w)
   first_by (Some Hidden) = rest
   first_by (Some (LowerBoundary w)) = rest
   first_by (Some (UpperBoundary w)) = rest
   first_by (Some (Boundaries x w)) = rest
   first_by None = rest
 
-  first_as : first_by (constraint_of (column t i)) ≡ first_of t i v
+  first_as : first_by (constraint_of c) ≡ first_of t c n v
   unfolding first_of
   first_as =
-      let c = column t i in
-      by_constraint c (λ k. first_by k ≡ first_of t i v) (λ e. rw e) (λ e. rw e) (λ e. rw e) (λ e. rw e) (λ e. rw e) (λ e. rw e)
+      by_constraint c (λ k. first_by k ≡ first_of t c n v) (λ e. rw e) (λ e. rw e) (λ e. rw e) (λ e. rw e) (λ e. rw e) (λ e. rw e)
       (λ n1 n2 n3 n4 n5 n6. rw (ne_eqb c.constraint 2 n2, ne_eqb c.constraint 3 n3, first_of))
 
-  module _ (k : std.Option ColumnConstraint) (e : k ≡ constraint_of (column t i)) where
-    pub first-none : k ≡ None → none ≡ first_of t i v
+  module _ (k : std.Option ColumnConstraint) (e : k ≡ constraint_of c) where
+    pub first-none : k ≡ None → none ≡ first_of t c n v
     first-none h =
-        ap (covered (column t i) (longest t i)) (lower-none t v (column t i) k e h) ∙ ap first_by (sym h ∙ e) ∙ first_as
+        ap (covered c n) (lower-none t v c k e h) ∙ ap first_by (sym h ∙ e) ∙ first_as
 
     module _ (x : ColumnConstraint) (h : k ≡ Some x) where
-      pub first-content : x ≡ ContentWidth → some (longest t i) ≡ first_of t i v
+      pub first-content : x ≡ ContentWidth → some n ≡ first_of t c n v
       first-content q = ap first_by (ap Some (sym q) ∙ sym h ∙ e) ∙ first_as
 
-      pub first-absolute : (w : Width) (b o : Option ℕ) → x ≡ Absolute w → b ≡ value t v w → o ≡ absolute (column t i) b → o ≡ first_of t i v
-      first-absolute w b o q f g = g ∙ ap (absolute (column t i)) f ∙ ap first_by (ap Some (sym q) ∙ sym h ∙ e) ∙ first_as
+      pub first-absolute : (w : Width) (b o : Option ℕ) → x ≡ Absolute w → b ≡ value t v w → o ≡ absolute c b → o ≡ first_of t c n v
+      first-absolute w b o q f g = g ∙ ap (absolute c) f ∙ ap first_by (ap Some (sym q) ∙ sym h ∙ e) ∙ first_as
 
-      pub first-other : (b o : Option ℕ) → (x ≡ ContentWidth → ⊥) → ((w : Width) → x ≡ Absolute w → ⊥) → b ≡ lower t v (column t i)
-          → o ≡ covered (column t i) (longest t i) b → o ≡ first_of t i v
-      first-other b o m n f g = g ∙ ap (covered (column t i) (longest t i)) f ∙ go x m n ∙ ap first_by (sym h ∙ e) ∙ first_as
+      pub first-other : (b o : Option ℕ) → (x ≡ ContentWidth → ⊥) → ((w : Width) → x ≡ Absolute w → ⊥) → b ≡ lower t v c
+          → o ≡ covered c n b → o ≡ first_of t c n v
+      first-other b o m a f g = g ∙ ap (covered c n) f ∙ go x m a ∙ ap first_by (sym h ∙ e) ∙ first_as
         where
           go : (x : ColumnConstraint) → (x ≡ ContentWidth → ⊥) → ((w : Width) → x ≡ Absolute w → ⊥) → rest ≡ first_by (Some x)
-          go ContentWidth m n = absurd (m refl)
-          go (Absolute w) m n = absurd (n w refl)
-          go Hidden m n = refl
-          go (LowerBoundary w) m n = refl
-          go (UpperBoundary w) m n = refl
-          go (Boundaries w y) m n = refl
+          go ContentWidth m a = absurd (m refl)
+          go (Absolute w) m a = absurd (a w refl)
+          go Hidden m a = refl
+          go (LowerBoundary w) m a = refl
+          go (UpperBoundary w) m a = refl
+          go (Boundaries w y) m a = refl
 
 -- ---- the visible columns
 
-counted : (t : Layout) (n : ℕ) → n ≤ length t.columns → count_by (λ c. not (is_hidden c)) (take n t.columns) ≡ in_order (counting t) n 0
+counted : (t : Layout) (n : ℕ) → n ≤ length t.columns.items → count_by (λ c. not (is_hidden c)) (take n t.columns.items) ≡ in_order (counting t) n 0
 unfolding in_order
 counted t zero h = refl
 counted t (suc n) h =
-    ap (λ (k : ℕ). count_by (λ c. not (is_hidden c)) (take k t.columns)) (sym (add-one n)) ∙ go (is_hidden (column t n)) refl (counted t n (omega arith))
+    ap (λ (k : ℕ). count_by (λ c. not (is_hidden c)) (take k t.columns.items)) (sym (add-one n)) ∙ go (is_hidden (column t n)) refl (counted t n (omega arith))
   where
-    go : (b : Bool) → is_hidden (column t n) ≡ b → count_by (λ c. not (is_hidden c)) (take n t.columns) ≡ in_order (counting t) n 0
-        → count_by (λ c. not (is_hidden c)) (take (n + 1) t.columns) ≡ choose (is_hidden (column t n)) (in_order (counting t) n 0) (in_order (counting t) n 0 + 1)
-    go true e q = rw e (count_by_more_no (λ c. not (is_hidden c)) t.columns n no_column (omega arith) (ap not e) ∙ q)
+    go : (b : Bool) → is_hidden (column t n) ≡ b → count_by (λ c. not (is_hidden c)) (take n t.columns.items) ≡ in_order (counting t) n 0
+        → count_by (λ c. not (is_hidden c)) (take (n + 1) t.columns.items) ≡ choose (is_hidden (column t n)) (in_order (counting t) n 0) (in_order (counting t) n 0 + 1)
+    go true e q = rw e (count_by_more_no (λ c. not (is_hidden c)) t.columns.items n no_column (omega arith) (ap not e) ∙ q)
     go false e q =
-        rw e (count_by_more_yes (λ c. not (is_hidden c)) t.columns n no_column (omega arith) (ap not e) ∙ ap (λ (k : ℕ). k + 1) q)
+        rw e (count_by_more_yes (λ c. not (is_hidden c)) t.columns.items n no_column (omega arith) (ap not e) ∙ ap (λ (k : ℕ). k + 1) q)
 
-pub visible_counted : (t : Layout) → t.count ≤ length t.columns → count_by (λ c. not (is_hidden c)) (take t.count t.columns) ≡ visible t
+pub visible_counted : (t : Layout) → count_by (λ c. not (is_hidden c)) t.columns.items ≡ visible t
 unfolding visible
-visible_counted t h = counted t t.count h
+visible_counted t =
+    let all : take (length t.columns.items) t.columns.items ≡ t.columns.items = take_all (length t.columns.items) t.columns.items (omega arith) in
+    ap (λ (cs : List Column). count_by (λ c. not (is_hidden c)) cs) (sym all) ∙ counted t (length t.columns.items) (omega arith)
 
 -- ---- the first step
 
@@ -167,6 +170,7 @@ module _ (t : Layout) (i : ℕ) (s : State) where
   unfolding evaluated step
   evaluated_in e f = sym (rw (e, f))
 
-  pub evaluated_open : is_hidden (column t i) ≡ false → contains s.decided i ≡ false → taking s i (first_of t i s.visible) ≡ evaluated t i s
+  pub evaluated_open : is_hidden (column t i) ≡ false → contains s.decided i ≡ false
+      → taking s i (first_of t (column t i) (longest t i) s.visible) ≡ evaluated t i s
   unfolding evaluated step
   evaluated_open e f = sym (rw (e, f))

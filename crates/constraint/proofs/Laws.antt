@@ -2,9 +2,9 @@
 use Prim.Native.Nat.{ℕ, suc, ◌+◌, ◌≤◌, ◌<◌}
 use mathlib.Core.Path.{◌≡◌, refl, sym, ap, ◌∙◌}
 use mathlib.Core.Bool.{Bool, true, false}
+use mathlib.Core.List.{List}
 use mathlib.Core.Option.{Option}
-use lib.ListN.{get_or, take}
-use lib.Seq.{get_or-take}
+use lib.ListN.{get_or}
 use native.Mathlib.Omega.{arith}
 use native.Mathlib.Numerals.{add-one}
 use Rattle.rules.specs.declared.Column.{Column}
@@ -38,9 +38,9 @@ module _ {A : Type 0} (f : ℕ → A → A) (x₀ : A) (m n : ℕ) where
         let e : i ≡ m = omega (arith, w.within, w.counted) in
         w.so ∙ ap (λ (k : ℕ). in_order f k x₀) e
 
--- a column of those that there are
-pub column-taken : (t : Layout) (n i : ℕ) → i < n → get_or (take n t.columns) i no_column ≡ column t i
-column-taken t n i h = get_or-take n t.columns i no_column h
+-- a column of those that are lent
+pub column-lent : (t : Layout) (cs : List Column) → cs ≡ t.columns.items → (i : ℕ) → get_or cs i no_column ≡ column t i
+column-lent t cs e i = ap (λ (l : List Column). get_or l i no_column) e
 
 -- an undecided column is not in the set
 module _ (c : Column) (i : ℕ) (s : State) where

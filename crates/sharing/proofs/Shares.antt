@@ -3,7 +3,7 @@ use Prim.Native.Nat.{ℕ, ◌+◌, ◌≤◌, ◌<◌, max}
 use mathlib.Core.Path.{◌≡◌, refl, sym, ap, ◌∙◌, subst}
 use mathlib.Core.Bool.{Bool, true, false}
 use native.Mathlib.Omega.{arith}
-use lib.ListN.{get_or}
+use lib.ListN.{length, get_or}
 use lib.Seq.{get_or-set_other}
 use Rattle.constraint.specs.declared.Layout.{Layout}
 use Rattle.constraint.specs.declared.State.{State}
@@ -50,18 +50,18 @@ module _ (t : Layout) (s : State) where
   unfolding filled
   filled_none e = if-eq s.visible 0 s _ s e refl
 
-  pub filled-some : (x : Sharing) → (s.visible ≡ 0 → ⊥) → x ≡ in_order (widening t s.remaining s.visible) t.count (record { state = s; given = 0 })
+  pub filled-some : (x : Sharing) → (s.visible ≡ 0 → ⊥) → x ≡ in_order (widening t s.remaining s.visible) (length t.columns.items) (record { state = s; given = 0 })
       → x.state ≡ filled t s
   unfolding filled
   filled-some x h e = if_ne s.visible 0 s _ x.state h (ap (λ (z : Sharing). z.state) e)
 
 pub distributed-at : (t : Layout) (s : State) (parts total : ℕ) (x : Sharing) → parts ≡ undecided s → total ≡ max s.remaining parts
-    → x ≡ in_order (sharing t total parts) t.count (record { state = s; given = 0 }) → x.state ≡ distributed t s
+    → x ≡ in_order (sharing t total parts) (length t.columns.items) (record { state = s; given = 0 }) → x.state ≡ distributed t s
 unfolding distributed
 distributed-at t s parts total x e f q =
     ap (λ (z : Sharing). z.state) q
-    ∙ ap (λ (m : ℕ). (in_order (sharing t m parts) t.count (record { state = s; given = 0 })).state) f
-    ∙ ap (λ (k : ℕ). (in_order (sharing t (max s.remaining k) k) t.count (record { state = s; given = 0 })).state) e
+    ∙ ap (λ (m : ℕ). (in_order (sharing t m parts) (length t.columns.items) (record { state = s; given = 0 })).state) f
+    ∙ ap (λ (k : ℕ). (in_order (sharing t (max s.remaining k) k) (length t.columns.items) (record { state = s; given = 0 })).state) e
 
 module _ (t : Layout) (s : State) where
   pub finished-shared : 0 < undecided s → distributed t s ≡ finished t s
