@@ -19,7 +19,7 @@ use Rattle.laws.proofs.Bounds.{Most, small-start, small-step1, small-step2, smal
 use Rattle.constraint.specs.declared.Layout.{Layout}
 use Rattle.constraint.specs.declared.State.{State}
 use Rattle.constraint.specs.Widths.{choose, pass}
-use Rattle.arrangement.specs.Arrange.{untargeted, targeted, step1, step2, step3, plainly, dynamic, started, arranged}
+use Rattle.arrangement.specs.Arrange.{untargeted, remaining, targeted, step1, step2, step3, plainly, dynamic, started, arranged}
 use Rattle.arrangement.specs.Describes.{Describes}
 use Rattle.sharing.specs.Limits.{Small}
 use Rattle.style.specs.Table.{is_disabled}
@@ -30,6 +30,11 @@ use Rattle.arrangement.proofs.Agrees.{Agrees, width_as, step1_agrees, step2_agre
 use Rattle.arrangement.proofs.Begins.{targeted_agrees}
 use Rattle.arrangement.proofs.Placed.{padded_as}
 use Rattle.arrangement.proofs.Ends.{Widths, untargeted_widths, finished_widths}
+
+-- the state whose remaining width is found
+pub targeted-at : (t : Layout) (s : State) (r : ℕ) → r ≡ remaining t s
+    → ◌≡◌ {A = State} (record { widths = s.widths; decided = s.decided; remaining = r; visible = s.visible }) (targeted t s)
+targeted-at t s r e = ap (λ (k : ℕ). record { widths = s.widths; decided = s.decided; remaining = k; visible = s.visible }) e
 
 -- the longest parts that step 3 is told are those of the table's lines
 abbrev pub SameParts : Layout → Table → (ℕ → ℕ → ℕ) → Type 0

@@ -20,9 +20,9 @@ use Rattle.laws.proofs.Lists.{get_d_map, get_d-up_from, length-up_from, keep_yes
 use Rattle.constraint.specs.declared.Layout.{Layout}
 use Rattle.constraint.specs.declared.State.{State}
 use Rattle.constraint.specs.Set.{bit, set_width}
-use Rattle.constraint.specs.Widths.{choose, in_order, column, longest, room, decided, fixed, taking, step, first, hide, evaluated}
+use Rattle.constraint.specs.Widths.{choose, in_order, column, longest, room, decided, fixed, taking, first, hide, evaluated}
 use Rattle.constraint.proofs.Bits.{add-lt, count_add, bit-same, bit-other, zero_bit}
-use Rattle.arrangement.specs.Arrange.{begun, started, charged, remaining, targeted}
+use Rattle.arrangement.specs.Arrange.{begun, started, charged, decided_width, remaining, targeted}
 use Rattle.arrangement.specs.Describes.{Describes}
 use Rattle.arrangement.proofs.Rounds.{order_induct}
 use Rattle.arrangement.proofs.Cases.{by_place}
@@ -171,8 +171,8 @@ module _ (l : Layout) (t : Table) (d : Describes l t) (few : length l.columns.it
     taking-begun none e n = keep-begun e n
     taking-begun (some w) e n = take-begun w e n
 
-    evaluated-begun : Begun (suc i) (evaluated l i s)
-    unfolding evaluated step
+    evaluated-begun : Begun (suc i) (evaluated l (column l i) i s)
+    unfolding evaluated
     evaluated-begun = go (is_hidden (column_at t i)) refl
       where
         go : (x : Bool) → is_hidden (column_at t i) ≡ x
@@ -196,7 +196,7 @@ module _ (l : Layout) (t : Table) (d : Describes l t) (few : length l.columns.it
       }
 
   started-begun : Begun (length l.columns.items) (started l)
-  started-begun = order_induct Begun (evaluated l) (length l.columns.items) (begun l) (λ i s h b. evaluated-begun i s h b) begun-begun
+  started-begun = order_induct Begun (λ i. evaluated l (column l i) i) (length l.columns.items) (begun l) (λ i s h b. evaluated-begun i s h b) begun-begun
 
   pub first-at : (j : ℕ) → j < length l.columns.items → get_or (map (doc.first t) (doc.numbers t)) j 0 ≡ doc.first t j
   unfolding doc.numbers
@@ -233,14 +233,12 @@ module _ (l : Layout) (t : Table) (d : Describes l t) (few : length l.columns.it
           remaining = e;
         }
 
-    charged_as : (i r : ℕ) → i < length l.columns.items → charged (column l i) s i r ≡ r - taken t i
+    charged_as : (i r : ℕ) → i < length l.columns.items → charged (column l i) (decided_width s i) r ≡ r - taken t i
     unfolding charged
     charged_as i r h = go (is_hidden (column_at t i)) (eqb (bit s.decided.0 i) 1) refl refl
       where
         go : (x y : Bool) → is_hidden (column_at t i) ≡ x → eqb (bit s.decided.0 i) 1 ≡ y
-            → choose (is_hidden (column l i)) r
-            (choose (eqb (bit s.decided.0 i) 1) (r - (get_or s.widths i 0 + padding (column l i))) (r - padding (column l i)))
-            ≡ r - taken t i
+            → choose (is_hidden (column l i)) r (r - (unwrap_or (decided_width s i) 0 + padding (column l i))) ≡ r - taken t i
         go true y e q = rw (hidden_as l t d i, e, taken_hidden t i e) (omega arith)
         go false true e q = rw (hidden_as l t d i, e, q, taken-shown t i e, b.done i h, column_as l t d i)
         go false false e q =
@@ -248,11 +246,11 @@ module _ (l : Layout) (t : Table) (d : Describes l t) (few : length l.columns.it
             let z : doc.first t i ≡ 0 = eqb-true (doc.first t i) 0 (not-false (eqb (doc.first t i) 0) (sym (b.known i h) ∙ k)) in
             rw (hidden_as l t d i, e, q, taken-shown t i e, z, column_as l t d i) (omega arith)
 
-    remaining_below : (n r : ℕ) → n ≤ length l.columns.items → in_order (λ i. charged (column l i) s i) n r ≡ r - sum (map (taken t) (up_from 0 n))
+    remaining_below : (n r : ℕ) → n ≤ length l.columns.items → in_order (λ i. charged (column l i) (decided_width s i)) n r ≡ r - sum (map (taken t) (up_from 0 n))
     unfolding in_order sum up_from
     remaining_below zero r h = omega arith
     remaining_below (suc n) r h =
-        charged_as n (in_order (λ i. charged (column l i) s i) n r) h ∙ omega (arith, remaining_below n r (omega arith), sum-last (taken t) n)
+        charged_as n (in_order (λ i. charged (column l i) (decided_width s i)) n r) h ∙ omega (arith, remaining_below n r (omega arith), sum-last (taken t) n)
 
     remaining_as : remaining l s ≡ t.target - doc.borders t - sum (map (taken t) (doc.numbers t))
     unfolding doc.numbers

@@ -17,6 +17,7 @@ fn trimmed_width(c: &Column, n: ContentWidth, b: Option<ConstraintWidth>) -> Con
 }
 
 // Without a target, or with `Disabled`: every undecided column is fixed.
+#[tactic(auto, using(constraint::proofs::Laws::orders), unfolding(constraint::specs::Widths::step, crate::specs::Arrange::untargeted))]
 pub fn arrange(t: &Layout, s: &mut State)
     ensures { s.new ≡ pass untargeted t.now s.old }
 {

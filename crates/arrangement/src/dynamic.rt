@@ -17,29 +17,27 @@ use style::column;
 use style::column::{ConstraintWidth, ContentWidth};
 use table::accepted::AcceptedSheet;
 
-// What column c, which has number i, takes off the remaining width: its padding, and its width if it is decided.
-// The number stays: the set of decided columns and their widths are asked by it.
-fn charge(c: &Column, s: &State, i: usize, r: u16) -> u16
-    requires { i < most_columns }
-    ensures { result ≡ charged c.now s.now i r }
+// What a column takes off the remaining width: its padding, and its width if it is decided.
+#[tactic(auto, unfolding(crate::specs::Arrange::charged))]
+fn charge(c: &Column, width: Option<u16>, r: u16) -> u16
+    ensures { result ≡ charged c.now width r }
 {
     if column::is_hidden(c) {
         return r;
     }
-    let p = column::padding_width(c);
-    if s.decided.contains(i) {
-        return r.saturating_sub(s.widths[i]).saturating_sub(p);
-    }
-    r.saturating_sub(p)
+    r.saturating_sub(width.unwrap_or(0))
+        .saturating_sub(column::padding_width(c))
 }
 
 // What the columns leave of the target.
+#[tactic(auto, using(constraint::proofs::Laws::orders))]
 fn remaining_width(t: &Layout, s: &State) -> u16
     ensures { result ≡ remaining t.now s.now }
 {
     let mut r = t.room(s.visible).unwrap_or(0);
     for (i, c) in t.columns.iter().enumerate() {
-        r = charge(c, s, i, r);
+        let width = s.decided.contains(i).then_some(s.widths[i]);
+        r = charge(c, width, r);
     }
     r
 }
@@ -52,6 +50,7 @@ fn raised_offer(a: u16, c: &Column, b: Option<ConstraintWidth>) -> Option<Conten
         .map(|w| column::absolute_width_with_padding(c, w))
 }
 
+#[tactic(auto, unfolding(rules::specs::Widths::within_average))]
 fn short_offer(a: u16, n: ContentWidth) -> Option<ContentWidth>
     ensures { offered result ≡ within_average n.0 a }
 {
@@ -75,6 +74,7 @@ fn fitting_offer(
 }
 
 // Splitting pays only if it saves three columns.
+#[tactic(auto, unfolding(rules::specs::Widths::shorter_by3))]
 fn split_offer(a: u16, n: ContentWidth) -> Option<ContentWidth>
     ensures { offered result ≡ shorter_by3 n.0 a }
 {
@@ -118,6 +118,7 @@ impl Step for LowerBoundaries {
         false
     }
 
+    #[tactic(auto, unfolding(crate::specs::Arrange::lower_rule))]
     fn offer(&self, t: &Layout, c: &Column, i: usize, s: &State) -> Option<ContentWidth> {
         raised_offer(s.average_space(), c, t.min(c, s.visible))
     }
@@ -138,6 +139,7 @@ impl Step for FitsAverage {
         s.average_space() == 0
     }
 
+    #[tactic(auto, unfolding(crate::specs::Arrange::fit_rule))]
     fn offer(&self, t: &Layout, c: &Column, i: usize, s: &State) -> Option<ContentWidth> {
         let n = ContentWidth(t.longest[i]);
         fitting_offer(s.average_space(), c, n, t.max(c, s.visible))
@@ -160,6 +162,7 @@ impl<'a> Step for AfterSplit<'a> {
         false
     }
 
+    #[tactic(auto, unfolding(crate::specs::Arrange::split_rule))]
     fn offer(&self, t: &Layout, c: &Column, i: usize, s: &State) -> Option<ContentWidth> {
         let a = s.average_space();
         let n = after_split::longest_line_after_split(self.sheet, c, i, a);
@@ -168,6 +171,7 @@ impl<'a> Step for AfterSplit<'a> {
 }
 
 // A column that is fixed changes the average for those after it.
+#[tactic(auto, using(constraint::proofs::Laws::orders), unfolding(constraint::specs::Widths::step))]
 fn pass<S: Step>(step: &S, t: &Layout, s: &mut State)
     requires { S.fits step.now t.now }
     ensures { s.new ≡ turn S.ended (S.rule step.now) t.now s.old }

@@ -58,6 +58,7 @@ pub fn style_from(b: [u8; STYLE_CHARACTERS]) -> TableStyle
 }
 
 // A target of 0 is none.
+#[tactic(auto, unfolding(style::specs::Table::target_of))]
 fn target_from(width: u16) -> Option<u16>
     ensures { result ≡ target_of width }
 {

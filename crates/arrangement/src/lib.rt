@@ -31,6 +31,7 @@ pub struct Widths {
 }
 
 // The first step for every column.
+#[tactic(auto, using(constraint::proofs::Laws::orders))]
 fn start(t: &Layout) -> State
     ensures { result ≡ started t.now }
 {
@@ -40,9 +41,8 @@ fn start(t: &Layout) -> State
         remaining: 0,
         visible: t.count_visible_columns(),
     };
-    // Kept over numbers: `evaluate` names the column by its number, and an iterator would only hand that number on.
-    for i in 0..t.columns.len() {
-        t.evaluate(i, &mut s);
+    for (i, c) in t.columns.iter().enumerate() {
+        t.evaluate(c, i, &mut s);
     }
     s
 }
@@ -63,6 +63,7 @@ fn untargeted(first: ColumnSet, state: State) -> Course
 }
 
 // A target is made up only where there is one and the arrangement isn't `Disabled`.
+#[tactic(auto, using(style::proofs::Laws::disabled_same), unfolding(crate::specs::Arrange::arranged))]
 fn arrange(sheet: &AcceptedSheet<'_>, t: &Layout) -> Course
     requires { Describes t.now (table_of sheet.now.bytes.now) }
     ensures { result ≡ arranged (longest_part (table_of sheet.now.bytes.now)) t.now }

@@ -151,5 +151,7 @@ abbrev pub hide : Layout → ℕ → State → State
 hide t i s =
     record { widths = set s.widths i (lifted (longest t i)); decided = s.decided; remaining = s.remaining; visible = s.visible }
 
-unfoldable pub evaluated : Layout → ℕ → State → State
-evaluated t i s = choose (is_hidden (column t i)) (hide t i s) (step first t i s)
+-- column c, which has number i
+unfoldable pub evaluated : Layout → Column → ℕ → State → State
+evaluated t c i s =
+    choose (is_hidden c) (hide t i s) (choose (decided c i s) s (taking s i (first_of t c (longest t i) s.visible)))

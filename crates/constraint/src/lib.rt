@@ -5,7 +5,7 @@ pub mod column_set;
 
 ghost use Rattle.std.specs.Prelude.{ℕ, ◌≡◌, ◌<◌, false};
 ghost use Rattle.constraint.specs.Set.{contains};
-ghost use Rattle.constraint.specs.Widths.{visible, borders, room, percent, bound, offered, value, lower, upper, undecided, average, first_of, column, Asks, Tells, by_column};
+ghost use Rattle.constraint.specs.Widths.{visible, borders, room, percent, bound, offered, value, lower, upper, undecided, average, first_of, Asks, Tells, by_column};
 ghost use Rattle.constraint.specs.Widths.{decided, fixed, taking, evaluated};
 ghost use Rattle.rules.specs.Sheet.{most_columns};
 
@@ -47,6 +47,7 @@ pub fn percent_of(room: u16, p: u16) -> u16
 
 impl Layout {
     // The divisor of the average is counted from these.
+    #[tactic(auto, using(crate::proofs::Laws::visible_counted))]
     pub fn count_visible_columns(&self) -> u16
         ensures { result ≡ visible self.now }
     {
@@ -57,6 +58,7 @@ impl Layout {
     }
 
     // What f answers for each column, and `blank` past the columns.
+    #[tactic(auto, using(crate::proofs::Laws::orders))]
     pub fn by_column<T: Copy, F: Fn(usize, &Column) -> T>(
         &self,
         blank: T,
@@ -106,6 +108,7 @@ impl Layout {
     }
 
     // The lower bound.
+    #[tactic(auto, unfolding(crate::specs::Widths::lower, rules::specs::Widths::lower_width, style::specs::Column::constraint_of))]
     pub fn min(&self, c: &Column, v: u16) -> Option<ConstraintWidth>
         ensures { bound result ≡ lower self.now v c.now }
     {
@@ -118,6 +121,7 @@ impl Layout {
     }
 
     // The upper bound.
+    #[tactic(auto, unfolding(crate::specs::Widths::upper, rules::specs::Widths::upper_width, style::specs::Column::constraint_of))]
     pub fn max(&self, c: &Column, v: u16) -> Option<ConstraintWidth>
         ensures { bound result ≡ upper self.now v c.now }
     {
@@ -129,6 +133,7 @@ impl Layout {
         }
     }
 
+    #[tactic(auto, unfolding(crate::specs::Widths::first_of, crate::specs::Widths::lower, rules::specs::Widths::lower_width, rules::specs::Widths::covering, style::specs::Column::constraint_of))]
     fn first_offer(&self, c: &Column, n: ContentWidth, v: u16) -> Option<ContentWidth>
         ensures { offered result ≡ first_of self.now c.now n.0 v }
     {
@@ -146,29 +151,22 @@ impl Layout {
         }
     }
 
-    // Column i, and an empty one past the columns.
-    fn column(&self, i: usize) -> Column
-        ensures { result ≡ column self.now i }
-    {
-        self.columns.get(i).copied().unwrap_or_default()
-    }
-
     // The first step: what a constraint settles without knowing the other columns. A hidden column is never in the set.
-    // The number stays: columns, longest lines, widths and the set are all asked by it.
-    pub fn evaluate(&self, i: usize, s: &mut State)
+    // The number stays beside the column: longest lines, widths and the set are asked by it.
+    #[tactic(auto, unfolding(crate::specs::Widths::evaluated))]
+    pub fn evaluate(&self, c: &Column, i: usize, s: &mut State)
         requires { i < most_columns }
-        ensures { s.new ≡ evaluated self.now i s.old }
+        ensures { s.new ≡ evaluated self.now c.now i s.old }
     {
-        let c = self.column(i);
         let n = self.longest[i];
-        if column::is_hidden(&c) {
+        if column::is_hidden(c) {
             s.widths[i] = n.max(1);
             return;
         }
         if s.decided.contains(i) {
             return;
         }
-        let offer = self.first_offer(&c, ContentWidth(n), s.visible);
+        let offer = self.first_offer(c, ContentWidth(n), s.visible);
         s.take(i, offer);
     }
 }

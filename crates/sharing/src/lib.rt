@@ -21,6 +21,7 @@ fn share_of(n: u16, parts: u16, k: u16) -> u16
 }
 
 // Step 4, with columns left: each gets at least 1.
+#[tactic(auto, using(constraint::proofs::Laws::orders), unfolding(crate::specs::Share::sharing, crate::specs::Share::distributed))]
 fn distribute_remaining_space(t: &Layout, s: &mut State)
     requires { 0 < undecided s.old }
     ensures { s.new ≡ distributed t.now s.old }
@@ -38,6 +39,7 @@ fn distribute_remaining_space(t: &Layout, s: &mut State)
 }
 
 // Step 4, with none left: every visible column is widened.
+#[tactic(auto, using(constraint::proofs::Laws::orders, crate::proofs::Shares::widened_ahead), unfolding(crate::specs::Share::widening, crate::specs::Share::filled))]
 fn use_full_width(t: &Layout, s: &mut State)
     requires { Small s.old }
     ensures { s.new ≡ filled t.now s.old }
@@ -58,6 +60,7 @@ fn use_full_width(t: &Layout, s: &mut State)
 }
 
 // Step 4.
+#[tactic(auto, using(style::proofs::Laws::full_same), unfolding(crate::specs::Share::finished))]
 pub fn finish(t: &Layout, s: &mut State)
     requires { Small s.old }
     ensures { s.new ≡ finished t.now s.old }

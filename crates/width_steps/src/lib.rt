@@ -40,6 +40,7 @@ fn fitted_step(c: &Column, n: ContentWidth, b: Option<ConstraintWidth>) -> Width
 
 // The first of steps 1 to 3 after which column c, which has number i, is decided, or step 4.
 // Here and below the number stays: the sets of decided columns and the arrays are asked by it.
+#[tactic(auto, unfolding(crate::specs::Steps::targeted_by))]
 fn targeted_step(t: &Layout, v: u16, c: &Column, i: usize, a: &Course) -> WidthStep
     requires { (i < most_columns) × (c.now ≡ column t.now i) × (v ≡ visible t.now) }
     ensures { result ≡ targeted_by t.now a.now i }
@@ -57,6 +58,7 @@ fn targeted_step(t: &Layout, v: u16, c: &Column, i: usize, a: &Course) -> WidthS
 }
 
 // A hidden column names none; the first step is the same with and without a target.
+#[tactic(auto, using(style::proofs::Laws::disabled_same), unfolding(crate::specs::Steps::step_by))]
 fn step_of(t: &Layout, v: u16, c: &Column, i: usize, a: &Course) -> WidthStep
     requires { (i < most_columns) × (c.now ≡ column t.now i) × (v ≡ visible t.now) }
     ensures { result ≡ step_by t.now a.now i }
@@ -81,6 +83,7 @@ fn steps(t: &Layout, a: &Course) -> [u8; MOST_COLUMNS]
 }
 
 // To a column that is decided before it step 4 gives nothing but its share of the remainder.
+#[tactic(auto, unfolding(crate::specs::Steps::widened_by))]
 fn is_widened(c: &Column, i: usize, a: &Course) -> bool
     requires { i < most_columns }
     ensures { result ≡ widened_by c.now a.now i }

@@ -1,9 +1,8 @@
 use mathlib.Core.Path.{refl}
 use Rattle.laws.proofs.Accepted.{accepted_limits}
 use Rattle.table.proofs.Held.{held}
-use Rattle.arrangement.proofs.Arranged.{steps_small}
+use Rattle.arrangement.proofs.Arranged.{steps_small, targeted-at}
 use Rattle.arrangement.proofs.Offers.{few_as}
-use Rattle.arrangement.proofs.Ways.{targeted-at}
 use Rattle.arrangement.proofs.dynamic.arrange.Goals as goal
 
 pub finish-requires : goal.finish-requires

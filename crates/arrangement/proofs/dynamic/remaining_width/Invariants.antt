@@ -1,8 +1,7 @@
-use lib.ListN.{length}
-use Rattle.constraint.specs.Widths.{column}
-use Rattle.arrangement.specs.Arrange.{charged}
-use Rattle.constraint.proofs.Laws.{Walk}
+use mathlib.Core.Path.{◌≡◌}
+use Rattle.constraint.specs.Widths.{in_order, column}
+use Rattle.arrangement.specs.Arrange.{charged, decided_width}
 use Rattle.arrangement.proofs.dynamic.remaining_width.Given as goal
 
 abbrev pub invariant-loop-i : goal.invariant-loop-i
-invariant-loop-i l = Walk (λ i. charged (column l.t i) l.s i) l.initial.r (length l.t.columns.items) l.i-end l.i l.r
+invariant-loop-i l = l.r ≡ in_order (λ i. charged (column l.t i) (decided_width l.s i)) l.i l.initial.r
