@@ -4,11 +4,11 @@ use mathlib.Core.Path.{◌≡◌, refl, sym, ap, ◌∙◌}
 use mathlib.Core.Bool.{Bool, true, false, ◌||◌}
 use mathlib.Core.List.{List, map}
 use native.Mathlib.Omega.{arith}
-use lib.ListN.{get_or}
+use lib.ListN.{length, get_or}
 use lib.Dec.{eqb, leb}
 use borrow.Author.Tests.{leb-true, leb-false}
 use Rattle.rules.specs.Text.{or_else}
-use Rattle.rules.specs.Sheet.{Table}
+use Rattle.rules.specs.Sheet.{Table, most_columns}
 use Rattle.rules.specs.Limits.{TableLimits}
 use Rattle.rules.specs.Calls.{as_array}
 use Rattle.rules.specs.Widths as doc
@@ -19,7 +19,7 @@ use Rattle.laws.proofs.Bounds.{Most, small-start, small-step1, small-step2, smal
 use Rattle.constraint.specs.declared.Layout.{Layout}
 use Rattle.constraint.specs.declared.State.{State}
 use Rattle.constraint.specs.Widths.{choose, pass}
-use Rattle.arrangement.specs.Arrange.{untargeted, targeted, step1, step2, step3, plainly, dynamic, started, arranged}
+use Rattle.arrangement.specs.Arrange.{untargeted, remaining, targeted, step1, step2, step3, plainly, dynamic, started, arranged}
 use Rattle.arrangement.specs.Describes.{Describes}
 use Rattle.sharing.specs.Limits.{Small}
 use Rattle.style.specs.Table.{is_disabled}
@@ -31,24 +31,29 @@ use Rattle.arrangement.proofs.Begins.{targeted_agrees}
 use Rattle.arrangement.proofs.Placed.{padded_as}
 use Rattle.arrangement.proofs.Ends.{Widths, untargeted_widths, finished_widths}
 
+-- the state whose remaining width is found
+pub targeted-at : (t : Layout) (s : State) (r : ℕ) → r ≡ remaining t s
+    → ◌≡◌ {A = State} (record { widths = s.widths; decided = s.decided; remaining = r; visible = s.visible }) (targeted t s)
+targeted-at t s r e = ap (λ (k : ℕ). record { widths = s.widths; decided = s.decided; remaining = k; visible = s.visible }) e
+
 -- the longest parts that step 3 is told are those of the table's lines
 abbrev pub SameParts : Layout → Table → (ℕ → ℕ → ℕ) → Type 0
-SameParts l t parts = (j a : ℕ) → j < l.count → parts j a ≡ longest_part t j a
+SameParts l t parts = (j a : ℕ) → j < length l.columns.items → parts j a ≡ longest_part t j a
 
-module _ (l : Layout) (t : Table) (d : Describes l t) where
+module _ (l : Layout) (t : Table) (d : Describes l t) (few : length l.columns.items ≤ most_columns) where
   -- small widths stay small in the code's state
   small_as : (s : State) (u : doc.State) → Agrees l t s u → bounds.Small u → Small s
   small_as s u a m =
-      record { widths = λ i. at i (leb l.count i) refl; remaining = omega (arith, a.remaining, m.remaining) }
+      record { widths = λ i. at i (leb (length l.columns.items) i) refl; remaining = omega (arith, a.remaining, m.remaining) }
     where
-      at : (i : ℕ) (b : Bool) → leb l.count i ≡ b → get_or s.widths i 0 ≤ 400
-      at i true e = omega (arith, a.past i (leb-true l.count i e))
-      at i false e = omega (arith, width_as l t d s u a i (leb-false l.count i e), all_default (Most 400) u.widths i 0 (omega arith) m.widths)
+      at : (i : ℕ) (b : Bool) → leb (length l.columns.items) i ≡ b → get_or s.widths i 0 ≤ 400
+      at i true e = omega (arith, a.past i (leb-true (length l.columns.items) i e))
+      at i false e = omega (arith, width_as l t d few s u a i (leb-false (length l.columns.items) i e), all_default (Most 400) u.widths i 0 (omega arith) m.widths)
 
   module _ (parts : ℕ → ℕ → ℕ) (p : SameParts l t parts) where
     -- steps 1 to 3
     steps_agree : Agrees l t (step3 parts l (step2 l (step1 l (targeted l (started l))))) (doc.step3 t (doc.step2 t (doc.step1 t (doc.start t))))
-    steps_agree = step3_agrees l t d parts p _ _ (step2_agrees l t d _ _ (step1_agrees l t d _ _ (targeted_agrees l t d)))
+    steps_agree = step3_agrees l t d few parts p _ _ (step2_agrees l t d few _ _ (step1_agrees l t d few _ _ (targeted_agrees l t d few)))
 
     pub arranged_widths : Widths l (contents t) (arranged parts l).state
     unfolding arranged contents
@@ -62,8 +67,8 @@ module _ (l : Layout) (t : Table) (d : Describes l t) where
               | false ↦ doc.step4 t (doc.step3 t (doc.step2 t (doc.step1 t (doc.start t))))
             ])
             (choose x (plainly (started l).decided (pass untargeted l (started l))) (dynamic parts l (started l))).state
-        go true true e = untargeted_widths l t d
-        go false false e = finished_widths l t d _ _ steps_agree
+        go true true e = untargeted_widths l t d few
+        go false false e = finished_widths l t d few _ _ steps_agree
         go true false e = absurd (unlike true refl e)
         go false true e = absurd (unlike true refl (sym e))
 
@@ -71,7 +76,7 @@ module _ (l : Layout) (t : Table) (d : Describes l t) where
     pub arranged-contents : (arranged parts l).state.widths ≡ as_array 0 (contents t)
     arranged-contents =
         let w = arranged_widths in
-        padded_as l.count (arranged parts l).state.widths (contents t) w.long d.few w.widths w.past
+        padded_as (length l.columns.items) (arranged parts l).state.widths (contents t) w.long few w.widths w.past
 
     -- what the steps come to, and that it is small
     module _ (m : TableLimits t) (s a b c e : State) (q : s ≡ started l) (e₀ : a ≡ targeted l s) (e₁ : b ≡ step1 l a) (e₂ : c ≡ step2 l b)

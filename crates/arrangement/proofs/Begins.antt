@@ -20,13 +20,13 @@ use Rattle.laws.proofs.Lists.{get_d_map, get_d-up_from, length-up_from, keep_yes
 use Rattle.constraint.specs.declared.Layout.{Layout}
 use Rattle.constraint.specs.declared.State.{State}
 use Rattle.constraint.specs.Set.{bit, set_width}
-use Rattle.constraint.specs.Widths.{choose, in_order, column, longest, room, decided, fixed, taking, step, first, hide, evaluated}
+use Rattle.constraint.specs.Widths.{choose, in_order, column, longest, room, decided, fixed, taking, first, hide, evaluated}
 use Rattle.constraint.proofs.Bits.{add-lt, count_add, bit-same, bit-other, zero_bit}
-use Rattle.arrangement.specs.Arrange.{begun, started, charged, remaining, targeted}
+use Rattle.arrangement.specs.Arrange.{begun, started, charged, decided_width, remaining, targeted}
 use Rattle.arrangement.specs.Describes.{Describes}
 use Rattle.arrangement.proofs.Rounds.{order_induct}
 use Rattle.arrangement.proofs.Cases.{by_place}
-use Rattle.arrangement.proofs.Offers.{shown, hidden_as, visible_as, room_as, first_as}
+use Rattle.arrangement.proofs.Offers.{count_as, column_as, longest_as, shown, hidden_as, visible_as, room_as, first_as}
 use Rattle.arrangement.proofs.Agrees.{Agrees}
 use Rattle.arrangement.proofs.Placed.{map_last}
 
@@ -78,7 +78,7 @@ taken-shown : (t : Table) (j : ℕ) → is_hidden (column_at t j) ≡ false → 
 unfolding taken
 taken-shown t j e = rw (e, taken)
 
-module _ (l : Layout) (t : Table) (d : Describes l t) where
+module _ (l : Layout) (t : Table) (d : Describes l t) (few : length l.columns.items ≤ most_columns) where
   -- i columns have had their first step
   record Begun (i : ℕ) (s : State) : Type 0 where
     long : length s.widths ≡ most_columns
@@ -91,12 +91,12 @@ module _ (l : Layout) (t : Table) (d : Describes l t) where
     out : (j : ℕ) → i ≤ j → bit s.decided.0 j ≡ 0
     counted : zeros (map (doc.first t) (up_from 0 i)) + ones s.decided.0 ≡ length (keep (shown t) (up_from 0 i))
 
-  module _ (i : ℕ) (s : State) (h : i < l.count) (b : Begun i s) where
+  module _ (i : ℕ) (s : State) (h : i < length l.columns.items) (b : Begun i s) where
     -- a width that is noted for column i, and what stands elsewhere
     set_done : (v : ℕ) → v ≡ doc.first t i → (j : ℕ) → j < suc i → get_or (set s.widths i v) j 0 ≡ doc.first t j
     set_done v e j k =
         by_place (λ (x : ℕ). x < suc i → get_or (set s.widths i v) x 0 ≡ doc.first t x) j i
-        (λ q. get_or-set_same s.widths i v 0 (omega (arith, b.long, d.few)) ∙ e) (λ n q. get_or-set_other s.widths i j v 0 n ∙ b.done j (omega arith)) k
+        (λ q. get_or-set_same s.widths i v 0 (omega (arith, b.long, few)) ∙ e) (λ n q. get_or-set_other s.widths i j v 0 n ∙ b.done j (omega arith)) k
 
     set_todo : (v j : ℕ) → suc i ≤ j → get_or (set s.widths i v) j 0 ≡ 0
     set_todo v j k = get_or-set_other s.widths i j v 0 (λ e. omega arith) ∙ b.todo j (omega arith)
@@ -118,15 +118,15 @@ module _ (l : Layout) (t : Table) (d : Describes l t) where
           fits = b.fits;
           seen = b.seen;
           unspent = b.unspent;
-          done = set_done (lifted (longest l i)) (ap lifted (d.longest i h) ∙ sym v);
+          done = set_done (lifted (longest l i)) (ap lifted (longest_as l t d i h) ∙ sym v);
           todo = set_todo (lifted (longest l i));
-          known = now_known (hide l i s) (rw (n, hidden_as l t d i h, e)) (λ j k. refl);
+          known = now_known (hide l i s) (rw (n, hidden_as l t d i, e)) (λ j k. refl);
           out = λ j k. b.out j (omega arith);
           counted = omega (arith, b.counted, zeros-some (doc.first t) i (omega arith), ap length (keep_no (shown t) i (ap not e)));
         }
 
     open-visible : is_hidden (column_at t i) ≡ false → decided (column l i) i s ≡ false
-    open-visible e = rw (hidden_as l t d i h, e, b.out i (omega arith))
+    open-visible e = rw (hidden_as l t d i, e, b.out i (omega arith))
 
     length-shown : is_hidden (column_at t i) ≡ false → length (keep (shown t) (up_from 0 (suc i))) ≡ length (keep (shown t) (up_from 0 i)) + 1
     length-shown e = ap length (keep_yes (shown t) i (ap not e)) ∙ length-append (keep (shown t) (up_from 0 i)) (i ∷ [])
@@ -156,12 +156,12 @@ module _ (l : Layout) (t : Table) (d : Describes l t) where
         let z : bit s.decided.0 i ≡ 0 = b.out i (omega arith) in
         record {
           long = length-set s.widths i _ ∙ b.long;
-          fits = add-lt set_width s.decided.0 i (omega (arith, d.few)) b.fits z;
+          fits = add-lt set_width s.decided.0 i (omega (arith, few)) b.fits z;
           seen = b.seen;
           unspent = omega (arith, b.unspent);
           done = set_done (lifted w) (sym v);
           todo = set_todo (lifted w);
-          known = now_known (fixed s i w) (rw (m, hidden_as l t d i h, e, bit-same i s.decided.0 z))
+          known = now_known (fixed s i w) (rw (m, hidden_as l t d i, e, bit-same i s.decided.0 z))
               (λ j k. rw (bit-other i j s.decided.0 z (λ q. omega arith)));
           out = λ j k. bit-other i j s.decided.0 z (λ q. omega arith) ∙ b.out j (omega arith);
           counted = omega (arith, b.counted, count_add i s.decided.0 z, zeros-some (doc.first t) i (omega arith), length-shown e);
@@ -171,14 +171,14 @@ module _ (l : Layout) (t : Table) (d : Describes l t) where
     taking-begun none e n = keep-begun e n
     taking-begun (some w) e n = take-begun w e n
 
-    evaluated-begun : Begun (suc i) (evaluated l i s)
-    unfolding evaluated step
+    evaluated-begun : Begun (suc i) (evaluated l (column l i) i s)
+    unfolding evaluated
     evaluated-begun = go (is_hidden (column_at t i)) refl
       where
         go : (x : Bool) → is_hidden (column_at t i) ≡ x
             → Begun (suc i) (choose (is_hidden (column l i)) (hide l i s) (choose (decided (column l i) i s) s (taking s i (first l i s))))
-        go true e = rw (hidden_as l t d i h, e) (hide-begun e)
-        go false e = let o = open-visible e in rw (o, hidden_as l t d i h, e) (taking-begun (first l i s) e (sym (first_as l t d i s h b.seen e)))
+        go true e = rw (hidden_as l t d i, e) (hide-begun e)
+        go false e = let o = open-visible e in rw (o, hidden_as l t d i, e) (taking-begun (first l i s) e (sym (first_as l t d i s h b.seen e)))
 
   begun-begun : Begun 0 (begun l)
   unfolding up_from keep zeros ones ones_in
@@ -195,27 +195,27 @@ module _ (l : Layout) (t : Table) (d : Describes l t) where
         counted = refl;
       }
 
-  started-begun : Begun l.count (started l)
-  started-begun = order_induct Begun (evaluated l) l.count (begun l) (λ i s h b. evaluated-begun i s h b) begun-begun
+  started-begun : Begun (length l.columns.items) (started l)
+  started-begun = order_induct Begun (λ i. evaluated l (column l i) i) (length l.columns.items) (begun l) (λ i s h b. evaluated-begun i s h b) begun-begun
 
-  pub first-at : (j : ℕ) → j < l.count → get_or (map (doc.first t) (doc.numbers t)) j 0 ≡ doc.first t j
+  pub first-at : (j : ℕ) → j < length l.columns.items → get_or (map (doc.first t) (doc.numbers t)) j 0 ≡ doc.first t j
   unfolding doc.numbers
   first-at j h =
-      let k : j < length t.columns = omega (arith, d.count) in
+      let k : j < length t.columns = omega (arith, count_as l t d) in
       get_d_map (doc.first t) (up_from 0 (length t.columns)) j 0 0 (omega (arith, length-up_from 0 (length t.columns)))
       ∙ ap (doc.first t) (get_d-up_from 0 (length t.columns) j 0 k ∙ omega arith)
 
-  length-first : length (map (doc.first t) (doc.numbers t)) ≡ l.count
+  length-first : length (map (doc.first t) (doc.numbers t)) ≡ length l.columns.items
   unfolding doc.numbers
-  length-first = length-map (doc.numbers t) (doc.first t) ∙ length-up_from 0 (length t.columns) ∙ sym d.count
+  length-first = length-map (doc.numbers t) (doc.first t) ∙ length-up_from 0 (length t.columns) ∙ sym (count_as l t d)
 
   -- all columns have had their first step
-  module _ (s : State) (b : Begun l.count s) where
-    begun_widths : take l.count s.widths ≡ map (doc.first t) (doc.numbers t)
+  module _ (s : State) (b : Begun (length l.columns.items) s) where
+    begun_widths : take (length l.columns.items) s.widths ≡ map (doc.first t) (doc.numbers t)
     begun_widths =
-        let n : length (take l.count s.widths) ≡ l.count = length-take l.count s.widths ∙ omega (arith, b.long, d.few) in
-        ext_get_or 0 (take l.count s.widths) (map (doc.first t) (doc.numbers t)) (n ∙ sym length-first)
-        (λ j h. (let k : j < l.count = omega arith in get_or-take l.count s.widths j 0 k ∙ b.done j k ∙ sym (first-at j k)))
+        let n : length (take (length l.columns.items) s.widths) ≡ length l.columns.items = length-take (length l.columns.items) s.widths ∙ omega (arith, b.long, few) in
+        ext_get_or 0 (take (length l.columns.items) s.widths) (map (doc.first t) (doc.numbers t)) (n ∙ sym length-first)
+        (λ j h. (let k : j < length l.columns.items = omega arith in get_or-take (length l.columns.items) s.widths j 0 k ∙ b.done j k ∙ sym (first-at j k)))
 
     begun_agrees : (r q : ℕ) → r ≡ q
         → Agrees l t (record { widths = s.widths; decided = s.decided; remaining = r; visible = s.visible })
@@ -229,35 +229,33 @@ module _ (l : Layout) (t : Table) (d : Describes l t) where
           past = b.todo;
           noted = λ j h. b.known j h ∙ ap (λ (x : ℕ). not (eqb x 0)) (sym (first-at j h));
           seen = b.seen;
-          counted = rw (← d.count) b.counted;
+          counted = rw (← count_as l t d) b.counted;
           remaining = e;
         }
 
-    charged_as : (i r : ℕ) → i < l.count → charged l s i r ≡ r - taken t i
+    charged_as : (i r : ℕ) → i < length l.columns.items → charged (column l i) (decided_width s i) r ≡ r - taken t i
     unfolding charged
     charged_as i r h = go (is_hidden (column_at t i)) (eqb (bit s.decided.0 i) 1) refl refl
       where
         go : (x y : Bool) → is_hidden (column_at t i) ≡ x → eqb (bit s.decided.0 i) 1 ≡ y
-            → choose (is_hidden (column l i)) r
-            (choose (eqb (bit s.decided.0 i) 1) (r - (get_or s.widths i 0 + padding (column l i))) (r - padding (column l i)))
-            ≡ r - taken t i
-        go true y e q = rw (hidden_as l t d i h, e, taken_hidden t i e) (omega arith)
-        go false true e q = rw (hidden_as l t d i h, e, q, taken-shown t i e, b.done i h, d.column i h)
+            → choose (is_hidden (column l i)) r (r - (unwrap_or (decided_width s i) 0 + padding (column l i))) ≡ r - taken t i
+        go true y e q = rw (hidden_as l t d i, e, taken_hidden t i e) (omega arith)
+        go false true e q = rw (hidden_as l t d i, e, q, taken-shown t i e, b.done i h, column_as l t d i)
         go false false e q =
-            let k : decided (column l i) i s ≡ false = rw (hidden_as l t d i h, e) q in
+            let k : decided (column l i) i s ≡ false = rw (hidden_as l t d i, e) q in
             let z : doc.first t i ≡ 0 = eqb-true (doc.first t i) 0 (not-false (eqb (doc.first t i) 0) (sym (b.known i h) ∙ k)) in
-            rw (hidden_as l t d i h, e, q, taken-shown t i e, z, d.column i h) (omega arith)
+            rw (hidden_as l t d i, e, q, taken-shown t i e, z, column_as l t d i) (omega arith)
 
-    remaining_below : (n r : ℕ) → n ≤ l.count → in_order (charged l s) n r ≡ r - sum (map (taken t) (up_from 0 n))
+    remaining_below : (n r : ℕ) → n ≤ length l.columns.items → in_order (λ i. charged (column l i) (decided_width s i)) n r ≡ r - sum (map (taken t) (up_from 0 n))
     unfolding in_order sum up_from
     remaining_below zero r h = omega arith
     remaining_below (suc n) r h =
-        charged_as n (in_order (charged l s) n r) h ∙ omega (arith, remaining_below n r (omega arith), sum-last (taken t) n)
+        charged_as n (in_order (λ i. charged (column l i) (decided_width s i)) n r) h ∙ omega (arith, remaining_below n r (omega arith), sum-last (taken t) n)
 
     remaining_as : remaining l s ≡ t.target - doc.borders t - sum (map (taken t) (doc.numbers t))
     unfolding doc.numbers
     remaining_as =
-        remaining_below l.count (unwrap_or (room l s.visible) 0) (omega arith) ∙ rw (room_as l t d s.visible b.seen, d.count)
+        remaining_below (length l.columns.items) (unwrap_or (room l s.visible) 0) (omega arith) ∙ rw (room_as l t d s.visible b.seen, count_as l t d)
 
   -- no target, or `Disabled`: nothing is charged
   pub started_agrees : Agrees l t (started l) (record { widths = map (doc.first t) (doc.numbers t); remaining = 0 })

@@ -28,7 +28,7 @@ use Rattle.arrangement.specs.Arrange.{trimmed, untargeted, started}
 use Rattle.arrangement.specs.Describes.{Describes}
 use Rattle.arrangement.proofs.Rounds.{order_induct}
 use Rattle.arrangement.proofs.Cases.{by_place, unlike}
-use Rattle.arrangement.proofs.Offers.{shown, hidden_as, untrimmed, untargeted-same}
+use Rattle.arrangement.proofs.Offers.{count_as, shown, hidden_as, untrimmed, untargeted-same}
 use Rattle.arrangement.proofs.Agrees.{Agrees, length_as, width_as, pass_agrees}
 use Rattle.arrangement.proofs.Begins.{started_agrees, first-at, zeros-append, zeros-one}
 use Rattle.arrangement.proofs.Placed.{placed, length-placed, placed_above, placed-take}
@@ -36,8 +36,8 @@ use Rattle.arrangement.proofs.Placed.{placed, length-placed, placed_above, place
 -- the widths of the columns are cs, and none stands past them
 pub record Widths (l : Layout) (cs : List ℕ) (s : State) : Type 0 where
   pub long : length s.widths ≡ most_columns
-  pub widths : take l.count s.widths ≡ cs
-  pub past : (j : ℕ) → l.count ≤ j → get_or s.widths j 0 ≡ 0
+  pub widths : take (length l.columns.items) s.widths ≡ cs
+  pub past : (j : ℕ) → length l.columns.items ≤ j → get_or s.widths j 0 ≡ 0
 
 share_as : (n parts k : ℕ) → share n parts k ≡ doc.share n parts k
 unfolding doc.share
@@ -98,7 +98,7 @@ unfolding placed
 placed_same ws zero = refl
 placed_same ws (suc n) = set-get_or (placed (λ j w. w) n ws) n 0 ∙ placed_same ws n
 
-module _ (l : Layout) (t : Table) (d : Describes l t) where
+module _ (l : Layout) (t : Table) (d : Describes l t) (few : length l.columns.items ≤ most_columns) where
   -- ---- no target, or `Disabled`
 
   settled_at : ℕ → ℕ → ℕ
@@ -144,25 +144,25 @@ module _ (l : Layout) (t : Table) (d : Describes l t) where
       visit-untrimmed n (doc.pass (untrimmed l t d) n u) ∙ ap (λ (ws : List ℕ). set ws n (settled_at n (get_or ws n 0))) (pass-untrimmed u n)
 
   -- the numbers of the columns, by the layout's count
-  columns_of : (f : ℕ → ℕ) → map f (up_from 0 l.count) ≡ map f (doc.numbers t)
+  columns_of : (f : ℕ → ℕ) → map f (up_from 0 (length l.columns.items)) ≡ map f (doc.numbers t)
   unfolding doc.numbers
-  columns_of f = ap (λ (n : ℕ). map f (up_from 0 n)) d.count
+  columns_of f = ap (λ (n : ℕ). map f (up_from 0 n)) (count_as l t d)
 
   pub untargeted_widths : Widths l (map (λ j. or_else (doc.first t j) (doc.untargeted t j)) (doc.numbers t)) (pass untargeted l (started l))
   unfolding settled_at
   untargeted_widths =
       let u : doc.State = record { widths = map (doc.first t) (doc.numbers t); remaining = 0 } in
-      let a = pass_agrees l t d untargeted (untrimmed l t d) (untargeted-same l t d) (started l) u (started_agrees l t d) in
-      let n = length_as l t d (started l) u (started_agrees l t d) in
-      let e = map_below (λ j. or_else (get_or u.widths j 0) (doc.untargeted t j)) (λ j. or_else (doc.first t j) (doc.untargeted t j)) 0 l.count l.count
-      (omega arith) (λ j h. rw (first-at l t d j h)) in
-      let w : take l.count (placed settled_at l.count u.widths) ≡ map (λ j. or_else (get_or u.widths j 0) (doc.untargeted t j))
-      (up_from 0 l.count) = placed-take settled_at u.widths l.count (omega arith) in
-      let v : take l.count (placed settled_at l.count u.widths) ≡ placed settled_at l.count u.widths = take_all l.count
-      (placed settled_at l.count u.widths) (omega (arith, length-placed settled_at u.widths l.count)) in
+      let a = pass_agrees l t d few untargeted (untrimmed l t d) (untargeted-same l t d) (started l) u (started_agrees l t d few) in
+      let n = length_as l t d few (started l) u (started_agrees l t d few) in
+      let e = map_below (λ j. or_else (get_or u.widths j 0) (doc.untargeted t j)) (λ j. or_else (doc.first t j) (doc.untargeted t j)) 0 (length l.columns.items) (length l.columns.items)
+      (omega arith) (λ j h. rw (first-at l t d few j h)) in
+      let w : take (length l.columns.items) (placed settled_at (length l.columns.items) u.widths) ≡ map (λ j. or_else (get_or u.widths j 0) (doc.untargeted t j))
+      (up_from 0 (length l.columns.items)) = placed-take settled_at u.widths (length l.columns.items) (omega arith) in
+      let v : take (length l.columns.items) (placed settled_at (length l.columns.items) u.widths) ≡ placed settled_at (length l.columns.items) u.widths = take_all (length l.columns.items)
+      (placed settled_at (length l.columns.items) u.widths) (omega (arith, length-placed settled_at u.widths (length l.columns.items))) in
       record {
         long = a.long;
-        widths = a.widths ∙ pass-untrimmed u l.count ∙ sym v ∙ w ∙ e ∙ columns_of (λ j. or_else (doc.first t j) (doc.untargeted t j));
+        widths = a.widths ∙ pass-untrimmed u (length l.columns.items) ∙ sym v ∙ w ∙ e ∙ columns_of (λ j. or_else (doc.first t j) (doc.untargeted t j));
         past = a.past;
       }
 
@@ -174,16 +174,16 @@ module _ (l : Layout) (t : Table) (d : Describes l t) where
     parts_as = omega (arith, a.seen, a.counted)
 
     -- widths placed column by column
-    placed_widths : (f : ℕ → ℕ → ℕ) (g : ℕ → ℕ) (r : State) → r.widths ≡ placed f l.count s.widths
-        → ((j : ℕ) → j < l.count → f j (get_or u.widths j 0) ≡ g j) → Widths l (map g (doc.numbers t)) r
+    placed_widths : (f : ℕ → ℕ → ℕ) (g : ℕ → ℕ) (r : State) → r.widths ≡ placed f (length l.columns.items) s.widths
+        → ((j : ℕ) → j < length l.columns.items → f j (get_or u.widths j 0) ≡ g j) → Widths l (map g (doc.numbers t)) r
     placed_widths f g r e h =
-        let n : l.count ≤ length s.widths = omega (arith, a.long, d.few) in
+        let n : length l.columns.items ≤ length s.widths = omega (arith, a.long, few) in
         record {
-          long = ap length e ∙ length-placed f s.widths l.count ∙ a.long;
-          widths = ap (take l.count) e ∙ placed-take f s.widths l.count n
-              ∙ map_below (λ j. f j (get_or s.widths j 0)) g 0 l.count l.count (omega arith) (λ j k. ap (f j) (width_as l t d s u a j k) ∙ h j k)
+          long = ap length e ∙ length-placed f s.widths (length l.columns.items) ∙ a.long;
+          widths = ap (take (length l.columns.items)) e ∙ placed-take f s.widths (length l.columns.items) n
+              ∙ map_below (λ j. f j (get_or s.widths j 0)) g 0 (length l.columns.items) (length l.columns.items) (omega arith) (λ j k. ap (f j) (width_as l t d few s u a j k) ∙ h j k)
               ∙ columns_of g;
-          past = λ j k. ap (λ (ws : List ℕ). get_or ws j 0) e ∙ placed_above f s.widths l.count j k ∙ a.past j k;
+          past = λ j k. ap (λ (ws : List ℕ). get_or ws j 0) e ∙ placed_above f s.widths (length l.columns.items) j k ∙ a.past j k;
         }
 
     amount : ℕ
@@ -196,15 +196,15 @@ module _ (l : Layout) (t : Table) (d : Describes l t) where
     record Given (i : ℕ) (x : Sharing) : Type 0 where
       widths : x.state.widths ≡ placed shared_at i s.widths
       given : x.given ≡ zeros (take i u.widths)
-      ahead : (j : ℕ) → i ≤ j → j < l.count → decided (column l j) j x.state ≡ decided (column l j) j s
+      ahead : (j : ℕ) → i ≤ j → j < length l.columns.items → decided (column l j) j x.state ≡ decided (column l j) j s
 
-    module _ (i : ℕ) (x : Sharing) (h : i < l.count) (g : Given i x) where
+    module _ (i : ℕ) (x : Sharing) (h : i < length l.columns.items) (g : Given i x) where
       -- what was noted of column i
       here : get_or x.state.widths i 0 ≡ get_or u.widths i 0
-      here = ap (λ (ws : List ℕ). get_or ws i 0) g.widths ∙ placed_above shared_at s.widths i i (omega arith) ∙ width_as l t d s u a i h
+      here = ap (λ (ws : List ℕ). get_or ws i 0) g.widths ∙ placed_above shared_at s.widths i i (omega arith) ∙ width_as l t d few s u a i h
 
       long_enough : i < length u.widths
-      long_enough = omega (arith, length_as l t d s u a)
+      long_enough = omega (arith, length_as l t d few s u a)
 
       given-decided : (get_or u.widths i 0 ≡ 0 → ⊥) → Given (suc i) x
       unfolding placed shared_at
@@ -262,7 +262,7 @@ module _ (l : Layout) (t : Table) (d : Describes l t) where
     distributed_widths : 1 ≤ doc.undecided u → Widths l (map (shared u) (doc.numbers t)) (distributed l s)
     unfolding distributed shared shared_at amount
     distributed_widths m =
-        let g = order_induct Given (sharing l (max s.remaining (undecided s)) (undecided s)) l.count (record { state = s; given = 0 })
+        let g = order_induct Given (sharing l (max s.remaining (undecided s)) (undecided s)) (length l.columns.items) (record { state = s; given = 0 })
         (λ i x h g. sharing_given i x h g m) given_begin in
         placed_widths shared_at (shared u) (distributed l s) g.widths (λ j k. refl)
 
@@ -282,17 +282,17 @@ module _ (l : Layout) (t : Table) (d : Describes l t) where
     widened-shown j w e = rw (e, widened_at)
 
     -- the visible columns before column j
-    before : (j : ℕ) → j ≤ l.count → length (keep (λ i. ltb i j) (doc.visible t)) ≡ length (keep (shown t) (up_from 0 j))
+    before : (j : ℕ) → j ≤ length l.columns.items → length (keep (λ i. ltb i j) (doc.visible t)) ≡ length (keep (shown t) (up_from 0 j))
     unfolding doc.visible doc.numbers
     before j h =
-        let e : j + (length t.columns - j) ≡ length t.columns = omega (arith, d.count) in
+        let e : j + (length t.columns - j) ≡ length t.columns = omega (arith, count_as l t d) in
         ap (λ (n : ℕ). length (keep (λ i. ltb i j) (keep (shown t) (up_from 0 n)))) (sym e) ∙ ap length (keep_below (shown t) j (length t.columns - j))
 
     record Widened (i : ℕ) (x : Sharing) : Type 0 where
       widths : x.state.widths ≡ placed widened_at i s.widths
       given : x.given ≡ length (keep (shown t) (up_from 0 i))
 
-    widening-widened : (i : ℕ) (x : Sharing) → i < l.count → Widened i x → Widened (suc i) (widening l s.remaining s.visible i x)
+    widening-widened : (i : ℕ) (x : Sharing) → i < length l.columns.items → Widened i x → Widened (suc i) (widening l s.remaining s.visible i x)
     unfolding widening placed
     widening-widened i x h g = go (is_hidden (column_at t i)) refl
       where
@@ -306,14 +306,14 @@ module _ (l : Layout) (t : Table) (d : Describes l t) where
             }))
         go true e =
             let v = widened_hidden i (get_or x.state.widths i 0) e in
-            rw (hidden_as l t d i h, e) (record {
+            rw (hidden_as l t d i, e) (record {
               widths = sym (set-get_or x.state.widths i 0) ∙ ap (λ (v : ℕ). set x.state.widths i v) (sym v)
                   ∙ ap (λ (ws : List ℕ). set ws i (widened_at i (get_or ws i 0))) g.widths;
               given = g.given ∙ sym (ap length (keep_no (shown t) i (ap not e)));
             })
         go false e =
             let v = ap (λ (n : ℕ). get_or x.state.widths i 0 + n) p ∙ sym (widened-shown i (get_or x.state.widths i 0) e) in
-            rw (hidden_as l t d i h, e) (record {
+            rw (hidden_as l t d i, e) (record {
               widths = ap (λ (v : ℕ). set x.state.widths i v) v ∙ ap (λ (ws : List ℕ). set ws i (widened_at i (get_or ws i 0))) g.widths;
               given = omega (arith, g.given, ap length (keep_yes (shown t) i (ap not e)) ∙ length-append (keep (shown t) (up_from 0 i)) (i ∷ []));
             })
@@ -328,25 +328,25 @@ module _ (l : Layout) (t : Table) (d : Describes l t) where
     widened_as j = refl
 
     -- with no visible column there is nothing to widen
-    all_hidden : length (doc.visible t) ≡ 0 → (j : ℕ) → j < l.count → is_hidden (column_at t j) ≡ true
+    all_hidden : length (doc.visible t) ≡ 0 → (j : ℕ) → j < length l.columns.items → is_hidden (column_at t j) ≡ true
     unfolding doc.visible doc.numbers
-    all_hidden e j h = not-false (is_hidden (column_at t j)) (none_kept (shown t) (length t.columns) e j (omega (arith, d.count)))
+    all_hidden e j h = not-false (is_hidden (column_at t j)) (none_kept (shown t) (length t.columns) e j (omega (arith, count_as l t d)))
 
     unwidened : length (doc.visible t) ≡ 0 → Widths l (map (doc.widened t u) (doc.numbers t)) s
     unwidened e =
-        placed_widths (λ j w. w) (doc.widened t u) s (sym (placed_same s.widths l.count))
+        placed_widths (λ j w. w) (doc.widened t u) s (sym (placed_same s.widths (length l.columns.items)))
         (λ j k. sym (widened_hidden j (get_or u.widths j 0) (all_hidden e j k)) ∙ widened_as j)
 
     filled_widths : Widths l (map (doc.widened t u) (doc.numbers t)) (filled l s)
     unfolding filled
     filled_widths = go (eqb s.visible 0) refl
       where
-        g : Widened l.count (in_order (widening l s.remaining s.visible) l.count (record { state = s; given = 0 }))
-        g = order_induct Widened (widening l s.remaining s.visible) l.count (record { state = s; given = 0 }) widening-widened widened_begin
+        g : Widened (length l.columns.items) (in_order (widening l s.remaining s.visible) (length l.columns.items) (record { state = s; given = 0 }))
+        g = order_induct Widened (widening l s.remaining s.visible) (length l.columns.items) (record { state = s; given = 0 }) widening-widened widened_begin
 
         go : (b : Bool) → eqb s.visible 0 ≡ b
             → Widths l (map (doc.widened t u) (doc.numbers t))
-            (choose b s (in_order (widening l s.remaining s.visible) l.count (record { state = s; given = 0 })).state)
+            (choose b s (in_order (widening l s.remaining s.visible) (length l.columns.items) (record { state = s; given = 0 })).state)
         go true e = unwidened (sym a.seen ∙ eqb-true s.visible 0 e)
         go false e = placed_widths widened_at (doc.widened t u) _ g.widths (λ j k. widened_as j)
 

@@ -4,8 +4,8 @@ use mathlib.Core.Path.{◌≡◌, refl, sym, ap, ◌∙◌}
 use mathlib.Core.List.{List, [], ◌∷◌, ◌++◌, map, append_assoc}
 use mathlib.Core.Bool.{Bool, false}
 use native.Mathlib.Omega.{arith}
-use lib.ListN.{length, get_or, set, replicate, take, length-map, length-append}
-use lib.Seq.{set_at, get_or-take}
+use lib.ListN.{length, get_or, set, replicate, length-map, length-append}
+use lib.Seq.{set_at}
 use Rattle.arrayvec.specs.ArrayVec.{ArrayVec}
 use Rattle.rules.specs.declared.Column.{Column}
 use Rattle.rules.specs.Text.{up_from}
@@ -29,8 +29,8 @@ use Rattle.arrangement.specs.declared.Widths.{Widths}
 use Rattle.arrangement.specs.declared.dynamic.Course.{Course}
 use Rattle.arrangement.specs.Arrange.{arranged}
 use Rattle.arrangement.specs.Describes.{Describes}
-use Rattle.arrangement.specs.Widths.{style_from, marking, marked, widths_from, arranged_widths}
-use Rattle.arrangement.proofs.Offers.{hidden_as}
+use Rattle.arrangement.specs.Widths.{style_from, marked, widths_from, arranged_widths}
+use Rattle.arrangement.proofs.Offers.{count_as, hidden_as}
 use Rattle.arrangement.proofs.Arranged.{arranged-contents}
 use Rattle.arrangement.proofs.Placed.{map_last}
 
@@ -47,17 +47,13 @@ module _ (t : Table) (limits : TableLimits t) (x : ArrayVec Column) (columns : x
   unfolding columns_of
   column-at j = ap (λ (y : ArrayVec Column). get_or y.items j no_column) columns
 
-  column-padded : (cs : List Column) → take (length x.items) cs ≡ x.items → (j : ℕ) → j < length x.items → get_or cs j no_column ≡ column_at t j
-  column-padded cs e j h =
-      sym (get_or-take (length x.items) cs j no_column h) ∙ ap (λ (l : List Column). get_or l j no_column) e ∙ column-at j
-
   longest-at : (j : ℕ) → j < most_columns → get_or (map (doc.longest t) (up_from 0 most_columns)) j 0 ≡ doc.longest t j
   longest-at j h =
       get_d_map (doc.longest t) (up_from 0 most_columns) j 0 0 (omega (arith, length-up_from 0 most_columns))
       ∙ ap (doc.longest t) (get_d-up_from 0 most_columns j 0 h ∙ omega arith)
 
   -- what was read from the sheet
-  pub describes : (h : Settings) (S : List ℕ) (y : TableStyle) (r : ContentArrangement) (w : std.Option ℕ) (ns : List ℕ) (a b c : Bool) (cs : List Column) (n : ℕ) → take (length x.items) cs ≡ x.items → n ≡ length x.items → h ≡ settings_of t → S ≡ t.style → y ≡ style_from S
+  pub describes : (h : Settings) (S : List ℕ) (y : TableStyle) (r : ContentArrangement) (w : std.Option ℕ) (ns : List ℕ) (a b c : Bool) → h ≡ settings_of t → S ≡ t.style → y ≡ style_from S
       → r ≡ arrangement_of h.arrangement → w ≡ target_of h.target → ns ≡ map (doc.longest t) (up_from 0 most_columns)
       → a ≡ any_left (bytes_of y) → b ≡ any_right (bytes_of y) → c ≡ any_junction (bytes_of y)
       → Describes (record {
@@ -66,22 +62,19 @@ module _ (t : Table) (limits : TableLimits t) (x : ArrayVec Column) (columns : x
         left = a;
         right = b;
         junction = c;
-        columns = cs;
-        count = n;
+        columns = x;
         longest = ns;
       }) t
-  unfolding settings_of
-  describes h S y z w ns a b c cs n padded counted e f g q p i l r m =
+  unfolding settings_of columns_of
+  describes h S y z w ns a b c e f g q p i l r m =
       record {
-        count = counted ∙ columns-count;
-        few = omega (arith, counted, count_fits);
-        column = λ j k. column-padded cs padded j (omega (arith, counted));
+        columns = ap (λ (y : ArrayVec Column). y.items) columns;
         target = p ∙ ap (λ (z : Settings). target_of z.target) e;
         arrangement = q ∙ ap (λ (z : Settings). arrangement_of z.arrangement) e;
         left = l ∙ rw (g, f);
         right = r ∙ rw (g, f);
         junction = m ∙ rw (g, f);
-        longest = λ j k. rw i (longest-at j (omega (arith, counted, count_fits)));
+        longest = λ j k. rw i (longest-at j (omega (arith, limits.columns)));
       }
 
 -- entries set one after another
@@ -110,27 +103,23 @@ entries_padded {A} a p (suc n) h =
     ap (λ (xs : List A). set xs n (p n)) (entries_padded a p n (omega arith)) ∙ set_padded a n (map p (up_from 0 n)) (p n) k h
     ∙ ap (as_array a) (sym (map_last p n))
 
--- a column is marked
-pub marking-at : (l : Layout) (i : ℕ) (fs : List Bool) (b : Bool) → b ≡ is_hidden (column l i) → set fs i b ≡ marking l i fs
-marking-at l i fs b e = ap (λ (x : Bool). set fs i x) e
-
-module _ (l : Layout) (t : Table) (d : Describes l t) where
+module _ (l : Layout) (t : Table) (d : Describes l t) (few : length l.columns.items ≤ most_columns) where
   -- an entry for each column
-  pub entries_as : {A : Type 0} (a : A) (p q : ℕ → A) → ((j : ℕ) → j < l.count → p j ≡ q j)
-      → in_order (λ i xs. set xs i (p i)) l.count (replicate most_columns a) ≡ as_array a (map q (doc.numbers t))
+  pub entries_as : {A : Type 0} (a : A) (p q : ℕ → A) → ((j : ℕ) → j < length l.columns.items → p j ≡ q j)
+      → in_order (λ i xs. set xs i (p i)) (length l.columns.items) (replicate most_columns a) ≡ as_array a (map q (doc.numbers t))
   unfolding doc.numbers
   entries_as {A} a p q h =
-      let one = map_below p q 0 l.count l.count (omega arith) h in
-      let all = ap (λ (n : ℕ). map q (up_from 0 n)) d.count in
-      entries_padded a p l.count d.few ∙ ap (as_array a) (one ∙ all)
+      let one = map_below p q 0 (length l.columns.items) (length l.columns.items) (omega arith) h in
+      let all = ap (λ (n : ℕ). map q (up_from 0 n)) (count_as l t d) in
+      entries_padded a p (length l.columns.items) few ∙ ap (as_array a) (one ∙ all)
 
   marked_as : marked l ≡ as_array false (map (λ j. is_hidden (column_at t j)) (doc.numbers t))
-  marked_as = entries_as false (λ j. is_hidden (column l j)) (λ j. is_hidden (column_at t j)) (hidden_as l t d)
+  marked_as = entries_as false (λ j. is_hidden (column l j)) (λ j. is_hidden (column_at t j)) (λ j h. hidden_as l t d j)
 
   -- what is answered
   pub widths-at : (c : Course) (w : Widths) → c ≡ arranged (longest_part t) l → w ≡ widths_from l c → w ≡ arranged_widths t
   unfolding arranged_widths
   widths-at c w e f =
       let content : c.state.widths ≡ as_array 0 (contents t) =
-      ap (λ (z : Course). z.state.widths) e ∙ arranged-contents l t d (longest_part t) (λ j a h. refl) in
-      f ∙ rw (content, marked_as, d.count)
+      ap (λ (z : Course). z.state.widths) e ∙ arranged-contents l t d few (longest_part t) (λ j a h. refl) in
+      f ∙ rw (content, marked_as, count_as l t d)

@@ -2,9 +2,10 @@
 use Prim.Native.Nat.{ℕ, zero, suc, ◌+◌, ◌-◌, ◌*◌, ◌/◌, ◌≤◌, ◌<◌, min}
 use mathlib.Core.Path.{◌≡◌, refl, sym, ap, ◌∙◌}
 use mathlib.Core.Bool.{Bool, true, false, not, ◌||◌, ◌&&◌, cond}
+use mathlib.Core.List.{List}
 use mathlib.Core.Option.{Option, none, some}
 use native.Mathlib.Omega.{arith}
-use lib.ListN.{length, length-append}
+use lib.ListN.{length, get_or, length-append}
 use lib.Dec.{eqb, leb}
 use borrow.Author.Tests.{eqb-true, eqb-false, ne_eqb}
 use Rattle.std.specs.Prelude as std
@@ -14,7 +15,8 @@ use Rattle.style.proofs.Laws.{other}
 use Rattle.rules.specs.Text.{up_from, keep}
 use Rattle.rules.specs.declared.Width.{Width}
 use Rattle.rules.specs.declared.Column.{Column}
-use Rattle.rules.specs.Sheet.{Table, column_at, padding, is_hidden}
+use Rattle.rules.specs.Sheet.{Table, most_columns, no_column, column_at, padding, is_hidden}
+use Rattle.rules.specs.Limits.{TableLimits}
 use Rattle.rules.specs.Style.{any_left, any_right, any_junction, borders_of}
 use Rattle.rules.specs.Widths as doc
 use Rattle.rules.specs.Widths.{content_of, percent_of, width_of, value_of, lower_width, upper_width, absolute_width, covering, evaluate, above_average}
@@ -26,7 +28,7 @@ use Rattle.style.specs.declared.column.Width as form
 use Rattle.style.specs.declared.column.Width.TheVariants.{Fixed, Percentage}
 use Rattle.constraint.specs.declared.Layout.{Layout}
 use Rattle.constraint.specs.declared.State.{State}
-use Rattle.constraint.specs.Widths.{choose, in_order, column, counting, visible, borders, room, percent_in, value, valued, lower, upper, average, Rule}
+use Rattle.constraint.specs.Widths.{choose, in_order, column, longest, counting, visible, borders, room, percent_in, value, valued, lower, upper, average, Rule}
 use Rattle.constraint.specs.Widths.{absolute, covered, first, first_of}
 use Rattle.arrangement.specs.Arrange.{trimmed, untargeted, lower_rule, capped, fit_rule, split_rule}
 use Rattle.arrangement.specs.Describes.{Describes}
@@ -40,23 +42,36 @@ choose-cond true x n e = rw (← e)
 choose-cond false x n e = rw (← e)
 
 module _ (l : Layout) (t : Table) (d : Describes l t) where
-  pub hidden_as : (j : ℕ) → j < l.count → is_hidden (column l j) ≡ is_hidden (column_at t j)
-  hidden_as j h = ap is_hidden (d.column j h)
+  pub count_as : length l.columns.items ≡ length t.columns
+  count_as = ap (λ (cs : List Column). length cs) d.columns
+
+  -- no more columns than there can be
+  pub few_as : TableLimits t → length l.columns.items ≤ most_columns
+  few_as limits = omega (arith, count_as, limits.columns)
+
+  pub column_as : (j : ℕ) → column l j ≡ column_at t j
+  column_as j = ap (λ (cs : List Column). get_or cs j no_column) d.columns
+
+  pub longest_as : (j : ℕ) → j < length l.columns.items → longest l j ≡ doc.longest t j
+  longest_as j h = d.longest j (omega (arith, count_as))
+
+  pub hidden_as : (j : ℕ) → is_hidden (column l j) ≡ is_hidden (column_at t j)
+  hidden_as j = ap is_hidden (column_as j)
 
   -- the visible ones of the first n columns
-  pub visible_below : (n : ℕ) → n ≤ l.count → in_order (counting l) n 0 ≡ length (keep (shown t) (up_from 0 n))
+  pub visible_below : (n : ℕ) → n ≤ length l.columns.items → in_order (counting l) n 0 ≡ length (keep (shown t) (up_from 0 n))
   unfolding in_order keep up_from
   visible_below zero h = refl
   visible_below (suc n) h = go (is_hidden (column_at t n)) refl (visible_below n (omega arith))
     where
       go : (b : Bool) → is_hidden (column_at t n) ≡ b → in_order (counting l) n 0 ≡ length (keep (shown t) (up_from 0 n))
           → counting l n (in_order (counting l) n 0) ≡ length (keep (shown t) (up_from 0 (suc n)))
-      go true e i = rw (hidden_as n h, e, keep_no (shown t) n (ap not e)) i
-      go false e i = rw (hidden_as n h, e, keep_yes (shown t) n (ap not e), length-append) (omega arith)
+      go true e i = rw (hidden_as n, e, keep_no (shown t) n (ap not e)) i
+      go false e i = rw (hidden_as n, e, keep_yes (shown t) n (ap not e), length-append) (omega arith)
 
   pub visible_as : visible l ≡ length (doc.visible t)
   unfolding visible doc.visible doc.numbers
-  visible_as = visible_below l.count (omega arith) ∙ ap (λ (n : ℕ). length (keep (shown t) (up_from 0 n))) d.count
+  visible_as = visible_below (length l.columns.items) (omega arith) ∙ ap (λ (n : ℕ). length (keep (shown t) (up_from 0 n))) count_as
 
   borders_as : (v : ℕ) → borders l v ≡ borders_of t.style v
   unfolding borders_of
@@ -153,17 +168,17 @@ module _ (l : Layout) (t : Table) (d : Describes l t) where
         go false false e = rw (not-absolute c e, lower_as c) (unset (doc.lower t c))
 
   -- the first step's offer to a visible column
-  pub first_as : (i : ℕ) (s : State) → i < l.count → s.visible ≡ length (doc.visible t) → is_hidden (column_at t i) ≡ false → first l i s ≡ evaluate t i
+  pub first_as : (i : ℕ) (s : State) → i < length l.columns.items → s.visible ≡ length (doc.visible t) → is_hidden (column_at t i) ≡ false → first l i s ≡ evaluate t i
   unfolding first_of evaluate evaluated
-  first_as i s h m e = rw (d.column i h, d.longest i h) (first-offered s.visible m (column_at t i) (doc.longest t i) e)
+  first_as i s h m e = rw (column_as i, longest_as i h) (first-offered s.visible m (column_at t i) (doc.longest t i) e)
 
   -- a rule offers what the definitions' rule does by the average
   abbrev pub SameRule : Rule → doc.Rule → Type 0
-  SameRule rule r = (i : ℕ) (s : State) → i < l.count → s.visible ≡ length (doc.visible t) → rule l i s ≡ r i (average s)
+  SameRule rule r = (i : ℕ) (s : State) → i < length l.columns.items → s.visible ≡ length (doc.visible t) → rule l i s ≡ r i (average s)
 
   pub lower-same : SameRule lower_rule (above_average t)
   unfolding lower_rule above_average
-  lower-same i s h m = rw (d.column i h, lower_as s.visible m (column_at t i))
+  lower-same i s h m = rw (column_as i, lower_as s.visible m (column_at t i))
 
   -- an upper bound, else the longest
   capped_as : (i a : ℕ) → capped a (column_at t i) (doc.longest t i) (doc.upper t (column_at t i)) ≡ fitting_average t i a
@@ -191,9 +206,9 @@ module _ (l : Layout) (t : Table) (d : Describes l t) where
 
   pub fit_same : SameRule fit_rule (fitting_average t)
   unfolding fit_rule
-  fit_same i s h m = rw (d.column i h, d.longest i h, upper_as s.visible m (column_at t i)) (capped_as i (average s))
+  fit_same i s h m = rw (column_as i, longest_as i h, upper_as s.visible m (column_at t i)) (capped_as i (average s))
 
-  pub split-same : (parts : ℕ → ℕ → ℕ) → ((j a : ℕ) → j < l.count → parts j a ≡ longest_part t j a) → SameRule (split_rule parts) (split_at_average t)
+  pub split-same : (parts : ℕ → ℕ → ℕ) → ((j a : ℕ) → j < length l.columns.items → parts j a ≡ longest_part t j a) → SameRule (split_rule parts) (split_at_average t)
   unfolding split_rule split_at_average
   split-same parts p i s h m = rw (p i (average s) h)
 
@@ -203,4 +218,4 @@ module _ (l : Layout) (t : Table) (d : Describes l t) where
 
   pub untargeted-same : SameRule untargeted untrimmed
   unfolding untargeted untrimmed
-  untargeted-same i s h m = rw (d.column i h, d.longest i h, upper_as s.visible m (column_at t i))
+  untargeted-same i s h m = rw (column_as i, longest_as i h, upper_as s.visible m (column_at t i))

@@ -5,6 +5,7 @@ use mathlib.Core.Bool.{Bool, true, false, not}
 use mathlib.Core.Option.{Option, none, some}
 use native.Mathlib.Nat.{not-suc-le-zero}
 use native.Mathlib.Omega.{arith}
+use lib.ListN.{length}
 use lib.Dec.{eqb}
 use lib.Count.{ones, ones-le}
 use borrow.Author.Tests.{eqb-false}
@@ -58,10 +59,10 @@ module _ (t : Layout) (i : ℕ) (s : State) (hi : i < set_width) (l : s.decided.
   unfolding step
   step_grew rule = step_cases (decided (column t i) i s) (rule t i s) refl
 
-module _ (t : Layout) (fits : t.count ≤ most_columns) (s : State) (l : s.decided.0 < 2 ^ set_width) where
+module _ (t : Layout) (fits : length t.columns.items ≤ most_columns) (s : State) (l : s.decided.0 < 2 ^ set_width) where
   pub pass_grew : (rule : Rule) → Grew s (pass rule t s)
   pass_grew rule =
-      order-keeps (λ (u : State). Grew s u) (step rule t) t.count s
+      order-keeps (λ (u : State). Grew s u) (step rule t) (length t.columns.items) s
       (λ i u h g. grew_trans s u (step rule t i u) g (step_grew t i u (omega arith) g.small rule))
       (grew_none s l)
 

@@ -1,5 +1,7 @@
 -- The arrangement: untargeted widths, the remaining width, steps 1 to 3, and the whole; step 4 is `sharing`'s. Assumes nothing.
-use Rattle.std.specs.Prelude.{ℕ, zero, suc, ◌+◌, ◌-◌, Bool, true, false, ◌&&◌, ◌||◌, is_none, unwrap_or, get_or, replicate, eqb, leb, ltb}
+use Rattle.std.specs.Prelude.{ℕ, zero, suc, ◌+◌, ◌-◌, Bool, true, false, ◌&&◌, ◌||◌, is_none, unwrap_or, length, get_or, replicate, eqb, leb, ltb}
+use Rattle.std.specs.Prelude as std
+use Rattle.std.specs.Bool.{then_some}
 use Rattle.std.proofs.Math.Option.{Option, none, some}
 use Rattle.rules.specs.declared.Column.{Column}
 use Rattle.constraint.specs.declared.Layout.{Layout}
@@ -35,14 +37,15 @@ unfoldable pub untargeted : Rule
 untargeted t i s = some (trimmed (column t i) (longest t i) (upper t s.visible (column t i)))
 
 -- The remaining width: target less borders, undecided paddings and decided visible full widths, never below 0
-unfoldable pub charged : Layout → State → ℕ → ℕ → ℕ
-charged t s i r =
-    choose (is_hidden (column t i)) r
-    (choose (contains s.decided i) (r - (get_or s.widths i 0 + padding (column t i)))
-    (r - padding (column t i)))
+unfoldable pub charged : Column → std.Option ℕ → ℕ → ℕ
+charged c w r = choose (is_hidden c) r (r - (unwrap_or w 0 + padding c))
+
+-- the width of column i, if it is in the set
+abbrev pub decided_width : State → ℕ → std.Option ℕ
+decided_width s i = then_some (contains s.decided i) (get_or s.widths i 0)
 
 abbrev pub remaining : Layout → State → ℕ
-remaining t s = in_order (charged t s) t.count (unwrap_or (room t s.visible) 0)
+remaining t s = in_order (λ i. charged (column t i) (decided_width s i)) (length t.columns.items) (unwrap_or (room t s.visible) 0)
 
 abbrev pub targeted : Layout → State → State
 targeted t s = record { widths = s.widths; decided = s.decided; remaining = remaining t s; visible = s.visible }
@@ -106,7 +109,7 @@ begun t = record { widths = replicate most_columns 0; decided = record { 0 = 0 }
 
 -- the first step, for each column
 abbrev pub started : Layout → State
-started t = in_order (evaluated t) t.count (begun t)
+started t = in_order (λ i. evaluated t (column t i) i) (length t.columns.items) (begun t)
 
 unfoldable pub arranged : (ℕ → ℕ → ℕ) → Layout → Course
 arranged parts t =

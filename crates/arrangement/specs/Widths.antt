@@ -1,6 +1,6 @@
 -- What the arrangement answers, and how a layout is made of a sheet. Assumes nothing.
-use Rattle.std.specs.Prelude.{ℕ, ◌+◌, List, map, Bool, false, length, set, replicate}
-use Rattle.rules.specs.Sheet.{Table, most_columns, column_at, is_hidden}
+use Rattle.std.specs.Prelude.{ℕ, ◌+◌, List, map, Bool, false, length}
+use Rattle.rules.specs.Sheet.{Table, column_at, is_hidden}
 use Rattle.rules.specs.Style.{glyph_at, top_border, header_lines, header_rule, content_lines, row_rule, bottom_border}
 use Rattle.rules.specs.Calls.{as_array}
 use Rattle.rules.specs.Widths.{contents, numbers}
@@ -8,7 +8,7 @@ use Rattle.style.specs.declared.table_style.LineStyle.{LineStyle}
 use Rattle.style.specs.declared.table_style.ContentLineStyle.{ContentLineStyle}
 use Rattle.style.specs.declared.table_style.TableStyle.{TableStyle}
 use Rattle.constraint.specs.declared.Layout.{Layout}
-use Rattle.constraint.specs.Widths.{in_order, column}
+use Rattle.constraint.specs.Widths.{column, by_column}
 use Rattle.arrangement.specs.declared.Widths.{Widths}
 use Rattle.arrangement.specs.declared.dynamic.Course.{Course}
 
@@ -30,16 +30,13 @@ style_from S = record {
   bottom_border = line_from S bottom_border;
 }
 
--- which of the columns are hidden, one after another
-abbrev pub marking : Layout → ℕ → List Bool → List Bool
-marking l i fs = set fs i (is_hidden (column l i))
-
+-- which of the columns are hidden
 abbrev pub marked : Layout → List Bool
-marked l = in_order (marking l) l.count (replicate most_columns false)
+marked l = by_column l false (λ i. is_hidden (column l i))
 
 -- once the widths are arranged
 abbrev pub widths_from : Layout → Course → Widths
-widths_from l c = record { count = l.count; content = c.state.widths; hidden = marked l }
+widths_from l c = record { count = length l.columns.items; content = c.state.widths; hidden = marked l }
 
 -- each column's content width and whether it is hidden; 0 and not hidden past the columns
 unfoldable pub arranged_widths : Table → Widths

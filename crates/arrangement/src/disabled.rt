@@ -1,6 +1,5 @@
 // Widths without a target, or with `Disabled`: comfy-table's `arrangement/disabled.rs`.
-ghost use Rattle.std.specs.Prelude.{◌≡◌, ◌≤◌};
-ghost use Rattle.rules.specs.Sheet.{most_columns};
+ghost use Rattle.std.specs.Prelude.{◌≡◌};
 ghost use Rattle.constraint.specs.Widths.{bound, pass};
 ghost use Rattle.arrangement.specs.Arrange.{trimmed, untargeted};
 
@@ -18,11 +17,11 @@ fn trimmed_width(c: &Column, n: ContentWidth, b: Option<ConstraintWidth>) -> Con
 }
 
 // Without a target, or with `Disabled`: every undecided column is fixed.
+#[tactic(auto, using(constraint::proofs::Laws::orders), unfolding(constraint::specs::Widths::step, crate::specs::Arrange::untargeted))]
 pub fn arrange(t: &Layout, s: &mut State)
-    requires { t.now.count ≤ most_columns }
     ensures { s.new ≡ pass untargeted t.now s.old }
 {
-    for (i, c) in t.columns[..usize::from(t.count)].iter().enumerate() {
+    for (i, c) in t.columns.iter().enumerate() {
         if s.is_decided(c, i) {
             continue;
         }

@@ -1,8 +1,8 @@
 // Widths that are to make up a target: comfy-table's `arrangement/dynamic.rs`.
-ghost use Rattle.std.specs.Prelude.{◌≡◌, ◌≤◌, ◌<◌, Bool, false, eqb, ⊤};
+ghost use Rattle.std.specs.Prelude.{◌≡◌, ◌<◌, Bool, false, eqb, ⊤};
 ghost use Rattle.constraint.specs.declared.Layout.{Layout};
 ghost use Rattle.constraint.specs.declared.State.{State};
-ghost use Rattle.constraint.specs.Widths.{bound, offered, average, Rule};
+ghost use Rattle.constraint.specs.Widths.{bound, offered, column, average, Rule};
 ghost use Rattle.arrangement.specs.Arrange.{charged, remaining, raised, capped, lower_rule, fit_rule, split_rule, turn, repeated, step1, step2, step3};
 ghost use Rattle.arrangement.specs.Arrange.{dynamic, started};
 ghost use Rattle.arrangement.specs.Describes.{Describes};
@@ -17,31 +17,27 @@ use style::column;
 use style::column::{ConstraintWidth, ContentWidth};
 use table::accepted::AcceptedSheet;
 
-// What column i takes off the remaining width: its padding, and its width if it is decided.
-fn charge(t: &Layout, s: &State, i: usize, r: u16) -> u16
-    requires { i < most_columns }
-    ensures { result ≡ charged t.now s.now i r }
+// What a column takes off the remaining width: its padding, and its width if it is decided.
+#[tactic(auto, unfolding(crate::specs::Arrange::charged))]
+fn charge(c: &Column, width: Option<u16>, r: u16) -> u16
+    ensures { result ≡ charged c.now width r }
 {
-    let c = &t.columns[i];
     if column::is_hidden(c) {
         return r;
     }
-    let p = column::padding_width(c);
-    if s.decided.contains(i) {
-        return r.saturating_sub(s.widths[i]).saturating_sub(p);
-    }
-    r.saturating_sub(p)
+    r.saturating_sub(width.unwrap_or(0))
+        .saturating_sub(column::padding_width(c))
 }
 
 // What the columns leave of the target.
+#[tactic(auto, using(constraint::proofs::Laws::orders))]
 fn remaining_width(t: &Layout, s: &State) -> u16
-    requires { t.now.count ≤ most_columns }
     ensures { result ≡ remaining t.now s.now }
 {
     let mut r = t.room(s.visible).unwrap_or(0);
-    // Kept over numbers: `charge` looks up a column, its bit in a set and its width by one number.
-    for i in 0..usize::from(t.count) {
-        r = charge(t, s, i, r);
+    for (i, c) in t.columns.iter().enumerate() {
+        let width = s.decided.contains(i).then_some(s.widths[i]);
+        r = charge(c, width, r);
     }
     r
 }
@@ -54,6 +50,7 @@ fn raised_offer(a: u16, c: &Column, b: Option<ConstraintWidth>) -> Option<Conten
         .map(|w| column::absolute_width_with_padding(c, w))
 }
 
+#[tactic(auto, unfolding(rules::specs::Widths::within_average))]
 fn short_offer(a: u16, n: ContentWidth) -> Option<ContentWidth>
     ensures { offered result ≡ within_average n.0 a }
 {
@@ -77,6 +74,7 @@ fn fitting_offer(
 }
 
 // Splitting pays only if it saves three columns.
+#[tactic(auto, unfolding(rules::specs::Widths::shorter_by3))]
 fn split_offer(a: u16, n: ContentWidth) -> Option<ContentWidth>
     ensures { offered result ≡ shorter_by3 n.0 a }
 {
@@ -100,8 +98,9 @@ trait Step {
     fn has_ended(&self, s: &State) -> bool
         ensures { result ≡ ended s.now };
 
-    fn offer(&self, t: &Layout, i: usize, s: &State) -> Option<ContentWidth>
-        requires { (t.now.count ≤ most_columns) × (i < t.now.count) × fits self.now t.now }
+    // The number stays: the longest line is asked by it.
+    fn offer(&self, t: &Layout, c: &Column, i: usize, s: &State) -> Option<ContentWidth>
+        requires { (i < most_columns) × (c.now ≡ column t.now i) × fits self.now t.now }
         ensures { offered result ≡ rule self.now t.now i s.now };
 }
 
@@ -119,8 +118,8 @@ impl Step for LowerBoundaries {
         false
     }
 
-    fn offer(&self, t: &Layout, i: usize, s: &State) -> Option<ContentWidth> {
-        let c = &t.columns[i];
+    #[tactic(auto, unfolding(crate::specs::Arrange::lower_rule))]
+    fn offer(&self, t: &Layout, c: &Column, i: usize, s: &State) -> Option<ContentWidth> {
         raised_offer(s.average_space(), c, t.min(c, s.visible))
     }
 }
@@ -140,8 +139,8 @@ impl Step for FitsAverage {
         s.average_space() == 0
     }
 
-    fn offer(&self, t: &Layout, i: usize, s: &State) -> Option<ContentWidth> {
-        let c = &t.columns[i];
+    #[tactic(auto, unfolding(crate::specs::Arrange::fit_rule))]
+    fn offer(&self, t: &Layout, c: &Column, i: usize, s: &State) -> Option<ContentWidth> {
         let n = ContentWidth(t.longest[i]);
         fitting_offer(s.average_space(), c, n, t.max(c, s.visible))
     }
@@ -163,35 +162,39 @@ impl<'a> Step for AfterSplit<'a> {
         false
     }
 
-    fn offer(&self, t: &Layout, i: usize, s: &State) -> Option<ContentWidth> {
+    #[tactic(auto, unfolding(crate::specs::Arrange::split_rule))]
+    fn offer(&self, t: &Layout, c: &Column, i: usize, s: &State) -> Option<ContentWidth> {
         let a = s.average_space();
-        let n = after_split::longest_line_after_split(self.sheet, &t.columns[i], i, a);
+        let n = after_split::longest_line_after_split(self.sheet, c, i, a);
         split_offer(a, ContentWidth(n))
     }
 }
 
 // A column that is fixed changes the average for those after it.
+#[tactic(auto, using(constraint::proofs::Laws::orders), unfolding(constraint::specs::Widths::step))]
 fn pass<S: Step>(step: &S, t: &Layout, s: &mut State)
-    requires { (t.now.count ≤ most_columns) × S.fits step.now t.now }
+    requires { S.fits step.now t.now }
     ensures { s.new ≡ turn S.ended (S.rule step.now) t.now s.old }
 {
     if step.has_ended(s) {
         return;
     }
-    for (i, c) in t.columns[..usize::from(t.count)].iter().enumerate() {
+    for (i, c) in t.columns.iter().enumerate() {
         if s.is_decided(c, i) {
             continue;
         }
-        let offer = step.offer(t, i, s);
+        let offer = step.offer(t, c, i, s);
         s.take(i, offer);
     }
 }
 
 // A pass that fixed a column is repeated, since the average may have changed.
 fn repeat<S: Step>(step: &S, t: &Layout, s: &mut State)
-    requires { (t.now.count ≤ most_columns) × S.fits step.now t.now }
+    requires { S.fits step.now t.now }
     ensures { s.new ≡ repeated (turn S.ended (S.rule step.now) t.now) s.old }
 {
+    // The set has room for every column, so passes that fix one come to an end.
+    prove!(t.columns.len() <= MOST_COLUMNS);
     // The numbers are compared and not the sets: a number that is read is known to fit its type.
     let mut before = s.decided.0;
     let mut again = true;
@@ -204,7 +207,6 @@ fn repeat<S: Step>(step: &S, t: &Layout, s: &mut State)
 
 // Step 1. A column that is fixed can bring the average below another lower bound.
 fn enforce_lower_boundary_constraints(t: &Layout, s: &mut State)
-    requires { t.now.count ≤ most_columns }
     ensures { s.new ≡ step1 t.now s.old }
 {
     repeat(&LowerBoundaries, t, s);
@@ -212,7 +214,6 @@ fn enforce_lower_boundary_constraints(t: &Layout, s: &mut State)
 
 // Step 2. What a short column leaves raises the average for the others.
 fn find_columns_that_fit_into_average(t: &Layout, s: &mut State)
-    requires { t.now.count ≤ most_columns }
     ensures { s.new ≡ step2 t.now s.old }
 {
     repeat(&FitsAverage, t, s);

@@ -1,6 +1,5 @@
 // What the widths of a sheet's columns depend on, read from it once.
-ghost use Rattle.std.specs.Prelude.{◌≡◌, ◌+◌, ◌<◌, ◌≤◌, length, take};
-ghost use Rattle.rules.specs.Sheet.{most_columns};
+ghost use Rattle.std.specs.Prelude.{◌≡◌, ◌+◌, ◌<◌};
 ghost use Rattle.rules.specs.Style.{style_characters};
 ghost use Rattle.style.specs.Table.{target_of};
 ghost use Rattle.table.specs.Held.{table_of};
@@ -9,8 +8,7 @@ ghost use Rattle.arrangement.specs.Widths.{line_from, content_from, style_from};
 
 use constraint::Layout;
 use rules::{
-    BOTTOM_BORDER, CONTENT_LINES, Column, HEADER_LINES, HEADER_RULE, MOST_COLUMNS, ROW_RULE,
-    STYLE_CHARACTERS, TOP_BORDER,
+    BOTTOM_BORDER, CONTENT_LINES, HEADER_LINES, HEADER_RULE, ROW_RULE, STYLE_CHARACTERS, TOP_BORDER,
 };
 use style::table::ContentArrangement;
 use style::table_style::{ContentLineStyle, LineStyle, TableStyle};
@@ -60,20 +58,11 @@ pub fn style_from(b: [u8; STYLE_CHARACTERS]) -> TableStyle
 }
 
 // A target of 0 is none.
+#[tactic(auto, unfolding(style::specs::Table::target_of))]
 fn target_from(width: u16) -> Option<u16>
     ensures { result ≡ target_of width }
 {
     if width == 0 { None } else { Some(width) }
-}
-
-// The columns in an array, with empty ones past them.
-fn padded(columns: &[Column]) -> [Column; MOST_COLUMNS]
-    requires { length columns.now ≤ most_columns }
-    ensures { take (length columns.now) result ≡ columns.now }
-{
-    let mut each = [Column::default(); MOST_COLUMNS];
-    each[..columns.len()].copy_from_slice(columns);
-    each
 }
 
 // The settings and columns by value, so that a changed copy of them can be arranged as well.
@@ -81,8 +70,6 @@ pub fn layout(sheet: &AcceptedSheet<'_>) -> Layout
     ensures { Describes result (table_of sheet.now.bytes.now) }
 {
     let head = sheet.settings();
-    let found = sheet.columns();
-    let columns = padded(&found);
     let style = style_from(sheet.style());
     let longest = sheet.longest();
     Layout {
@@ -91,8 +78,7 @@ pub fn layout(sheet: &AcceptedSheet<'_>) -> Layout
         left: style.has_left_border(),
         right: style.has_right_border(),
         junction: style.has_vertical_lines(),
-        columns,
-        count: found.len() as u8,
+        columns: sheet.columns(),
         longest,
     }
 }

@@ -5,13 +5,12 @@ pub mod disabled;
 pub mod dynamic;
 pub mod layout;
 
-ghost use Rattle.std.specs.Prelude.{◌≡◌, ◌≤◌};
-ghost use Rattle.rules.specs.Sheet.{most_columns};
+ghost use Rattle.std.specs.Prelude.{◌≡◌};
 ghost use Rattle.rules.specs.Widths.{longest_part};
 ghost use Rattle.table.specs.Held.{table_of};
 ghost use Rattle.arrangement.specs.Arrange.{started, plainly, arranged};
 ghost use Rattle.arrangement.specs.Describes.{Describes};
-ghost use Rattle.arrangement.specs.Widths.{marked, widths_from};
+ghost use Rattle.arrangement.specs.Widths.{widths_from};
 ghost use Rattle.arrangement.specs.Courses.{FoundIs};
 
 use constraint::column_set::ColumnSet;
@@ -32,8 +31,8 @@ pub struct Widths {
 }
 
 // The first step for every column.
+#[tactic(auto, using(constraint::proofs::Laws::orders))]
 fn start(t: &Layout) -> State
-    requires { t.now.count ≤ most_columns }
     ensures { result ≡ started t.now }
 {
     let mut s = State {
@@ -42,9 +41,8 @@ fn start(t: &Layout) -> State
         remaining: 0,
         visible: t.count_visible_columns(),
     };
-    // Kept over numbers: `evaluate` names the column by its number, and an iterator would only hand that number on.
-    for i in 0..usize::from(t.count) {
-        t.evaluate(i, &mut s);
+    for (i, c) in t.columns.iter().enumerate() {
+        t.evaluate(c, i, &mut s);
     }
     s
 }
@@ -65,6 +63,7 @@ fn untargeted(first: ColumnSet, state: State) -> Course
 }
 
 // A target is made up only where there is one and the arrangement isn't `Disabled`.
+#[tactic(auto, using(style::proofs::Laws::disabled_same), unfolding(crate::specs::Arrange::arranged))]
 fn arrange(sheet: &AcceptedSheet<'_>, t: &Layout) -> Course
     requires { Describes t.now (table_of sheet.now.bytes.now) }
     ensures { result ≡ arranged (longest_part (table_of sheet.now.bytes.now)) t.now }
@@ -78,32 +77,20 @@ fn arrange(sheet: &AcceptedSheet<'_>, t: &Layout) -> Course
     dynamic::arrange(sheet, t, s)
 }
 
-// Callers skip hidden columns without looking at constraints.
-fn hidden_columns(t: &Layout) -> [bool; MOST_COLUMNS]
-    requires { t.now.count ≤ most_columns }
-    ensures { result ≡ marked t.now }
-{
-    let mut flags = [false; MOST_COLUMNS];
-    for (i, c) in t.columns[..usize::from(t.count)].iter().enumerate() {
-        flags[i] = column::is_hidden(c);
-    }
-    flags
-}
-
-// The content width of each column and whether it is hidden, once the widths are arranged.
+// The content width of each column and whether it is hidden, once the widths are arranged: callers skip hidden columns without looking at
+// constraints.
 pub fn widths_of(t: &Layout, c: &Course) -> Widths
-    requires { t.now.count ≤ most_columns }
     ensures { result ≡ widths_from t.now c.now }
 {
     Widths {
-        count: usize::from(t.count),
+        count: t.columns.len(),
         content: c.state.widths,
-        hidden: hidden_columns(t),
+        hidden: t.by_column(false, |_, c| column::is_hidden(c)),
     }
 }
 
 // The layout that a sheet's widths go by, and the course that they took.
-#[derive(Clone, Copy)]
+#[derive(Drop)]
 pub struct Found {
     pub layout: Layout,
     pub course: Course,

@@ -1,46 +1,33 @@
--- Laws of the definitions: the loop over columns, a step. Assumes nothing.
-use Prim.Native.Nat.{ℕ, suc, ◌+◌, ◌≤◌, ◌<◌}
+-- Laws of the definitions: a loop over columns, an undecided column, the visible ones. Assumes nothing.
+use Prim.Native.Nat.{ℕ, zero, suc, ◌+◌, ◌≤◌}
 use mathlib.Core.Path.{◌≡◌, refl, sym, ap, ◌∙◌}
-use mathlib.Core.Bool.{Bool, true, false}
-use mathlib.Core.Option.{Option}
-use lib.ListN.{get_or, take}
-use lib.Seq.{get_or-take}
+use mathlib.Core.Bool.{Bool, true, false, not}
+use mathlib.Core.List.{List}
 use native.Mathlib.Omega.{arith}
 use native.Mathlib.Numerals.{add-one}
+use lib.ListN.{length, take}
+use lib.Seq.{take_all}
+use Rattle.std.specs.List.{count_by}
+use Rattle.std.proofs.lemmas.List.Sums.{count_by_more_yes, count_by_more_no}
 use Rattle.rules.specs.declared.Column.{Column}
+use Rattle.rules.specs.Sheet.{no_column, is_hidden}
 use Rattle.constraint.specs.declared.Layout.{Layout}
 use Rattle.constraint.specs.declared.State.{State}
 use Rattle.constraint.specs.Set.{bit, contains}
-use Rattle.constraint.specs.Widths.{choose, column, decided, in_order, Rule, step, taking}
+use Rattle.constraint.specs.Widths.{choose, column, counting, visible, decided, in_order}
 use Rattle.constraint.proofs.Bits.{bit-zero}
-use Rattle.rules.specs.Sheet.{no_column, is_hidden}
 
--- the invariant of a loop over columns, of which there are m: x is what comes after i of them
-pub record Walk {A : Type 0} (f : ℕ → A → A) (x₀ : A) (m n i : ℕ) (x : A) : Type 0 where
-  pub within : i ≤ n
-  pub counted : n ≡ m
-  pub so : x ≡ in_order f i x₀
-
-module _ {A : Type 0} (f : ℕ → A → A) (x₀ : A) (m n : ℕ) where
-  pub walk_begin : n ≡ m → Walk f x₀ m n 0 x₀
+-- no column, and one more, of a loop over columns
+module _ {A : Type 0} (f : ℕ → A → A) where
+  pub in_order-none : (x : A) → in_order f 0 x ≡ x
   unfolding in_order
-  walk_begin e = record { within = omega arith; counted = e; so = refl }
+  in_order-none x = refl
 
-  module _ (i : ℕ) (x : A) (w : Walk f x₀ m n i x) where
-    pub walk-again : (y : A) → i < n → y ≡ f i x → Walk f x₀ m n (i + 1) y
-    unfolding in_order
-    walk-again y h q =
-        let e : y ≡ in_order f (suc i) x₀ = q ∙ ap (f i) w.so in
-        record { within = omega arith; counted = w.counted; so = e ∙ ap (λ (k : ℕ). in_order f k x₀) (sym (add-one i)) }
+  pub in_order-more : (n : ℕ) (x : A) → in_order f (n + 1) x ≡ f n (in_order f n x)
+  unfolding in_order
+  in_order-more n x = ap (λ (k : ℕ). in_order f k x) (add-one n)
 
-    pub walk_done : n ≤ i → x ≡ in_order f m x₀
-    walk_done h =
-        let e : i ≡ m = omega (arith, w.within, w.counted) in
-        w.so ∙ ap (λ (k : ℕ). in_order f k x₀) e
-
--- a column of those that there are
-pub column-taken : (t : Layout) (n i : ℕ) → i < n → get_or (take n t.columns) i no_column ≡ column t i
-column-taken t n i h = get_or-take n t.columns i no_column h
+pub ruleset orders = (in_order-none, in_order-more)
 
 -- an undecided column is not in the set
 module _ (c : Column) (i : ℕ) (s : State) where
@@ -51,15 +38,21 @@ module _ (c : Column) (i : ℕ) (s : State) where
   pub open-bit : decided c i s ≡ false → bit s.decided.0 i ≡ 0
   open-bit h = bit-zero s.decided.0 i (open_go (is_hidden c) h)
 
--- a step's two ways out
-module _ (t : Layout) (i : ℕ) (s : State) (rule : Rule) (c : Column) (f : c ≡ column t i) (r : Bool) (e : r ≡ decided c i s) where
-  told : r ≡ decided (column t i) i s
-  told = e ∙ ap (λ (k : Column). decided k i s) f
+-- the visible columns, one after another
+counted : (t : Layout) (n : ℕ) → n ≤ length t.columns.items → count_by (λ c. not (is_hidden c)) (take n t.columns.items) ≡ in_order (counting t) n 0
+unfolding in_order
+counted t zero h = refl
+counted t (suc n) h =
+    ap (λ (k : ℕ). count_by (λ c. not (is_hidden c)) (take k t.columns.items)) (sym (add-one n)) ∙ go (is_hidden (column t n)) refl (counted t n (omega arith))
+  where
+    go : (b : Bool) → is_hidden (column t n) ≡ b → count_by (λ c. not (is_hidden c)) (take n t.columns.items) ≡ in_order (counting t) n 0
+        → count_by (λ c. not (is_hidden c)) (take (n + 1) t.columns.items) ≡ choose (is_hidden (column t n)) (in_order (counting t) n 0) (in_order (counting t) n 0 + 1)
+    go true e q = rw e (count_by_more_no (λ c. not (is_hidden c)) t.columns.items n no_column (omega arith) (ap not e) ∙ q)
+    go false e q =
+        rw e (count_by_more_yes (λ c. not (is_hidden c)) t.columns.items n no_column (omega arith) (ap not e) ∙ ap (λ (k : ℕ). k + 1) q)
 
-  pub step-decided : r ≡ true → s ≡ step rule t i s
-  unfolding step
-  step-decided h = let q : decided (column t i) i s ≡ true = sym told ∙ h in rw q
-
-  pub step_open : (o : Option ℕ) (u : State) → r ≡ false → o ≡ rule t i s → u ≡ taking s i o → u ≡ step rule t i s
-  unfolding step
-  step_open o u h p q = let z : decided (column t i) i s ≡ false = sym told ∙ h in q ∙ ap (taking s i) p ∙ sym (rw z)
+pub visible_counted : (t : Layout) → count_by (λ c. not (is_hidden c)) t.columns.items ≡ visible t
+unfolding visible
+visible_counted t =
+    let all : take (length t.columns.items) t.columns.items ≡ t.columns.items = take_all (length t.columns.items) t.columns.items (omega arith) in
+    ap (λ (cs : List Column). count_by (λ c. not (is_hidden c)) cs) (sym all) ∙ counted t (length t.columns.items) (omega arith)

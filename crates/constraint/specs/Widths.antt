@@ -1,10 +1,11 @@
 -- Widths: padding, borders, percent, bounds, the average, and fixing a column. Assumes nothing.
-use Rattle.std.specs.Prelude.{ℕ, zero, suc, ◌+◌, ◌-◌, ◌*◌, ◌/◌, min, Bool, true, false, Some, None, option_map, get_or, set, eqb}
+use Rattle.std.specs.Prelude.{ℕ, zero, suc, ◌+◌, ◌-◌, ◌*◌, ◌/◌, ◌<◌, ◌≡◌, min, Bool, true, false, Some, None, option_map, List, length, get_or, set, replicate, eqb}
 use Rattle.std.specs.Prelude as std
+use Rattle.std.specs.Borrow.{Bor}
 use Rattle.std.proofs.Math.Option.{Option, none, some}
 use Rattle.rules.specs.declared.Width as sheet
 use Rattle.rules.specs.declared.Column.{Column}
-use Rattle.rules.specs.Sheet.{no_column, is_hidden}
+use Rattle.rules.specs.Sheet.{most_columns, no_column, is_hidden}
 use Rattle.rules.specs.Widths.{lifted, content_of, lower_width, upper_width, covering}
 use Rattle.constraint.specs.declared.Layout.{Layout}
 use Rattle.constraint.specs.declared.State.{State}
@@ -26,7 +27,18 @@ in_order f (suc n) x = f n (in_order f n x)
 
 -- column i of a layout
 abbrev pub column : Layout → ℕ → Column
-column t i = get_or t.columns i no_column
+column t i = get_or t.columns.items i no_column
+
+-- a closure may be called with a column and its number; and what its calls may give is f of that number
+abbrev pub Asks : Layout → (ℕ → Bor Column → Type 0) → Type 0
+Asks t takes = (i : ℕ) (c : Bor Column) → i < most_columns → c.now ≡ column t i → takes i c
+
+abbrev pub Tells : {A : Type 0} → Layout → (ℕ → Bor Column → A → Type 0) → (ℕ → A) → Type 0
+Tells {A} t gives f = (i : ℕ) (c : Bor Column) (r : A) → i < most_columns → c.now ≡ column t i → gives i c r → r ≡ f i
+
+-- f of each column's number in its place, and a past the columns
+abbrev pub by_column : {A : Type 0} → Layout → A → (ℕ → A) → List A
+by_column t a f = in_order (λ i xs. set xs i (f i)) (length t.columns.items) (replicate most_columns a)
 
 abbrev pub longest : Layout → ℕ → ℕ
 longest t i = get_or t.longest i 0
@@ -37,7 +49,7 @@ counting t i n = choose (is_hidden (column t i)) n (n + 1)
 
 -- how many columns are visible
 unfoldable pub visible : Layout → ℕ
-visible t = in_order (counting t) t.count 0
+visible t = in_order (counting t) (length t.columns.items) 0
 
 -- borders drawn, with v visible columns
 abbrev pub borders : Layout → ℕ → ℕ
@@ -113,7 +125,7 @@ step rule t i s = choose (decided (column t i) i s) s (taking s i (rule t i s))
 
 -- the columns in order
 abbrev pub pass : Rule → Layout → State → State
-pass rule t s = in_order (step rule t) t.count s
+pass rule t s = in_order (step rule t) (length t.columns.items) s
 
 -- First. `Absolute`: its width
 abbrev pub absolute : Column → Option ℕ → Option ℕ
@@ -125,20 +137,21 @@ abbrev pub covered : Column → ℕ → Option ℕ → Option ℕ
 covered c n none = none
 covered c n (some w) = covering c n w
 
--- 2 `ContentWidth` takes the longest, 3 is `Absolute`; v is the number of visible columns
-unfoldable pub first_of : Layout → ℕ → ℕ → Option ℕ
-first_of t i v =
-    choose (eqb (column t i).constraint 2) (some (longest t i))
-    (choose (eqb (column t i).constraint 3) (absolute (column t i) (value t v (width_of (column t i).first)))
-    (covered (column t i) (longest t i) (lower t v (column t i))))
+-- 2 `ContentWidth` takes the longest (n), 3 is `Absolute`; v is the number of visible columns
+unfoldable pub first_of : Layout → Column → ℕ → ℕ → Option ℕ
+first_of t c n v =
+    choose (eqb c.constraint 2) (some n)
+    (choose (eqb c.constraint 3) (absolute c (value t v (width_of c.first))) (covered c n (lower t v c)))
 
 abbrev pub first : Rule
-first t i s = first_of t i s.visible
+first t i s = first_of t (column t i) (longest t i) s.visible
 
 -- a hidden column's width is its longest; it is not in the set
 abbrev pub hide : Layout → ℕ → State → State
 hide t i s =
     record { widths = set s.widths i (lifted (longest t i)); decided = s.decided; remaining = s.remaining; visible = s.visible }
 
-unfoldable pub evaluated : Layout → ℕ → State → State
-evaluated t i s = choose (is_hidden (column t i)) (hide t i s) (step first t i s)
+-- column c, which has number i
+unfoldable pub evaluated : Layout → Column → ℕ → State → State
+evaluated t c i s =
+    choose (is_hidden c) (hide t i s) (choose (decided c i s) s (taking s i (first_of t c (longest t i) s.visible)))

@@ -3,29 +3,29 @@
 
 pub mod column_set;
 
-ghost use Rattle.std.specs.Prelude.{◌≡◌, ◌≤◌, ◌<◌, false};
+ghost use Rattle.std.specs.Prelude.{ℕ, ◌≡◌, ◌<◌, false};
 ghost use Rattle.constraint.specs.Set.{contains};
-ghost use Rattle.constraint.specs.Widths.{visible, borders, room, percent, bound, offered, value, lower, upper, undecided, average, first_of};
+ghost use Rattle.constraint.specs.Widths.{visible, borders, room, percent, bound, offered, value, lower, upper, undecided, average, first_of, Asks, Tells, by_column};
 ghost use Rattle.constraint.specs.Widths.{decided, fixed, taking, evaluated};
 ghost use Rattle.rules.specs.Sheet.{most_columns};
 
+use arrayvec::ArrayVec;
 use column_set::ColumnSet;
 use rules::{Column, MOST_COLUMNS};
 use style::column;
 use style::column::{ColumnConstraint, ConstraintWidth, ContentWidth, Width};
 use style::table::ContentArrangement;
 
-// What the widths depend on, beside the parts that cell lines split into. There is no heap: the arrays have room for the most columns, and
-// the first `count` entries are the sheet's.
-#[derive(Clone, Copy)]
+// What the widths depend on, beside the parts that cell lines split into. There is no heap: columns and longest lines have room for the most
+// columns.
+#[derive(Drop)]
 pub struct Layout {
     pub arrangement: ContentArrangement,
     pub target: Option<u16>,
     pub left: bool,
     pub right: bool,
     pub junction: bool,
-    pub columns: [Column; MOST_COLUMNS],
-    pub count: u8,
+    pub columns: ArrayVec<Column, MOST_COLUMNS>,
     pub longest: [u16; MOST_COLUMNS],
 }
 
@@ -47,14 +47,31 @@ pub fn percent_of(room: u16, p: u16) -> u16
 
 impl Layout {
     // The divisor of the average is counted from these.
+    #[tactic(auto, using(crate::proofs::Laws::visible_counted))]
     pub fn count_visible_columns(&self) -> u16
-        requires { self.now.count ≤ most_columns }
         ensures { result ≡ visible self.now }
     {
-        self.columns[..usize::from(self.count)]
+        self.columns
             .iter()
             .filter(|c| !column::is_hidden(*c))
             .count() as u16
+    }
+
+    // What f answers for each column, and `blank` past the columns.
+    #[tactic(auto, using(crate::proofs::Laws::orders))]
+    pub fn by_column<T: Copy, F: Fn(usize, &Column) -> T>(
+        &self,
+        blank: T,
+        f: F,
+    ) -> [T; MOST_COLUMNS]
+        requires { Asks self.now (F.pre f) }
+        ensures { (g : ℕ → T) → Tells self.now (F.post f) g → result ≡ by_column self.now blank g }
+    {
+        let mut each = [blank; MOST_COLUMNS];
+        for (i, c) in self.columns.iter().enumerate() {
+            each[i] = f(i, c);
+        }
+        each
     }
 
     // Junctions stand between visible columns only.
@@ -91,6 +108,7 @@ impl Layout {
     }
 
     // The lower bound.
+    #[tactic(auto, unfolding(crate::specs::Widths::lower, rules::specs::Widths::lower_width, style::specs::Column::constraint_of))]
     pub fn min(&self, c: &Column, v: u16) -> Option<ConstraintWidth>
         ensures { bound result ≡ lower self.now v c.now }
     {
@@ -103,6 +121,7 @@ impl Layout {
     }
 
     // The upper bound.
+    #[tactic(auto, unfolding(crate::specs::Widths::upper, rules::specs::Widths::upper_width, style::specs::Column::constraint_of))]
     pub fn max(&self, c: &Column, v: u16) -> Option<ConstraintWidth>
         ensures { bound result ≡ upper self.now v c.now }
     {
@@ -114,19 +133,17 @@ impl Layout {
         }
     }
 
-    fn first_offer(&self, i: usize, v: u16) -> Option<ContentWidth>
-        requires { i < most_columns }
-        ensures { offered result ≡ first_of self.now i v }
+    #[tactic(auto, unfolding(crate::specs::Widths::first_of, crate::specs::Widths::lower, rules::specs::Widths::lower_width, rules::specs::Widths::covering, style::specs::Column::constraint_of))]
+    fn first_offer(&self, c: &Column, n: ContentWidth, v: u16) -> Option<ContentWidth>
+        ensures { offered result ≡ first_of self.now c.now n.0 v }
     {
-        let c = &self.columns[i];
-        let n = self.longest[i];
         match ColumnConstraint::of(c)? {
-            ColumnConstraint::ContentWidth => Some(ContentWidth(n)),
+            ColumnConstraint::ContentWidth => Some(n),
             ColumnConstraint::Absolute(w) => self
                 .absolute_value_from_width(w, v)
                 .map(|w| column::absolute_width_with_padding(c, w)),
             _ => {
-                let full = u32::from(n) + u32::from(column::padding_width(c));
+                let full = u32::from(n.0) + u32::from(column::padding_width(c));
                 self.min(c, v)
                     .filter(|w| full <= u32::from(w.0))
                     .map(|w| column::absolute_width_with_padding(c, w))
@@ -135,18 +152,21 @@ impl Layout {
     }
 
     // The first step: what a constraint settles without knowing the other columns. A hidden column is never in the set.
-    pub fn evaluate(&self, i: usize, s: &mut State)
+    // The number stays beside the column: longest lines, widths and the set are asked by it.
+    #[tactic(auto, unfolding(crate::specs::Widths::evaluated))]
+    pub fn evaluate(&self, c: &Column, i: usize, s: &mut State)
         requires { i < most_columns }
-        ensures { s.new ≡ evaluated self.now i s.old }
+        ensures { s.new ≡ evaluated self.now c.now i s.old }
     {
-        if column::is_hidden(&self.columns[i]) {
-            s.widths[i] = self.longest[i].max(1);
+        let n = self.longest[i];
+        if column::is_hidden(c) {
+            s.widths[i] = n.max(1);
             return;
         }
         if s.decided.contains(i) {
             return;
         }
-        let offer = self.first_offer(i, s.visible);
+        let offer = self.first_offer(c, ContentWidth(n), s.visible);
         s.take(i, offer);
     }
 }

@@ -1,5 +1,5 @@
 -- Step 4: columns that are left share the remaining width; if none is left, visible columns share what is over. Assumes nothing.
-use Rattle.std.specs.Prelude.{ℕ, ◌+◌, ◌/◌, ◌%◌, max, get_or, set, eqb, ltb}
+use Rattle.std.specs.Prelude.{ℕ, ◌+◌, ◌/◌, ◌%◌, max, length, get_or, set, eqb, ltb}
 use Rattle.rules.specs.Sheet.{is_hidden}
 use Rattle.constraint.specs.declared.Layout.{Layout}
 use Rattle.constraint.specs.declared.State.{State}
@@ -23,7 +23,7 @@ sharing t n parts i x =
 
 -- remaining is raised to their number
 unfoldable pub distributed : Layout → State → State
-distributed t s = (in_order (sharing t (max s.remaining (undecided s)) (undecided s)) t.count (record { state = s; given = 0 })).state
+distributed t s = (in_order (sharing t (max s.remaining (undecided s)) (undecided s)) (length t.columns.items) (record { state = s; given = 0 })).state
 
 -- the remainder is shared so among visible columns
 abbrev pub widened : State → ℕ → ℕ → State
@@ -38,7 +38,7 @@ widening t n parts i x =
 unfoldable pub filled : Layout → State → State
 filled t s =
     choose (eqb s.visible 0) s
-    (in_order (widening t s.remaining s.visible) t.count (record { state = s; given = 0 })).state
+    (in_order (widening t s.remaining s.visible) (length t.columns.items) (record { state = s; given = 0 })).state
 
 -- if columns are left they share; if none is left and the arrangement is `DynamicFullWidth`, the remainder is shared
 unfoldable pub finished : Layout → State → State

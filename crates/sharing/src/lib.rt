@@ -2,7 +2,6 @@
 #![tactic(auto)]
 
 ghost use Rattle.std.specs.Prelude.{◌≡◌, ◌≤◌, ◌<◌};
-ghost use Rattle.rules.specs.Sheet.{most_columns};
 ghost use Rattle.constraint.specs.Widths.{undecided};
 ghost use Rattle.sharing.specs.Limits.{Small};
 ghost use Rattle.sharing.specs.Share.{share, distributed, filled, finished};
@@ -22,14 +21,15 @@ fn share_of(n: u16, parts: u16, k: u16) -> u16
 }
 
 // Step 4, with columns left: each gets at least 1.
+#[tactic(auto, using(constraint::proofs::Laws::orders), unfolding(crate::specs::Share::sharing, crate::specs::Share::distributed))]
 fn distribute_remaining_space(t: &Layout, s: &mut State)
-    requires { (t.now.count ≤ most_columns) × (0 < undecided s.old) }
+    requires { 0 < undecided s.old }
     ensures { s.new ≡ distributed t.now s.old }
 {
     let parts = s.undecided();
     let total = s.remaining.max(parts);
     let mut given = 0;
-    for (i, c) in t.columns[..usize::from(t.count)].iter().enumerate() {
+    for (i, c) in t.columns.iter().enumerate() {
         if s.is_decided(c, i) {
             continue;
         }
@@ -39,8 +39,9 @@ fn distribute_remaining_space(t: &Layout, s: &mut State)
 }
 
 // Step 4, with none left: every visible column is widened.
+#[tactic(auto, using(constraint::proofs::Laws::orders, crate::proofs::Shares::widened_ahead), unfolding(crate::specs::Share::widening, crate::specs::Share::filled))]
 fn use_full_width(t: &Layout, s: &mut State)
-    requires { (t.now.count ≤ most_columns) × Small s.old }
+    requires { Small s.old }
     ensures { s.new ≡ filled t.now s.old }
 {
     let parts = s.visible;
@@ -49,7 +50,7 @@ fn use_full_width(t: &Layout, s: &mut State)
     }
     let total = s.remaining;
     let mut given = 0;
-    for (i, c) in t.columns[..usize::from(t.count)].iter().enumerate() {
+    for (i, c) in t.columns.iter().enumerate() {
         if column::is_hidden(c) {
             continue;
         }
@@ -59,8 +60,9 @@ fn use_full_width(t: &Layout, s: &mut State)
 }
 
 // Step 4.
+#[tactic(auto, using(style::proofs::Laws::full_same), unfolding(crate::specs::Share::finished))]
 pub fn finish(t: &Layout, s: &mut State)
-    requires { (t.now.count ≤ most_columns) × Small s.old }
+    requires { Small s.old }
     ensures { s.new ≡ finished t.now s.old }
 {
     if s.undecided() > 0 {

@@ -1,5 +1,5 @@
 -- What is told from the course of the widths is the report. Assumes nothing.
-use Prim.Native.Nat.{ℕ, ◌+◌, ◌<◌}
+use Prim.Native.Nat.{ℕ, ◌+◌, ◌≤◌, ◌<◌}
 use mathlib.Core.Path.{◌≡◌, refl, sym, ap, ◌∙◌}
 use mathlib.Core.Bool.{Bool, true, false, not, ◌||◌, ◌&&◌}
 use mathlib.Core.List.{List}
@@ -11,7 +11,7 @@ use borrow.Author.Tests.{le-ltb}
 use Rattle.rules.specs.declared.WidthStep.{WidthStep}
 use Rattle.rules.specs.declared.WidthStep.TheVariants.{FirstConstraint, LowerBound, UpperBound, LongestWithinAverage, SplitPart, EvenShare}
 use Rattle.rules.specs.declared.WidthStep.TheVariants.{UntargetedLongest, UntargetedUpper}
-use Rattle.rules.specs.Sheet.{Table, column_at, padding, is_hidden}
+use Rattle.rules.specs.Sheet.{Table, most_columns, column_at, padding, is_hidden}
 use Rattle.rules.specs.Calls.{as_array}
 use Rattle.rules.specs.Widths as doc
 use Rattle.rules.specs.Widths.{is_undecided, is_untargeted, below_longest, at_upper, content_of, longest_part}
@@ -30,7 +30,7 @@ use Rattle.arrangement.specs.Arrange.{arranged}
 use Rattle.arrangement.specs.Describes.{Describes}
 use Rattle.arrangement.specs.Courses.{CourseIs}
 use Rattle.arrangement.specs.Widths.{widths_from}
-use Rattle.arrangement.proofs.Offers.{hidden_as, visible_as, upper_as}
+use Rattle.arrangement.proofs.Offers.{count_as, column_as, longest_as, hidden_as, visible_as, upper_as}
 use Rattle.arrangement.proofs.Courses.{course_is}
 use Rattle.arrangement.proofs.Layouts.{entries_as, widths-at}
 use Rattle.width_steps.specs.declared.Report.{Report}
@@ -92,18 +92,18 @@ decided-or : {A : Type 0} (u : Bool) (p q r : A) → q ≡ r → choose (not u) 
 decided-or true p q r e = e
 decided-or false p q r e = refl
 
-module _ (l : Layout) (t : Table) (d : Describes l t) (a : Course) (c : CourseIs t a) (j : ℕ) (k : j < l.count) where
+module _ (l : Layout) (t : Table) (d : Describes l t) (a : Course) (c : CourseIs t a) (j : ℕ) (k : j < length l.columns.items) where
   n : j < length t.columns
-  n = omega (arith, d.count)
+  n = omega (arith, count_as l t d)
 
   bound-here : upper l (visible l) (column l j) ≡ doc.upper t (column_at t j)
-  bound-here = ap (upper l (visible l)) (d.column j k) ∙ upper_as l t d (visible l) (visible_as l t d) (column_at t j)
+  bound-here = ap (upper l (visible l)) (column_as l t d j) ∙ upper_as l t d (visible l) (visible_as l t d) (column_at t j)
 
   untargeted_named : untargeted_by (longest l j) (upper l (visible l) (column l j)) ≡ untargeted_step t j
-  untargeted_named = rw (d.longest j k, bound-here) (untargeted-step t j)
+  untargeted_named = rw (longest_as l t d j k, bound-here) (untargeted-step t j)
 
   fitted_named : fitted_by (column l j) (longest l j) (upper l (visible l) (column l j)) ≡ fitted_step t j
-  fitted_named = rw (d.longest j k, bound-here, d.column j k) (fitted-step t j)
+  fitted_named = rw (longest_as l t d j k, bound-here, column_as l t d j) (fitted-step t j)
 
   module _ (v : is_hidden (column_at t j) ≡ false) where
     targeted_named : is_untargeted t ≡ false → targeted_by l a j ≡ targeted_step t j
@@ -128,45 +128,45 @@ module _ (l : Layout) (t : Table) (d : Describes l t) (a : Course) (c : CourseIs
     shown_named : step_by l a j ≡ step_of t j
     unfolding step_by step_of
     shown_named =
-        rw (hidden_as l t d j k, v, c.first j n v, untargeted_named, step_of)
+        rw (hidden_as l t d j, v, c.first j n v, untargeted_named, step_of)
         (decided-or (is_undecided (doc.start t) j) FirstConstraint _ _ tests)
 
-    at_split : (u b : Bool) → is_undecided (after3 t) j ≡ u → is_untargeted t ≡ b → widened_by l a j ≡ is_widened t j
+    at_split : (u b : Bool) → is_undecided (after3 t) j ≡ u → is_untargeted t ≡ b → widened_by (column l j) a j ≡ is_widened t j
     unfolding widened_by is_widened
     at_split u true e f =
         let z = c.unshared f in
-        rw (hidden_as l t d j k, v, f, z, is_widened) (go (contains a.split j))
+        rw (hidden_as l t d j, v, f, z, is_widened) (go (contains a.split j))
       where
         go : (x : Bool) → choose x (ltb (get_or a.state.widths j 0) (get_or a.state.widths j 0)) false ≡ false
         go true = le-ltb (get_or a.state.widths j 0) (get_or a.state.widths j 0) (omega arith)
         go false = refl
-    at_split true false e f = rw (hidden_as l t d j k, v, c.split f j n v, f, is_widened, e)
-    at_split false false e f = rw (hidden_as l t d j k, v, c.split f j n v, f, is_widened, e, c.before f j n, c.content j n)
+    at_split true false e f = rw (hidden_as l t d j, v, c.split f j n v, f, is_widened, e)
+    at_split false false e f = rw (hidden_as l t d j, v, c.split f j n v, f, is_widened, e, c.before f j n, c.content j n)
 
   pub step_named : step_by l a j ≡ step_of t j
   unfolding step_by step_of
   step_named = go (is_hidden (column_at t j)) refl
     where
       go : (b : Bool) → is_hidden (column_at t j) ≡ b → step_by l a j ≡ step_of t j
-      go true h = rw (hidden_as l t d j k, h, step_of)
+      go true h = rw (hidden_as l t d j, h, step_of)
       go false h = shown_named h
 
-  pub widened_named : widened_by l a j ≡ is_widened t j
+  pub widened_named : widened_by (column l j) a j ≡ is_widened t j
   unfolding widened_by
   widened_named = go (is_hidden (column_at t j)) refl
     where
-      go : (b : Bool) → is_hidden (column_at t j) ≡ b → widened_by l a j ≡ is_widened t j
-      go true h = rw (hidden_as l t d j k, h) (sym ((explained t).hidden j n h).1)
+      go : (b : Bool) → is_hidden (column_at t j) ≡ b → widened_by (column l j) a j ≡ is_widened t j
+      go true h = rw (hidden_as l t d j, h) (sym ((explained t).hidden j n h).1)
       go false h = at_split h (is_undecided (after3 t) j) (is_untargeted t) refl refl
 
 -- the report
-module _ (l : Layout) (t : Table) (d : Describes l t) (a : Course) (e : a ≡ arranged (longest_part t) l) where
+module _ (l : Layout) (t : Table) (d : Describes l t) (few : length l.columns.items ≤ most_columns) (a : Course) (e : a ≡ arranged (longest_part t) l) where
   pub report-at : (w : Widths) (n : ℕ) (xs : List ℕ) (fs : List Bool) → w ≡ widths_from l a → n ≡ unwrap_or l.target 0 → xs ≡ steps_by l a → fs ≡ widened_all_by l a
       → ◌≡◌ {A = Report} (record { widths = w; target = n; step = xs; widened = fs }) (report_of t)
   unfolding report_of
   report-at w n xs fs f q g h =
-      let c = course_is l t d a e in
+      let c = course_is l t d few a e in
       let steps : xs ≡ as_array 0 (step_numbers t) =
-      g ∙ entries_as l t d 0 (λ j. step_number (step_by l a j)) (λ j. step_number (step_of t j)) (λ j k. ap step_number (step_named l t d a c j k)) in
-      let flags : fs ≡ as_array false (widened_columns t) = h ∙ entries_as l t d false (widened_by l a) (is_widened t) (widened_named l t d a c) in
-      rw (widths-at l t d a w e f, steps, flags, q, d.target, target_or t.target)
+      g ∙ entries_as l t d few 0 (λ j. step_number (step_by l a j)) (λ j. step_number (step_of t j)) (λ j k. ap step_number (step_named l t d a c j k)) in
+      let flags : fs ≡ as_array false (widened_columns t) = h ∙ entries_as l t d few false (λ j. widened_by (column l j) a j) (is_widened t) (widened_named l t d a c) in
+      rw (widths-at l t d few a w e f, steps, flags, q, d.target, target_or t.target)

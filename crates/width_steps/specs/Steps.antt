@@ -1,17 +1,17 @@
 -- The step of a column by the course of the widths, and the report. Assumes nothing.
-use Rattle.std.specs.Prelude.{ℕ, ◌+◌, List, Bool, false, ◌||◌, is_none, get_or, set, replicate, leb, ltb}
+use Rattle.std.specs.Prelude.{ℕ, ◌+◌, List, Bool, false, ◌||◌, is_none, get_or, leb, ltb}
 use Rattle.std.proofs.Math.Option.{Option, none, some}
 use Rattle.rules.specs.declared.Column.{Column}
 use Rattle.rules.specs.declared.WidthStep.{WidthStep}
 use Rattle.rules.specs.declared.WidthStep.TheVariants.{NoStep, FirstConstraint, LowerBound, UpperBound, LongestWithinAverage, SplitPart, EvenShare}
 use Rattle.rules.specs.declared.WidthStep.TheVariants.{UntargetedLongest, UntargetedUpper}
-use Rattle.rules.specs.Sheet.{Table, most_columns, padding, is_hidden}
+use Rattle.rules.specs.Sheet.{Table, padding, is_hidden}
 use Rattle.rules.specs.Calls.{as_array}
 use Rattle.rules.specs.Reasons.{step_number, step_numbers, widened_columns}
 use Rattle.style.specs.Table.{is_disabled}
 use Rattle.constraint.specs.declared.Layout.{Layout}
 use Rattle.constraint.specs.Set.{contains}
-use Rattle.constraint.specs.Widths.{choose, in_order, column, longest, visible, upper}
+use Rattle.constraint.specs.Widths.{choose, by_column, column, longest, visible, upper}
 use Rattle.arrangement.specs.declared.dynamic.Course.{Course}
 use Rattle.arrangement.specs.Widths.{arranged_widths}
 use Rattle.width_steps.specs.declared.Report.{Report}
@@ -38,23 +38,17 @@ step_by t a i =
     (choose (is_none t.target || is_disabled t.arrangement) (untargeted_by (longest t i) (upper t (visible t) (column t i)))
     (targeted_by t a i)))
 
-abbrev pub naming : Layout → Course → ℕ → List ℕ → List ℕ
-naming t a i xs = set xs i (step_number (step_by t a i))
-
 abbrev pub steps_by : Layout → Course → List ℕ
-steps_by t a = in_order (naming t a) t.count (replicate most_columns 0)
+steps_by t a = by_column t 0 (λ i. step_number (step_by t a i))
 
 -- decided before step 4, and wider after it
-unfoldable pub widened_by : Layout → Course → ℕ → Bool
-widened_by t a i =
-    choose (is_hidden (column t i)) false
+unfoldable pub widened_by : Column → Course → ℕ → Bool
+widened_by c a i =
+    choose (is_hidden c) false
     (choose (contains a.split i) (ltb (get_or a.before i 0) (get_or a.state.widths i 0)) false)
 
-abbrev pub widening : Layout → Course → ℕ → List Bool → List Bool
-widening t a i xs = set xs i (widened_by t a i)
-
 abbrev pub widened_all_by : Layout → Course → List Bool
-widened_all_by t a = in_order (widening t a) t.count (replicate most_columns false)
+widened_all_by t a = by_column t false (λ i. widened_by (column t i) a i)
 
 -- the report on a table's widths
 unfoldable pub report_of : Table → Report

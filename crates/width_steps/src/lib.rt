@@ -5,7 +5,7 @@ ghost use Rattle.std.specs.Prelude.{◌≡◌, ◌≤◌, ◌<◌, pos, ◌-ℤ�
 ghost use Rattle.rules.specs.Limits.{longest_line};
 ghost use Rattle.rules.specs.Sheet.{most_columns};
 ghost use Rattle.table.specs.Held.{table_of};
-ghost use Rattle.constraint.specs.Widths.{bound, visible};
+ghost use Rattle.constraint.specs.Widths.{bound, column, visible};
 ghost use Rattle.width_steps.specs.Steps.{untargeted_by, fitted_by, targeted_by, step_by, steps_by, widened_by, widened_all_by, report_of};
 
 use arrangement::Widths;
@@ -38,16 +38,17 @@ fn fitted_step(c: &Column, n: ContentWidth, b: Option<ConstraintWidth>) -> Width
     }
 }
 
-// The first of steps 1 to 3 after which the column is decided, or step 4.
-fn targeted_step(t: &Layout, v: u16, i: usize, a: &Course) -> WidthStep
-    requires { (i < most_columns) × (v ≡ visible t.now) }
+// The first of steps 1 to 3 after which column c, which has number i, is decided, or step 4.
+// Here and below the number stays: the sets of decided columns and the arrays are asked by it.
+#[tactic(auto, unfolding(crate::specs::Steps::targeted_by))]
+fn targeted_step(t: &Layout, v: u16, c: &Column, i: usize, a: &Course) -> WidthStep
+    requires { (i < most_columns) × (c.now ≡ column t.now i) × (v ≡ visible t.now) }
     ensures { result ≡ targeted_by t.now a.now i }
 {
     if a.lower.contains(i) {
         return WidthStep::LowerBound;
     }
     if a.fitted.contains(i) {
-        let c = &t.columns[i];
         return fitted_step(c, ContentWidth(t.longest[i]), t.max(c, v));
     }
     if a.split.contains(i) {
@@ -57,11 +58,11 @@ fn targeted_step(t: &Layout, v: u16, i: usize, a: &Course) -> WidthStep
 }
 
 // A hidden column names none; the first step is the same with and without a target.
-fn step_of(t: &Layout, v: u16, i: usize, a: &Course) -> WidthStep
-    requires { (i < most_columns) × (v ≡ visible t.now) }
+#[tactic(auto, using(style::proofs::Laws::disabled_same), unfolding(crate::specs::Steps::step_by))]
+fn step_of(t: &Layout, v: u16, c: &Column, i: usize, a: &Course) -> WidthStep
+    requires { (i < most_columns) × (c.now ≡ column t.now i) × (v ≡ visible t.now) }
     ensures { result ≡ step_by t.now a.now i }
 {
-    let c = &t.columns[i];
     if column::is_hidden(c) {
         return WidthStep::NoStep;
     }
@@ -71,42 +72,32 @@ fn step_of(t: &Layout, v: u16, i: usize, a: &Course) -> WidthStep
     if t.target.is_none() || t.arrangement == ContentArrangement::Disabled {
         return untargeted_step(ContentWidth(t.longest[i]), t.max(c, v));
     }
-    targeted_step(t, v, i, a)
+    targeted_step(t, v, c, i, a)
 }
 
 fn steps(t: &Layout, a: &Course) -> [u8; MOST_COLUMNS]
-    requires { t.now.count ≤ most_columns }
     ensures { result ≡ steps_by t.now a.now }
 {
     let v = t.count_visible_columns();
-    let mut numbers = [0u8; MOST_COLUMNS];
-    // Kept over numbers: what is told of a column stands in several arrays and sets at its number.
-    for i in 0..usize::from(t.count) {
-        numbers[i] = u8::from(step_of(t, v, i, a));
-    }
-    numbers
+    t.by_column(0, |i, c| u8::from(step_of(t, v, c, i, a)))
 }
 
 // To a column that is decided before it step 4 gives nothing but its share of the remainder.
-fn is_widened(t: &Layout, i: usize, a: &Course) -> bool
+#[tactic(auto, unfolding(crate::specs::Steps::widened_by))]
+fn is_widened(c: &Column, i: usize, a: &Course) -> bool
     requires { i < most_columns }
-    ensures { result ≡ widened_by t.now a.now i }
+    ensures { result ≡ widened_by c.now a.now i }
 {
-    if column::is_hidden(&t.columns[i]) {
+    if column::is_hidden(c) {
         return false;
     }
     a.split.contains(i) && a.before[i] < a.state.widths[i]
 }
 
 fn widened_columns(t: &Layout, a: &Course) -> [bool; MOST_COLUMNS]
-    requires { t.now.count ≤ most_columns }
     ensures { result ≡ widened_all_by t.now a.now }
 {
-    let mut flags = [false; MOST_COLUMNS];
-    for i in 0..usize::from(t.count) {
-        flags[i] = is_widened(t, i, a);
-    }
-    flags
+    t.by_column(false, |i, c| is_widened(c, i, a))
 }
 
 // The report on an accepted sheet's widths; the widths and the target are what its lines are measured by. The arrays are those of the C

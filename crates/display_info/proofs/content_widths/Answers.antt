@@ -1,10 +1,10 @@
 use Rattle.arrangement.proofs.Layouts.{widths-at}
+use Rattle.arrangement.proofs.Offers.{few_as}
+use Rattle.display_info.proofs.Opening.{limits_of}
 use Rattle.display_info.proofs.content_widths.Goals as goal
-
-pub widths_of-requires : goal.widths_of-requires
-widths_of-requires c = c.arrange_sheet-found.ensures.describes.few
 
 pub returns : goal.returns
 returns c =
     let f = c.arrange_sheet-found.ensures in
-    widths-at _ _ f.describes _ _ f.course c.widths_of.ensures
+    let few = few_as _ _ f.describes (limits_of _ c.args.sheet.now.accepted) in
+    widths-at _ _ f.describes few _ _ f.course c.widths_of.ensures

@@ -1,10 +1,11 @@
 use Prim.Native.Nat.{◌≤◌}
-use Rattle.constraint.proofs.Laws.{Walk}
-use Rattle.sharing.specs.Share.{widening}
+use mathlib.Core.Path.{◌≡◌}
+use Rattle.constraint.specs.Widths.{in_order}
+use Rattle.sharing.specs.Share.{Sharing, widening}
 use Rattle.sharing.proofs.Shares.{Ahead}
 use Rattle.sharing.proofs.use_full_width.Given as goal
 
 abbrev pub invariant-loop-i : goal.invariant-loop-i
 invariant-loop-i l =
     (l.given ≤ l.i) × Ahead l.i l.s
-    × Walk (widening l.t l.total l.parts) (record { state = l.initial.s; given = 0 }) l.t.count l.i-end l.i (record { state = l.s; given = l.given })
+    × ◌≡◌ {A = Sharing} (record { state = l.s; given = l.given }) (in_order (widening l.t l.total l.parts) l.i (record { state = l.initial.s; given = 0 }))

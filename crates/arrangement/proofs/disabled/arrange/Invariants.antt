@@ -1,7 +1,7 @@
-use Rattle.constraint.specs.Widths.{step}
+use mathlib.Core.Path.{◌≡◌}
+use Rattle.constraint.specs.Widths.{in_order, step}
 use Rattle.arrangement.specs.Arrange.{untargeted}
-use Rattle.constraint.proofs.Laws.{Walk}
 use Rattle.arrangement.proofs.disabled.arrange.Given as goal
 
 abbrev pub invariant-loop-i : goal.invariant-loop-i
-invariant-loop-i l = Walk (step untargeted l.t) l.initial.s l.t.count l.i-end l.i l.s
+invariant-loop-i l = l.s ≡ in_order (step untargeted l.t) l.i l.initial.s

@@ -1,8 +1,8 @@
 use mathlib.Core.Path.{refl}
 use Rattle.laws.proofs.Accepted.{accepted_limits}
 use Rattle.table.proofs.Held.{held}
-use Rattle.arrangement.proofs.Arranged.{steps_small}
-use Rattle.arrangement.proofs.Ways.{targeted-at}
+use Rattle.arrangement.proofs.Arranged.{steps_small, targeted-at}
+use Rattle.arrangement.proofs.Offers.{few_as}
 use Rattle.arrangement.proofs.dynamic.arrange.Goals as goal
 
 pub finish-requires : goal.finish-requires
@@ -13,4 +13,4 @@ finish-requires c =
     let lower = c.enforce_lower_boundary_constraints.ensures in
     let fit = c.find_columns_that_fit_into_average.ensures in
     let split = c.optimize_space_after_split.ensures in
-    (c.requires.0.few, steps_small _ _ c.requires.0 _ (λ j a l. refl) limits _ _ _ _ _ c.requires.1 first lower fit split)
+    steps_small _ _ c.requires.0 (few_as _ _ c.requires.0 limits) _ (λ j a l. refl) limits _ _ _ _ _ c.requires.1 first lower fit split

@@ -1,6 +1,6 @@
-use Rattle.constraint.specs.Widths.{step}
-use Rattle.constraint.proofs.Laws.{Walk}
+use mathlib.Core.Path.{◌≡◌}
+use Rattle.constraint.specs.Widths.{in_order, step}
 use Rattle.arrangement.proofs.dynamic.pass.Given as goal
 
 abbrev pub invariant-loop-i : goal.invariant-loop-i
-invariant-loop-i g l = Walk (step (g.S.Step.rule l.step) l.t) l.initial.s l.t.count l.i-end l.i l.s
+invariant-loop-i g l = l.s ≡ in_order (step (g.S.Step.rule l.step) l.t) l.i l.initial.s

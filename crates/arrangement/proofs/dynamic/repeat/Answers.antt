@@ -1,6 +1,7 @@
 use Prim.Native.Nat.{ℕ, ◌+◌, ◌<◌}
 use mathlib.Core.Path.{refl, sym, subst}
 use mathlib.Core.Bool.{not}
+use native.Mathlib.Omega.{arith}
 use lib.Dec.{eqb}
 use Rattle.std.proofs.Common.{rules}
 use Rattle.arrangement.specs.Arrange.{repeated, turn}
@@ -15,7 +16,7 @@ loop-again-preserved g c =
     let u = c.pass.new.s in
     let f = turn g.S.Step.ended (g.S.Step.rule c.args.step.now) c.args.t.now in
     let going = c.loop-again.invariant.0 in
-    let grew = turn_grew c.args.t.now c.requires.0 c.loop-again.s going.small g.S.Step.ended (g.S.Step.rule c.args.step.now) in (
+    let grew = turn_grew c.args.t.now (omega (arith, c.len.ensures)) c.loop-again.s going.small g.S.Step.ended (g.S.Step.rule c.args.step.now) in (
       subst (λ (d : ℕ). Going f (repeated f c.args.s.now) u (not (eqb u.decided.0 d))) (sym c.loop-again.invariant.1)
           (round-again _ _ _ _ going c.loop-again-test.true _ c.pass.ensures grew),
       refl,
@@ -26,7 +27,7 @@ loop-again-smaller g c =
     let r = c.loop-again.s in
     let u = c.pass.new.s in
     let going = c.loop-again.invariant.0 in
-    let grew = turn_grew c.args.t.now c.requires.0 r going.small g.S.Step.ended (g.S.Step.rule c.args.step.now) in
+    let grew = turn_grew c.args.t.now (omega (arith, c.len.ensures)) r going.small g.S.Step.ended (g.S.Step.rule c.args.step.now) in
     subst (λ (d : ℕ). left u + weight (not (eqb u.decided.0 d)) < left r + weight c.loop-again.again) (sym c.loop-again.invariant.1)
     (round_less _ _ _ _ going c.loop-again-test.true _ c.pass.ensures grew)
 
