@@ -9,7 +9,7 @@ use Rattle.text_width.specs.Measure.{Reach}
 use Rattle.text_width.proofs.Measure.{reached-all}
 use Rattle.content_split.specs.Cut.{Near, Long}
 use Rattle.content_split.proofs.Back.{few_bytes, few_columns, past-width, within-width}
-use Rattle.content_split.proofs.long_piece.Goals as goal
+use Rattle.content_split.proofs.SplitText.long_piece.Goals as goal
 
 -- a piece that goes on past the width is longer
 told : (w d : ℕ) (t : List ℕ) (s z e : ℕ) → Reach t s w z → Near d t s (z - s) e → (b : Bool) → ltb z e ≡ b → Long w d t s b
