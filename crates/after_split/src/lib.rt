@@ -12,10 +12,12 @@ ghost use Rattle.content_split.specs.Cut.{Sound};
 ghost use Rattle.after_split.specs.Known.{LinesKnown, CellsKnown, RowsKnown};
 ghost use Rattle.after_split.specs.Trial.{of_line, of_lines, Enough, RowTried, RowsTried};
 
+use content_split::SplitText;
 use rules::Column;
 use table::accepted::AcceptedSheet;
 use table::records::{Cells, Lines, Rows};
 use table::{records, walk};
+use text_width::Text;
 
 // The longest part that was found, and where the walk stands.
 #[derive(Clone, Copy)]
@@ -38,11 +40,20 @@ fn longest_part_of_line(line: &[u8], average: usize, delimiter: u8) -> usize
     requires { (0 < average) × Sound delimiter line.now 0 }
     ensures { result ≡ of_line average delimiter line.now }
 {
-    let n = text_width::columns(line, 0, line.len(), false);
+    let n = Text::unknown(line).columns(0, line.len());
     if n <= average {
         return n;
     }
-    content_split::longest_part(line, average, delimiter, n == line.len())
+    let text = Text {
+        bytes: line,
+        plain: n == line.len(),
+    };
+    let split = SplitText {
+        text,
+        width: average,
+        delimiter,
+    };
+    split.longest_part()
 }
 
 // The longest so far, or a part of another line. No text has more columns than bytes: a line of so few bytes isn't counted.

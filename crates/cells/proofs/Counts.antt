@@ -112,73 +112,57 @@ pub span-most : (s : List ℕ) (c : Lines) → lines_end s c ≤ length s → sp
 unfolding lines_in lines_end
 span-most s c h = omega (arith, lines-span s c.left c.at h)
 
--- n lines are counted, and these cell lines are left
-pub record Counting (s : List ℕ) (w d : ℕ) (plain : Bool) (all : Lines) (n : ℕ) (c : Lines) : Type 0 where
-  pub count : length (wrap_lines w d (lines_in s all)) ≡ n + length (wrap_lines w d (lines_in s c))
-  pub few : n + span (lines_in s c) ≤ length s
-  pub ends : lines_end s c ≤ length s
-  pub texts : All (TextIs plain) (lines_in s c)
+-- n lines are counted, and these cell lines are left, with so many bytes
+pub record Counting (w d : ℕ) (plain : Bool) (size : ℕ) (all : List (List ℕ)) (n : ℕ) (ls : List (List ℕ)) : Type 0 where
+  pub count : length (wrap_lines w d all) ≡ n + length (wrap_lines w d ls)
+  pub few : n + span ls ≤ size
+  pub texts : All (TextIs plain) ls
 
-module _ (s : List ℕ) (w d : ℕ) (plain : Bool) (all : Lines) where
-  pub counting_begins : lines_end s all ≤ length s → All (TextIs plain) (lines_in s all) → Counting s w d plain all 0 all
-  counting_begins h k = record { count = omega arith; few = omega (arith, span-most s all h); ends = h; texts = k }
+module _ (w d : ℕ) (plain : Bool) (size : ℕ) (all : List (List ℕ)) where
+  pub counting_begins : span all ≤ size → All (TextIs plain) all → Counting w d plain size all 0 all
+  counting_begins h k = record { count = omega arith; few = omega (arith, h); texts = k }
 
-  module _ (n : ℕ) (c : Lines) (C : Counting s w d plain all n c) where
-    pub counting-room : 0 < c.left → (m : ℕ) → m ≤ length (first_line s c) + 1 → n + m ≤ length s
+  module _ (n : ℕ) (t : List ℕ) (ls : List (List ℕ)) (C : Counting w d plain size all n (t ∷ ls)) where
+    pub counting-room : (m : ℕ) → m ≤ length t + 1 → n + m ≤ size
     unfolding span
-    counting-room h m l = omega (arith, C.few, ap span (lines-some s c h))
+    counting-room m l = omega (arith, C.few)
 
-    pub counting-on : 0 < c.left → (m k : ℕ) → m ≡ length (wrap_line w d (first_line s c)) → m ≤ length (first_line s c) + 1 → k ≡ n + m → (r : Lines) →
-        LinesNext s c r → Counting s w d plain all k r
+    pub counting-on : (m : ℕ) → m ≡ length (wrap_line w d t) → m ≤ length t + 1 → Counting w d plain size all (n + m) ls
     unfolding span
-    counting-on h m k e l i r x =
-        let z : length (wrap_lines w d (lines_in s c)) ≡ m + length (wrap_lines w d (drop 1 (lines_in s c))) =
-        ap (λ ts. length (wrap_lines w d ts)) (lines-some s c h) ∙ ap length (wrap_more w d (first_line s c) (drop 1 (lines_in s c)))
-        ∙ length-append (wrap_line w d (first_line s c)) (wrap_lines w d (drop 1 (lines_in s c))) ∙ omega arith in
-        record {
-          count = rw x.lines (omega (arith, C.count, z));
-          few = rw x.lines (omega (arith, C.few, ap span (lines-some s c h)));
-          ends = omega (arith, C.ends, x.ends);
-          texts = texts_next plain s c r x C.texts;
-        }
+    counting-on m e l =
+        let z : length (wrap_lines w d (t ∷ ls)) ≡ m + length (wrap_lines w d ls) =
+        ap length (wrap_more w d t ls) ∙ length-append (wrap_line w d t) (wrap_lines w d ls) ∙ omega arith in
+        record { count = omega (arith, C.count, z); few = omega (arith, C.few); texts = C.texts.1 }
 
-    pub counting_done : c.left ≤ 0 → n ≡ length (wrap_lines w d (lines_in s all))
-    counting_done h = omega (arith, C.count, ap length (ap (wrap_lines w d) (lines_none s c h) ∙ wrap-none w d))
+  pub counting_done : (n : ℕ) → Counting w d plain size all n [] → n ≡ length (wrap_lines w d all)
+  counting_done n C = omega (arith, C.count, ap length (wrap-none w d))
 
 -- ---- their pairs
 
 -- n pairs are counted, and these cell lines are left
-pub record Pairing (s : List ℕ) (all : Lines) (n : ℕ) (c : Lines) : Type 0 where
-  pub sum : n + pairs_of (lines_in s c) ≡ pairs_of (lines_in s all)
-  pub few : n + span (lines_in s c) ≤ length s
-  pub ends : lines_end s c ≤ length s
+pub record Pairing (size : ℕ) (all : List (List ℕ)) (n : ℕ) (ls : List (List ℕ)) : Type 0 where
+  pub sum : n + pairs_of ls ≡ pairs_of all
+  pub few : n + span ls ≤ size
 
-module _ (s : List ℕ) (all : Lines) where
-  pub pairing_begins : lines_end s all ≤ length s → Pairing s all 0 all
-  pairing_begins h = record { sum = omega arith; few = omega (arith, span-most s all h); ends = h }
+module _ (size : ℕ) (all : List (List ℕ)) where
+  pub pairing_begins : span all ≤ size → Pairing size all 0 all
+  pairing_begins h = record { sum = omega arith; few = omega (arith, h) }
 
-  module _ (n : ℕ) (c : Lines) (P : Pairing s all n c) (some : 0 < c.left) (t : List ℕ) (e : t ≡ first_line s c) (m : ℕ)
-      (f : m ≡ text_width (slice 0 (length t) t)) where
+  module _ (n : ℕ) (t : List ℕ) (ls : List (List ℕ)) (P : Pairing size all n (t ∷ ls)) (m : ℕ) (f : m ≡ text_width (slice 0 (length t) t)) where
     width : m ≡ text_width t
     width = f ∙ ap text_width (take_all (length t) t (omega arith))
 
     pub pairing_less : m ≤ length t
     pairing_less = omega (arith, width, width-le t)
 
-    pub pairing-room : n + (length t - m) ≤ length s
+    pub pairing-room : n + (length t - m) ≤ size
     unfolding span
-    pairing-room = omega (arith, P.few, ap span (lines-some s c some), ap length e)
+    pairing-room = omega (arith, P.few)
 
-    pub pairing-on : (k : Lines) → LinesNext s c k → Pairing s all (n + (length t - m)) k
+    pub pairing-on : Pairing size all (n + (length t - m)) ls
     unfolding span pairs_of
-    pairing-on k x =
-        let z = ap pairs_of (lines-some s c some) in
-        record {
-          sum = rw x.lines (omega (arith, P.sum, z, width, ap length e, ap text_width e));
-          few = rw x.lines (omega (arith, P.few, ap span (lines-some s c some), ap length e));
-          ends = omega (arith, P.ends, x.ends);
-        }
+    pairing-on = record { sum = omega (arith, P.sum, width); few = omega (arith, P.few) }
 
-  pub pairing_done : (n : ℕ) (c : Lines) → Pairing s all n c → c.left ≤ 0 → (n ≡ pairs_of (lines_in s all)) × (n ≤ length s)
+  pub pairing_done : (n : ℕ) → Pairing size all n [] → (n ≡ pairs_of all) × (n ≤ size)
   unfolding pairs_of
-  pairing_done n c P h = (omega (arith, P.sum, ap pairs_of (lines_none s c h)), omega (arith, P.few))
+  pairing_done n P = (omega (arith, P.sum), omega (arith, P.few))

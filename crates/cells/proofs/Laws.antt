@@ -100,6 +100,10 @@ lines_none s c h = let e : c.left ≡ 0 = omega arith in rw e
 pub lines-some : (s : List ℕ) (c : Lines) → 0 < c.left → lines_in s c ≡ first_line s c ∷ drop 1 (lines_in s c)
 lines-some s c h = first_others [] (lines_in s c) (omega (arith, lines_number s c))
 
+-- the first of them, and those after it
+pub lines_on : (s : List ℕ) (c : Lines) → 0 < c.left → (t : List ℕ) → t ≡ first_line s c → (k : Lines) → LinesNext s c k → lines_in s c ≡ t ∷ lines_in s k
+lines_on s c h t e k n = lines-some s c h ∙ rw (e, n.lines)
+
 -- the first of them is known as they all are
 pub first_known : (plain : Bool) (s : List ℕ) (c : Lines) → 0 < c.left → All (TextIs plain) (lines_in s c) → TextIs plain (first_line s c)
 first_known plain s c h a = (subst (All (TextIs plain)) (lines-some s c h) a).0

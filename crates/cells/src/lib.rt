@@ -3,16 +3,16 @@
 
 ghost use Rattle.std.specs.Prelude.{◌≡◌, ◌+◌, ◌≤◌, ◌<◌, leb, length};
 ghost use Rattle.rules.specs.Text.{All, text_width};
-ghost use Rattle.rules.specs.Limits.{Printable};
+ghost use Rattle.rules.specs.Limits.{IsText, Printable};
 ghost use Rattle.rules.specs.Wrap.{wrap_line, wrap_lines};
 ghost use Rattle.laws.proofs.RowBytes.{pairs_of};
-ghost use Rattle.text_width.specs.Measure.{IsPlain};
 ghost use Rattle.table.specs.Walk.{lines_in, lines_end, first_line};
 ghost use Rattle.cells.specs.Cell.{rest, TextIs, Inside, HeadIs, PartIn, taken, no_line, FirstOf, Further};
 
-use content_split::Part;
+use content_split::{Part, SplitText};
 use table::records::Lines;
 use table::walk;
+use text_width::Text;
 
 // Where the next wrapped line of a cell is looked for: in the first of its cell lines from byte `from` on, and then in those that follow.
 // Plain lines have no pair: their columns are their bytes and needn't be counted.
@@ -63,132 +63,182 @@ fn no_line(lines: Lines, plain: bool) -> Next
 }
 
 // What was found in the first of some cell lines, which is `text`.
-fn take_part(text: &[u8], part: Option<Part>, lines: Lines, plain: bool) -> Next
-    requires { PartIn text.now part × IsPlain plain text.now }
-    ensures { result ≡ taken text.now lines plain part }
+fn take_part(text: Text<'_>, part: Option<Part>, lines: Lines) -> Next
+    requires { PartIn text.bytes.now part }
+    ensures { result ≡ taken text.entry.bytes.now lines text.entry.plain part }
 {
     match part {
         Some(p) => Next {
             found: true,
             start: p.start,
             end: p.end,
-            columns: text_width::columns(text, p.start, p.end, plain),
+            columns: text.columns(p.start, p.end),
             cursor: CellCursor {
                 lines,
                 from: p.next,
-                plain,
+                plain: text.plain,
             },
         },
-        None => no_line(lines, plain),
+        None => no_line(lines, text.plain),
     }
 }
 
 // A text with no more bytes than the content has columns fits, whatever stands in it.
-fn line_fits(text: &[u8], width: usize, plain: bool) -> bool
-    requires { IsPlain plain text.now }
-    ensures { result ≡ leb (text_width text.now) width }
+fn line_fits(text: Text<'_>, width: usize) -> bool
+    ensures { result ≡ leb (text_width text.entry.bytes.now) width }
 {
-    if text.len() <= width {
+    if text.bytes.len() <= width {
         return true;
     }
-    text_width::columns(text, 0, text.len(), plain) <= width
+    text.columns(0, text.bytes.len()) <= width
 }
 
-// The first line that a cell line wraps into: all of it, where it is no wider than the content.
-fn first_part(text: &[u8], width: usize, delimiter: u8, plain: bool) -> Option<Part>
-    requires { (0 < width) × (Printable delimiter × TextIs plain text.now) }
-    ensures { HeadIs width delimiter text.now (wrap_line width delimiter text.now) result }
-{
-    if line_fits(text, width, plain) {
-        return Some(Part {
-            start: 0,
-            end: text.len(),
-            next: text.len(),
-        });
+// Some cell lines, one after another.
+#[derive(Clone, Copy)]
+pub struct CellLines<'a> {
+    pub sheet: &'a [u8],
+    pub lines: Lines,
+    pub ghost inside: { lines_end sheet.now lines ≤ length sheet.now },
+}
+
+impl<'a> Iterator for CellLines<'a> {
+    ghost use Rattle.std.specs.Iterator.{YieldsFirstRef, item_count};
+
+    type Item = &'a [u8];
+
+    ghost next_gives = { YieldsFirstRef (λ s. lines_in s.sheet.now s.lines) };
+
+    ghost remaining = { item_count (λ s. lines_in s.sheet.now s.lines) };
+
+    #[inline]
+    fn next(&mut self) -> Option<&'a [u8]> {
+        if self.lines.left == 0 {
+            return None;
+        }
+        let text = walk::line(self.sheet, self.lines);
+        self.lines = walk::next_line(self.sheet, self.lines);
+        Some(text)
     }
-    content_split::next_part(text, 0, width, delimiter, plain)
 }
 
-// The first wrapped line of some cell lines. One that is made of delimiters alone may wrap into none.
-pub fn first_line(sheet: &[u8], lines: Lines, width: usize, delimiter: u8, plain: bool) -> Next
-    requires lines_in_bounds { (lines_end sheet.now lines ≤ length sheet.now) × All (TextIs plain) (lines_in sheet.now lines) }
-    requires width_nonzero { (0 < width) × Printable delimiter }
-    ensures { FirstOf sheet.now width delimiter plain (wrap_lines width delimiter (lines_in sheet.now lines)) result }
-{
-    let mut c = lines;
-    // Kept: the cursor goes into the answer, and counts what is left itself; a `for` over that number would count it twice.
-    while 0 < c.left {
-        let text = walk::line(sheet, c);
-        let part = first_part(text, width, delimiter, plain);
-        let r = take_part(text, part, c, plain);
+// What a cell is wrapped by: the sheet that holds its lines, the columns of its content, and its delimiter.
+#[derive(Clone, Copy)]
+pub struct Wrapping<'a> {
+    pub sheet: &'a [u8],
+    pub width: usize,
+    pub delimiter: u8,
+    pub ghost usable: { (0 < width) × Printable delimiter },
+}
+
+impl<'a> Wrapping<'a> {
+    fn split(&self, text: Text<'a>) -> SplitText<'a>
+        ensures { (result.text ≡ text.entry) × ((result.width ≡ self.now.width) × (result.delimiter ≡ self.now.delimiter)) }
+    {
+        SplitText {
+            text,
+            width: self.width,
+            delimiter: self.delimiter,
+        }
+    }
+
+    // The first line that a cell line wraps into: all of it, where it is no wider than the content.
+    fn first_part(&self, text: Text<'a>) -> Option<Part>
+        requires { IsText text.bytes.now }
+        ensures { HeadIs self.now.width self.now.delimiter text.entry.bytes.now (wrap_line self.now.width self.now.delimiter text.entry.bytes.now) result }
+    {
+        if line_fits(text, self.width) {
+            return Some(Part {
+                start: 0,
+                end: text.bytes.len(),
+                next: text.bytes.len(),
+            });
+        }
+        self.split(text).next_part(0)
+    }
+
+    // The first wrapped line of some cell lines. One that is made of delimiters alone may wrap into none.
+    pub fn first_line(&self, lines: Lines, plain: bool) -> Next
+        requires { (lines_end self.now.sheet.now lines ≤ length self.now.sheet.now) × All (TextIs plain) (lines_in self.now.sheet.now lines) }
+        ensures { FirstOf self.now.sheet.now self.now.width self.now.delimiter plain
+            (wrap_lines self.now.width self.now.delimiter (lines_in self.now.sheet.now lines)) result }
+    {
+        let mut c = lines;
+        // Kept: the cursor goes into the answer, and counts what is left itself; a `for` over that number would count it twice.
+        while 0 < c.left {
+            let text = Text {
+                bytes: walk::line(self.sheet, c),
+                plain,
+            };
+            let part = self.first_part(text);
+            let r = take_part(text, part, c);
+            if r.found {
+                return r;
+            }
+            c = walk::next_line(self.sheet, c);
+        }
+        no_line(c, plain)
+    }
+
+    // The next wrapped line of a cell.
+    pub fn next_line(&self, c: CellCursor) -> Next
+        requires { Inside self.now.sheet.now c }
+        ensures { FirstOf self.now.sheet.now self.now.width self.now.delimiter c.plain (rest self.now.sheet.now self.now.width self.now.delimiter c) result }
+    {
+        let lines = c.lines;
+        if lines.left == 0 {
+            return no_line(lines, c.plain);
+        }
+        let text = Text {
+            bytes: walk::line(self.sheet, lines),
+            plain: c.plain,
+        };
+        let part = self.split(text).next_part(c.from);
+        let r = take_part(text, part, lines);
         if r.found {
             return r;
         }
-        c = walk::next_line(sheet, c);
+        let others = walk::next_line(self.sheet, lines);
+        self.first_line(others, c.plain)
     }
-    no_line(c, plain)
-}
 
-// The next wrapped line of a cell.
-pub fn next_line(sheet: &[u8], c: CellCursor, width: usize, delimiter: u8) -> Next
-    requires { Inside sheet.now c × ((0 < width) × Printable delimiter) }
-    ensures { FirstOf sheet.now width delimiter c.plain (rest sheet.now width delimiter c) result }
-{
-    let lines = c.lines;
-    if lines.left == 0 {
-        return no_line(lines, c.plain);
-    }
-    let text = walk::line(sheet, lines);
-    let part = content_split::next_part(text, c.from, width, delimiter, c.plain);
-    let r = take_part(text, part, lines, c.plain);
-    if r.found {
-        return r;
-    }
-    let others = walk::next_line(sheet, lines);
-    first_line(sheet, others, width, delimiter, c.plain)
-}
-
-// The line that comes n lines after t, if there is one.
-pub fn further(sheet: &[u8], t: Next, width: usize, delimiter: u8, n: usize) -> Next
-    requires { Inside sheet.now t.cursor × ((0 < width) × Printable delimiter) }
-    ensures { Further sheet.now width delimiter n t result }
-{
-    let mut r = t;
-    for _ in 0..n {
-        if !r.found {
-            return r;
+    // The line that comes n lines after t, if there is one.
+    pub fn further(&self, t: Next, n: usize) -> Next
+        requires { Inside self.now.sheet.now t.cursor }
+        ensures { Further self.now.sheet.now self.now.width self.now.delimiter n t result }
+    {
+        let mut r = t;
+        for _ in 0..n {
+            if !r.found {
+                return r;
+            }
+            r = self.next_line(r.cursor);
         }
-        r = next_line(sheet, r.cursor, width, delimiter);
+        r
     }
-    r
-}
 
-// How many lines a cell line wraps into: no more than it has bytes, its length byte included.
-fn line_height(text: &[u8], width: usize, delimiter: u8, plain: bool) -> usize
-    requires { (0 < width) × (Printable delimiter × TextIs plain text.now) }
-    ensures { (result ≡ length (wrap_line width delimiter text.now)) × (result ≤ length text.now + 1) }
-{
-    if line_fits(text, width, plain) {
-        return 1;
+    // How many lines a cell line wraps into: no more than it has bytes, its length byte included.
+    fn line_height(&self, text: Text<'a>) -> usize
+        requires { IsText text.bytes.now }
+        ensures { (result ≡ length (wrap_line self.now.width self.now.delimiter text.entry.bytes.now)) × (result ≤ length text.entry.bytes.now + 1) }
+    {
+        if line_fits(text, self.width) {
+            return 1;
+        }
+        self.split(text).count_parts()
     }
-    content_split::count_parts(text, width, delimiter, plain)
-}
 
-// How many lines some cell lines wrap into.
-pub fn cell_height(sheet: &[u8], lines: Lines, width: usize, delimiter: u8, plain: bool) -> usize
-    requires lines_in_bounds { (lines_end sheet.now lines ≤ length sheet.now) × All (TextIs plain) (lines_in sheet.now lines) }
-    requires width_nonzero { (0 < width) × Printable delimiter }
-    ensures { result ≡ length (wrap_lines width delimiter (lines_in sheet.now lines)) }
-{
-    let mut c = lines;
-    let mut n: usize = 0;
-    while 0 < c.left {
-        let text = walk::line(sheet, c);
-        let more = line_height(text, width, delimiter, plain);
-        n += more;
-        c = walk::next_line(sheet, c);
+    // How many lines some cell lines wrap into.
+    pub fn cell_height(&self, lines: Lines, plain: bool) -> usize
+        requires { (lines_end self.now.sheet.now lines ≤ length self.now.sheet.now) × All (TextIs plain) (lines_in self.now.sheet.now lines) }
+        ensures { result ≡ length (wrap_lines self.now.width self.now.delimiter (lines_in self.now.sheet.now lines)) }
+    {
+        let sheet = self.sheet;
+        let mut n: usize = 0;
+        for bytes in (CellLines { sheet, lines }) {
+            n += self.line_height(Text { bytes, plain });
+        }
+        n
     }
-    n
 }
 
 // The pairs of some cell lines: the bytes that they have more than columns.
@@ -196,13 +246,9 @@ pub fn cell_pairs(sheet: &[u8], lines: Lines) -> usize
     requires { lines_end sheet.now lines ≤ length sheet.now }
     ensures { (result ≡ pairs_of (lines_in sheet.now lines)) × (result ≤ length sheet.now) }
 {
-    let mut c = lines;
     let mut n: usize = 0;
-    while 0 < c.left {
-        let text = walk::line(sheet, c);
-        let columns = text_width::columns(text, 0, text.len(), false);
-        n += text.len() - columns;
-        c = walk::next_line(sheet, c);
+    for text in (CellLines { sheet, lines }) {
+        n += text.len() - Text::unknown(text).columns(0, text.len());
     }
     n
 }

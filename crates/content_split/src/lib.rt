@@ -9,6 +9,17 @@ ghost use Rattle.text_width.specs.Measure.{IsPlain};
 ghost use Rattle.content_split.specs.Cut.{Near, Start, Back, AtWidth, Straddle, Sound, Long};
 ghost use Rattle.content_split.specs.Parts.{LineIs, PartIs};
 
+use text_width::Text;
+
+// A text, the columns that its lines may have, and the delimiter at which it is split.
+#[derive(Clone, Copy)]
+pub struct SplitText<'a> {
+    pub text: Text<'a>,
+    pub width: usize,
+    pub delimiter: u8,
+    pub ghost some: { 0 < width },
+}
+
 // A wrapped line, from `start` up to `end`, and the place where the next one is looked for.
 #[derive(Clone, Copy)]
 pub struct Part {
@@ -60,169 +71,193 @@ fn last_before(text: &[u8], from: usize, to: usize, delimiter: u8) -> usize
     from
 }
 
-// Whether the piece from `from` on has more columns than the width.
-fn long_piece(text: &[u8], from: usize, width: usize, delimiter: u8, plain: bool) -> bool
-    requires { (from ≤ length text.now) × IsPlain plain text.now }
-    ensures { Long width delimiter text.now from result }
-{
-    if text.len() - from < width {
-        return false;
+impl<'a> SplitText<'a> {
+    // Whether the piece from `from` on has more columns than the width.
+    fn long_piece(&self, from: usize) -> bool
+        requires { from ≤ length self.now.text.bytes.now }
+        ensures { Long self.now.width self.now.delimiter self.now.text.bytes.now from result }
+    {
+        let text = self.text;
+        if text.bytes.len() - from < self.width {
+            return false;
+        }
+        let far = text.reach(from, self.width);
+        if 0 < far.left {
+            return false;
+        }
+        let most = far.at - from;
+        let e = piece_end(text.bytes, from, self.delimiter, most);
+        far.at < e
     }
-    let far = text_width::reach(text, from, width, plain);
-    if 0 < far.left {
-        return false;
-    }
-    let most = far.at - from;
-    let e = piece_end(text, from, delimiter, most);
-    far.at < e
-}
 
-// The line from `start` on, where a piece goes on past `stop`, at which the width is reached: the line ends before that piece, or is
-// filled with it.
-fn straddled(
-    text: &[u8],
-    start: usize,
-    stop: usize,
-    width: usize,
-    delimiter: u8,
-    plain: bool,
-) -> Part
-    requires { Straddle width delimiter text.now start stop × (Sound delimiter text.now start × IsPlain plain text.now) }
-    ensures { LineIs width delimiter text.now start result.start result.end result.next }
-{
-    let end = last_before(text, start, stop, delimiter);
-    if end == start {
-        return Part {
-            start,
-            end: stop,
-            next: stop,
-        };
-    }
-    let next = end + 1;
-    let free = text_width::columns(text, next, stop, plain);
-    if 2 < free {
-        let long = long_piece(text, next, width, delimiter, plain);
-        if long {
+    // The line from `start` on, where a piece goes on past `stop`, at which the width is reached: the line ends before that piece, or is
+    // filled with it.
+    fn straddled(&self, start: usize, stop: usize) -> Part
+        requires { Straddle self.now.width self.now.delimiter self.now.text.bytes.now start stop × Sound self.now.delimiter self.now.text.bytes.now start }
+        ensures { LineIs self.now.width self.now.delimiter self.now.text.bytes.now start result.start result.end result.next }
+    {
+        let end = last_before(self.text.bytes, start, stop, self.delimiter);
+        if end == start {
             return Part {
                 start,
                 end: stop,
                 next: stop,
             };
         }
+        let next = end + 1;
+        let free = self.text.columns(next, stop);
+        if 2 < free {
+            let long = self.long_piece(next);
+            if long {
+                return Part {
+                    start,
+                    end: stop,
+                    next: stop,
+                };
+            }
+        }
+        Part { start, end, next }
     }
-    Part { start, end, next }
-}
 
-// The line from `start` on, where the width is reached at `stop`: it ends there if a piece does, on either side.
-fn at_width(
-    text: &[u8],
-    start: usize,
-    stop: usize,
-    width: usize,
-    delimiter: u8,
-    plain: bool,
-) -> Part
-    requires { AtWidth width delimiter text.now start stop × (Sound delimiter text.now start × IsPlain plain text.now) }
-    ensures { LineIs width delimiter text.now start result.start result.end result.next }
-{
-    if text[stop - 1] == delimiter {
-        return Part {
-            start,
-            end: stop - 1,
-            next: stop,
-        };
+    // The line from `start` on, where the width is reached at `stop`: it ends there if a piece does, on either side.
+    fn at_width(&self, start: usize, stop: usize) -> Part
+        requires { AtWidth self.now.width self.now.delimiter self.now.text.bytes.now start stop × Sound self.now.delimiter self.now.text.bytes.now start }
+        ensures { LineIs self.now.width self.now.delimiter self.now.text.bytes.now start result.start result.end result.next }
+    {
+        let text = self.text.bytes;
+        if text[stop - 1] == self.delimiter {
+            return Part {
+                start,
+                end: stop - 1,
+                next: stop,
+            };
+        }
+        if text.len() == stop {
+            return Part {
+                start,
+                end: text.len(),
+                next: text.len(),
+            };
+        }
+        if text[stop] == self.delimiter {
+            return Part {
+                start,
+                end: stop,
+                next: stop + 1,
+            };
+        }
+        self.straddled(start, stop)
     }
-    if text.len() == stop {
-        return Part {
+
+    // The next line, from `from` on. It is looked for backwards from the place where the width is reached: most bytes of a plain text aren't
+    // read. Each kind of text is compiled by itself, its kind a constant.
+    fn split_line<const PLAIN: bool>(&self, from: usize) -> Option<Part>
+        requires { (from ≤ length self.now.text.bytes.now) × (Sound self.now.delimiter self.now.text.bytes.now from × IsPlain PLAIN self.now.text.bytes.now) }
+        ensures { PartIs self.now.width self.now.delimiter self.now.text.bytes.now from result }
+    {
+        let text = self.text.bytes;
+        let start = line_start(text, from, self.delimiter);
+        if text.len() <= start {
+            return None;
+        }
+        let rest = Part {
             start,
             end: text.len(),
             next: text.len(),
         };
-    }
-    if text[stop] == delimiter {
-        return Part {
-            start,
-            end: stop,
-            next: stop + 1,
+        if text.len() - start < self.width {
+            return Some(rest);
+        }
+        let known = SplitText {
+            text: Text {
+                bytes: text,
+                plain: PLAIN,
+            },
+            width: self.width,
+            delimiter: self.delimiter,
         };
+        let place = known.text.reach(start, self.width);
+        if 0 < place.left {
+            return Some(rest);
+        }
+        Some(known.at_width(start, place.at))
     }
-    straddled(text, start, stop, width, delimiter, plain)
+
+    // The same of a text that may have pairs. It stands apart, so that what is done for plain texts is short enough to go into its callers.
+    #[inline(never)]
+    fn split_paired(&self, from: usize) -> Option<Part>
+        requires { (from ≤ length self.now.text.bytes.now) × Sound self.now.delimiter self.now.text.bytes.now from }
+        ensures { PartIs self.now.width self.now.delimiter self.now.text.bytes.now from result }
+    {
+        self.split_line::<false>(from)
+    }
+
+    // The next line that the text is split into, from `from` on.
+    pub fn next_part(&self, from: usize) -> Option<Part>
+        requires { (from ≤ length self.now.text.bytes.now) × Sound self.now.delimiter self.now.text.bytes.now from }
+        ensures { PartIs self.now.width self.now.delimiter self.now.text.bytes.now from result }
+    {
+        if self.text.plain {
+            return self.split_line::<true>(from);
+        }
+        self.split_paired(from)
+    }
+
+    // All lines that the text is split into.
+    pub fn parts(&self) -> Parts<'a>
+        requires { Sound self.now.delimiter self.now.text.bytes.now 0 }
+        ensures { (result.split ≡ self.now) × (result.from ≡ 0) }
+    {
+        Parts {
+            split: *self,
+            from: 0,
+        }
+    }
+
+    // How many these are.
+    pub fn count_parts(&self) -> usize
+        requires { Sound self.now.delimiter self.now.text.bytes.now 0 }
+        ensures { result ≡ length (split self.now.width self.now.delimiter self.now.text.bytes.now) }
+    {
+        self.parts().count()
+    }
+
+    // The columns of the longest of them, or 0.
+    pub fn longest_part(&self) -> usize
+        requires { Sound self.now.delimiter self.now.text.bytes.now 0 }
+        ensures { result ≡ greatest (map text_width (split self.now.width self.now.delimiter self.now.text.bytes.now)) }
+    {
+        let mut longest: usize = 0;
+        for part in self.parts() {
+            longest = longest.max(self.text.columns(part.start, part.end));
+        }
+        longest
+    }
 }
 
-// The next line that `text` is split into, from `from` on. It is looked for backwards from the place where the width is reached: most bytes
-// of a plain text aren't read. Each kind of text is compiled by itself.
-fn split_line<const PLAIN: bool>(
-    text: &[u8],
-    from: usize,
-    width: usize,
-    delimiter: u8,
-) -> Option<Part>
-    requires { (from ≤ length text.now) × ((0 < width) × (Sound delimiter text.now from × IsPlain PLAIN text.now)) }
-    ensures { PartIs width delimiter text.now from result }
-{
-    let start = line_start(text, from, delimiter);
-    if text.len() <= start {
-        return None;
-    }
-    let rest = Part {
-        start,
-        end: text.len(),
-        next: text.len(),
-    };
-    if text.len() - start < width {
-        return Some(rest);
-    }
-    let place = text_width::reach(text, start, width, PLAIN);
-    if 0 < place.left {
-        return Some(rest);
-    }
-    Some(at_width(text, start, place.at, width, delimiter, PLAIN))
+// The lines that a text is split into from `from` on.
+#[derive(Clone, Copy)]
+pub struct Parts<'a> {
+    pub split: SplitText<'a>,
+    pub from: usize,
+    pub ghost sound: { (from ≤ length split.text.bytes.now) × Sound split.delimiter split.text.bytes.now from },
 }
 
-// The same of a text that may have pairs. It stands apart, so that what is done for plain texts is short enough to go into its callers.
-#[inline(never)]
-fn split_paired(text: &[u8], from: usize, width: usize, delimiter: u8) -> Option<Part>
-    requires { (from ≤ length text.now) × ((0 < width) × Sound delimiter text.now from) }
-    ensures { PartIs width delimiter text.now from result }
-{
-    split_line::<false>(text, from, width, delimiter)
-}
+impl<'a> Iterator for Parts<'a> {
+    ghost use Rattle.std.specs.Prelude.{◌-◌};
+    ghost use Rattle.std.specs.Iterator.{at_most};
+    ghost use Rattle.content_split.specs.Steps.{GivesPart};
 
-// The same of a text that is plain or not.
-pub fn next_part(text: &[u8], from: usize, width: usize, delimiter: u8, plain: bool) -> Option<Part>
-    requires { (from ≤ length text.now) × ((0 < width) × (Sound delimiter text.now from × IsPlain plain text.now)) }
-    ensures { PartIs width delimiter text.now from result }
-{
-    if plain {
-        return split_line::<true>(text, from, width, delimiter);
-    }
-    split_paired(text, from, width, delimiter)
-}
+    type Item = Part;
 
-// How many lines `text` wraps into.
-pub fn count_parts(text: &[u8], width: usize, delimiter: u8, plain: bool) -> usize
-    requires { (0 < width) × (Sound delimiter text.now 0 × IsPlain plain text.now) }
-    ensures { result ≡ length (split width delimiter text.now) }
-{
-    let mut n: usize = 0;
-    let mut at: usize = 0;
-    while let Some(part) = next_part(text, at, width, delimiter, plain) {
-        n += 1;
-        at = part.next;
-    }
-    n
-}
+    ghost next_gives = { GivesPart };
 
-// The columns of the longest wrapped line of `text`, or 0.
-pub fn longest_part(text: &[u8], width: usize, delimiter: u8, plain: bool) -> usize
-    requires { (0 < width) × (Sound delimiter text.now 0 × IsPlain plain text.now) }
-    ensures { result ≡ greatest (map text_width (split width delimiter text.now)) }
-{
-    let mut longest: usize = 0;
-    let mut at: usize = 0;
-    while let Some(part) = next_part(text, at, width, delimiter, plain) {
-        longest = longest.max(text_width::columns(text, part.start, part.end, plain));
-        at = part.next;
+    ghost remaining = { λ s. at_most (length s.split.text.bytes.now - s.from) };
+
+    #[inline]
+    fn next(&mut self) -> Option<Part> {
+        let part = self.split.next_part(self.from)?;
+        self.from = part.next;
+        Some(part)
     }
-    longest
 }

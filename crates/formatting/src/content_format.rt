@@ -19,11 +19,12 @@ ghost use Rattle.formatting.specs.RowText.{Drawable, row_lines, EnteredIs, most_
 ghost use Rattle.formatting.specs.Shown.{pairs_shown};
 
 use crate::row_size;
-use cells::{CellCursor, Next};
+use cells::{CellCursor, Next, Wrapping};
 use row::{CellAlignment, Pending, VisibleColumn};
 use rules::MOST_COLUMNS;
 use table::records::{Lines, Rows};
 use table::walk;
+use text_width::Text;
 
 // The spaces left of a text that leaves some columns free.
 fn spaces_before(alignment: CellAlignment, spare: usize) -> usize
@@ -95,7 +96,7 @@ pub fn shorten(text: &[u8], line: Next, width: usize) -> Shown
             columns: width,
         };
     }
-    let place = text_width::reach(text, start, width, false);
+    let place = Text::unknown(text).reach(start, width);
     Shown {
         end: place.at,
         columns: width,
@@ -166,7 +167,12 @@ pub fn advance(sheet: &[u8], width: usize, t: Pending) -> Pending
     requires { Inside sheet.now t.line.cursor × ((0 < width) × Printable t.delimiter) }
     ensures { After sheet.now width t result }
 {
-    let next = cells::next_line(sheet, t.line.cursor, width, t.delimiter);
+    let cell = Wrapping {
+        sheet,
+        width,
+        delimiter: t.delimiter,
+    };
+    let next = cell.next_line(t.line.cursor);
     Pending {
         line: copied(next),
         delimiter: t.delimiter,

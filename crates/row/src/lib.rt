@@ -14,7 +14,7 @@ ghost use Rattle.row.specs.Alignment.{aligned};
 ghost use Rattle.row.specs.Pending.{any_found};
 ghost use Rattle.row.specs.Open.{CellKnown, OpenedAt, OpenedRow, Rising, UsableAll, WalkedAll, missing};
 
-use cells::{CellCursor, Next};
+use cells::{CellCursor, Next, Wrapping};
 use rules::MOST_COLUMNS;
 use table::records::{Cells, Lines};
 use table::{records, walk};
@@ -99,8 +99,13 @@ pub fn open_cell(sheet: &[u8], cells: Cells, v: VisibleColumn, n: usize, plain: 
     let lines = x.lines;
     let delimiter = records::set(x.delimiter).unwrap_or(v.delimiter);
     let alignment = CellAlignment::of(x.alignment).unwrap_or(v.alignment);
-    let first = cells::first_line(sheet, lines, v.width, delimiter, plain);
-    let line = cells::further(sheet, first, v.width, delimiter, n);
+    let cell = Wrapping {
+        sheet,
+        width: v.width,
+        delimiter,
+    };
+    let first = cell.first_line(lines, plain);
+    let line = cell.further(first, n);
     Pending {
         line,
         delimiter,
@@ -144,7 +149,12 @@ fn open_height(sheet: &[u8], from: Cells, v: VisibleColumn, plain: bool) -> usiz
     let x = walk::cell(sheet, from);
     let lines = x.lines;
     let delimiter = records::set(x.delimiter).unwrap_or(v.delimiter);
-    cells::cell_height(sheet, lines, v.width, delimiter, plain)
+    let cell = Wrapping {
+        sheet,
+        width: v.width,
+        delimiter,
+    };
+    cell.cell_height(lines, plain)
 }
 
 // The most lines of a visible column's cell, the row's limit left aside.

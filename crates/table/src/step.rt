@@ -7,6 +7,7 @@ ghost use Rattle.rules.specs.Widths.{lifted};
 ghost use Rattle.table.specs.Step.{ahead, Ready, SameAhead, HeadIs, Takes, StepIs, AllNarrow};
 
 use rules::MOST_COLUMNS;
+use text_width::Text;
 
 // What is left behind a line: the lines of its cell, the cells of its row, the rows of its section, and the section of rows behind the header.
 // `begun` counts the row's cells up to the line's own, so that the next one is in column `begun`.
@@ -117,7 +118,7 @@ fn longer(longest: u16, line: &[u8]) -> u16
     if bytes.max(1) <= usize::from(longest) {
         return longest;
     }
-    let characters = text_width::columns(line, 0, bytes, false);
+    let characters = Text::unknown(line).columns(0, bytes);
     longest.max(characters.max(1) as u16)
 }
 

@@ -1,10 +1,18 @@
 // The columns of a text: comfy-table's `measure_text_width`. A character is a byte, or a pair whose second byte is B0, and takes one column.
 #![tactic(auto)]
 
-ghost use Rattle.std.specs.Prelude.{◌≡◌, ◌-◌, ◌≤◌, ◌<◌, length, [], ◌∷◌};
+ghost use Rattle.std.specs.Prelude.{◌≡◌, ◌-◌, ◌≤◌, length, false, [], ◌∷◌};
 ghost use Rattle.std.proofs.Math.Seq.{slice};
 ghost use Rattle.rules.specs.Text.{text_width};
 ghost use Rattle.text_width.specs.Measure.{IsPlain, Reached};
+
+// A text, and whether it is plain, which is to say that no pair is in it. One of which nothing is known isn't said to be plain.
+#[derive(Clone, Copy)]
+pub struct Text<'a> {
+    pub bytes: &'a [u8],
+    pub plain: bool,
+    pub ghost known: { IsPlain plain bytes.now },
+}
 
 // Where some columns of a text end, and how many of them it lacks.
 #[derive(Clone, Copy)]
@@ -47,17 +55,6 @@ fn count(text: &[u8]) -> usize
     n
 }
 
-// The columns of the bytes from `from` up to `to`: as many as bytes, where the text is plain, which is to say that no pair is in it.
-pub fn columns(text: &[u8], from: usize, to: usize, plain: bool) -> usize
-    requires { (from ≤ to) × ((to ≤ length text.now) × IsPlain plain text.now) }
-    ensures { result ≡ text_width (slice from to text.now) }
-{
-    if plain {
-        return to - from;
-    }
-    count(&text[from..to])
-}
-
 // The place after `width` columns of `text` from `from` on, byte by byte.
 fn walk(text: &[u8], from: usize, width: usize) -> Place
     requires { from ≤ length text.now }
@@ -77,15 +74,42 @@ fn walk(text: &[u8], from: usize, width: usize) -> Place
     }
 }
 
-// The same, where there are that many bytes: a plain text isn't read; of another, the first `width` bytes are counted, many at a time.
-pub fn reach(text: &[u8], from: usize, width: usize, plain: bool) -> Place
-    requires { (from ≤ length text.now) × ((width ≤ length text.now - from) × IsPlain plain text.now) }
-    ensures { Reached text.now from width result.at result.left }
-{
-    let to = from + width;
-    if plain {
-        return Place { at: to, left: 0 };
+impl<'a> Text<'a> {
+    // A text of which nothing is known.
+    #[inline]
+    pub fn unknown(bytes: &'a [u8]) -> Text<'a>
+        ensures { (result.bytes.now ≡ bytes.now) × (result.plain ≡ false) }
+    {
+        Text {
+            bytes,
+            plain: false,
+        }
     }
-    let n = count(&text[from..to]);
-    walk(text, to, width - n)
+
+    // The columns of the bytes from `from` up to `to`: as many as bytes, where the text is plain.
+    #[inline]
+    pub fn columns(&self, from: usize, to: usize) -> usize
+        requires { (from ≤ to) × (to ≤ length self.now.bytes.now) }
+        ensures { result ≡ text_width (slice from to self.now.bytes.now) }
+    {
+        if self.plain {
+            return to - from;
+        }
+        count(&self.bytes[from..to])
+    }
+
+    // The place after `width` columns from `from` on, where there are that many bytes: a plain text isn't read; of another, the first `width`
+    // bytes are counted, many at a time.
+    #[inline]
+    pub fn reach(&self, from: usize, width: usize) -> Place
+        requires { (from ≤ length self.now.bytes.now) × (width ≤ length self.now.bytes.now - from) }
+        ensures { Reached self.now.bytes.now from width result.at result.left }
+    {
+        let to = from + width;
+        if self.plain {
+            return Place { at: to, left: 0 };
+        }
+        let n = count(&self.bytes[from..to]);
+        walk(self.bytes, to, width - n)
+    }
 }

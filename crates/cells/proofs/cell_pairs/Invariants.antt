@@ -1,8 +1,8 @@
+use lib.ListN.{length}
+use Rattle.table.specs.Walk.{lines_in}
 use Rattle.cells.proofs.Counts.{Pairing}
 use Rattle.cells.proofs.cell_pairs.Given as goal
 
-abbrev pub invariant-loop-c : goal.invariant-loop-c
-invariant-loop-c l = Pairing l.sheet l.initial.c l.n l.c
-
-abbrev pub decreases-loop-c : goal.decreases-loop-c
-decreases-loop-c l = l.c.left
+abbrev pub invariant-loop-text : goal.invariant-loop-text
+invariant-loop-text l =
+    Pairing (length l.sheet) (lines_in l.sheet l.fn.lines) l.n (lines_in l.text-iterator.sheet.now l.text-iterator.lines)

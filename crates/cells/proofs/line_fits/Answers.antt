@@ -2,7 +2,4 @@ use Rattle.cells.proofs.Laws.{fits_short, fits-counted}
 use Rattle.cells.proofs.line_fits.Goals as goal
 
 pub returns-then-text-width : goal.returns-then-text-width
-returns-then-text-width c = fits_short c.args.width c.args.text.now c.if-text-width.true
-
-pub returns : goal.returns
-returns c = fits-counted c.args.width c.args.text.now _ c.columns.ensures
+returns-then-text-width c = fits_short c.args.width c.args.text.bytes.now c.if-text-width.true

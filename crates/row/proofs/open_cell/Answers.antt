@@ -12,32 +12,24 @@ returns-then-cells-eq0 c =
       refl,
     )
 
-pub first_line-first-requires : goal.first_line-first-requires
-first_line-first-requires c =
+pub invariant_of-cell : goal.invariant_of-cell
+invariant_of-cell c =
     let some : 0 < c.args.cells.left = omega (arith, c.if-cells-eq0.false) in
     let k = cell_known c.args.plain c.args.sheet.now c.args.cells some c.requires.cells_in_bounds.1 in
     record {
-      lines_in_bounds = (
-        lines_inside c.args.sheet.now c.args.cells c.cell-x.result some c.requires.cells_in_bounds.0 c.cell-x.ensures,
-        texts-here _ c.args.sheet.now c.args.cells c.cell-x.result c.cell-x.ensures k,
-      );
-      width_nonzero = (
+      usable = (
         c.requires.width_nonzero.0,
         delimiter-here _ c.args.sheet.now c.args.cells c.cell-x.result c.cell-x.ensures k c.args.v _ c.requires.width_nonzero.1
             (c.unwrap_or-delimiter.ensures ∙ c.set.ensures c.args.v.delimiter),
       );
     }
 
-pub further-line-requires : goal.further-line-requires
-further-line-requires c =
+pub first_line-first-requires : goal.first_line-first-requires
+first_line-first-requires c =
     let some : 0 < c.args.cells.left = omega (arith, c.if-cells-eq0.false) in
     let k = cell_known c.args.plain c.args.sheet.now c.args.cells some c.requires.cells_in_bounds.1 in (
-      c.first_line-first.ensures.inside,
-      (
-        c.requires.width_nonzero.0,
-        delimiter-here _ c.args.sheet.now c.args.cells c.cell-x.result c.cell-x.ensures k c.args.v _ c.requires.width_nonzero.1
-            (c.unwrap_or-delimiter.ensures ∙ c.set.ensures c.args.v.delimiter),
-      ),
+      lines_inside c.args.sheet.now c.args.cells c.cell-x.result some c.requires.cells_in_bounds.0 c.cell-x.ensures,
+      texts-here _ c.args.sheet.now c.args.cells c.cell-x.result c.cell-x.ensures k,
     )
 
 pub returns : goal.returns

@@ -1,5 +1,4 @@
 use native.Mathlib.Omega.{arith}
-use mathlib.Core.Bool.{false≢true}
 use Rattle.formatting.proofs.Area.{line_bytes, shorten_whole, shorten-plain, shorten-counted}
 use Rattle.formatting.proofs.content_format.shorten.Goals as goal
 
@@ -19,12 +18,11 @@ returns-then-line-start c = shorten-plain c.args.text.now c.args.line c.args.wid
 
 pub reach-place-requires : goal.reach-place-requires
 reach-place-requires c =
-    let k = line_bytes c.args.text.now c.args.line c.args.width c.requires in (
-      omega (arith, c.requires.order, c.requires.within),
-      (omega (arith, k, c.requires.order, c.requires.within, c.if-line-width.false), λ e. absurd (false≢true e)),
-    )
+    let k = line_bytes c.args.text.now c.args.line c.args.width c.requires in
+    rw c.unknown.ensures.0
+    (omega (arith, c.requires.order, c.requires.within), omega (arith, k, c.requires.order, c.requires.within, c.if-line-width.false))
 
 pub returns : goal.returns
 returns c =
     shorten-counted c.args.text.now c.args.line c.args.width c.requires c.if-line-width.false _ _
-    c.reach-place.ensures
+    (rw c.unknown.ensures.0 at c.reach-place.ensures)

@@ -1,8 +1,0 @@
-use Rattle.cells.proofs.Laws.{Seeking}
-use Rattle.cells.proofs.first_line.Given as goal
-
-abbrev pub invariant-loop-c : goal.invariant-loop-c
-invariant-loop-c l = Seeking l.sheet l.width l.delimiter l.plain l.initial.c l.c
-
-abbrev pub decreases-loop-c : goal.decreases-loop-c
-decreases-loop-c l = l.c.left
