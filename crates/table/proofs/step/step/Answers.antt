@@ -1,5 +1,6 @@
 -- `table::step::step` meets its contract. The loop: the same lines are ahead after each head. Assumes nothing.
 use native.Mathlib.Omega.{arith}
+use Prim.Native.Nat.{◌<◌}
 use Rattle.table.proofs.Heads.{same-again, same_ready, same_inside, first_narrow}
 use Rattle.table.proofs.step.step.Goals as goal
 

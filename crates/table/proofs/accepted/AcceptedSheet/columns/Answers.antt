@@ -1,5 +1,6 @@
 use native.Mathlib.Omega.{arith}
 use Prim.Native.Nat.{ℕ}
+use mathlib.Core.Path.{◌≡◌}
 use mathlib.Core.List.{List}
 use Rattle.rules.specs.Sheet.{no_column}
 use Rattle.table.proofs.Held.{room, columns_inside, columns_whole, column_copied}

@@ -2,7 +2,7 @@
 use Rattle.table.proofs.Walks.{rows_are, rows_none, rows-room}
 use Rattle.table.proofs.Walks.{rows_are, rows_none}
 use Rattle.table.proofs.Held.{room}
-use mathlib.Core.Path.{sym}
+use mathlib.Core.Path.{sym, ◌∙◌}
 use native.Mathlib.Omega.{arith}
 use Rattle.table.proofs.accepted.AcceptedSheet.rows.Goals as goal
 
