@@ -1,6 +1,6 @@
 -- The widths that the code arranges are the document's. Assumes nothing.
 use Prim.Native.Nat.{ℕ, ◌≤◌, ◌<◌}
-use mathlib.Core.Path.{◌≡◌, refl, sym, ap, ◌∙◌}
+use mathlib.Core.Path.{◌≡◌, refl, sym}
 use mathlib.Core.Bool.{Bool, true, false, ◌||◌}
 use mathlib.Core.List.{List, map}
 use native.Mathlib.Omega.{arith}
@@ -13,28 +13,27 @@ use Rattle.rules.specs.Limits.{TableLimits}
 use Rattle.rules.specs.Calls.{as_array}
 use Rattle.rules.specs.Widths as doc
 use Rattle.rules.specs.Widths.{longest_part, contents}
+use Rattle.laws.proofs.Accepted.{accepted_limits}
 use Rattle.laws.proofs.Lists.{all_default}
+use Rattle.table.specs.Held.{IsAccepted, table_of}
+use Rattle.table.proofs.Held.{held}
 use Rattle.laws.proofs.Bounds as bounds
 use Rattle.laws.proofs.Bounds.{Most, small-start, small-step1, small-step2, small-step3}
 use Rattle.constraint.specs.declared.Layout.{Layout}
 use Rattle.constraint.specs.declared.State.{State}
 use Rattle.constraint.specs.Widths.{choose, pass}
-use Rattle.arrangement.specs.Arrange.{untargeted, remaining, targeted, step1, step2, step3, plainly, dynamic, started, arranged}
+use Rattle.arrangement.specs.Arrange.{untargeted, targeted, step1, step2, step3, plainly, dynamic, started, arranged}
 use Rattle.arrangement.specs.Describes.{Describes}
 use Rattle.sharing.specs.Limits.{Small}
 use Rattle.style.specs.Table.{is_disabled}
 use Rattle.std.specs.Prelude.{is_none}
 use Rattle.style.proofs.Laws.{disabled_as, target_none}
 use Rattle.arrangement.proofs.Cases.{unlike}
+use Rattle.arrangement.proofs.Offers.{few_as}
 use Rattle.arrangement.proofs.Agrees.{Agrees, width_as, step1_agrees, step2_agrees, step3_agrees}
 use Rattle.arrangement.proofs.Begins.{targeted_agrees}
 use Rattle.arrangement.proofs.Placed.{padded_as}
 use Rattle.arrangement.proofs.Ends.{Widths, untargeted_widths, finished_widths}
-
--- the state whose remaining width is found
-pub targeted-at : (t : Layout) (s : State) (r : ℕ) → r ≡ remaining t s
-    → ◌≡◌ {A = State} (record { widths = s.widths; decided = s.decided; remaining = r; visible = s.visible }) (targeted t s)
-targeted-at t s r e = ap (λ (k : ℕ). record { widths = s.widths; decided = s.decided; remaining = k; visible = s.visible }) e
 
 -- the longest parts that step 3 is told are those of the table's lines
 abbrev pub SameParts : Layout → Table → (ℕ → ℕ → ℕ) → Type 0
@@ -78,12 +77,18 @@ module _ (l : Layout) (t : Table) (d : Describes l t) (few : length l.columns.it
         let w = arranged_widths in
         padded_as (length l.columns.items) (arranged parts l).state.widths (contents t) w.long few w.widths w.past
 
-    -- what the steps come to, and that it is small
-    module _ (m : TableLimits t) (s a b c e : State) (q : s ≡ started l) (e₀ : a ≡ targeted l s) (e₁ : b ≡ step1 l a) (e₂ : c ≡ step2 l b)
-        (e₃ : e ≡ step3 parts l c) where
-      all : e ≡ step3 parts l (step2 l (step1 l (targeted l (started l))))
-      all = e₃ ∙ ap (step3 parts l) (e₂ ∙ ap (step2 l) (e₁ ∙ ap (step1 l) (e₀ ∙ ap (targeted l) q)))
+    -- what the steps come to is small
+    pub steps_small : TableLimits t → Small (step3 parts l (step2 l (step1 l (targeted l (started l)))))
+    steps_small m = small_as _ _ steps_agree (small-step3 t m _ (small-step2 t m _ (small-step1 t m _ (small-start t m))))
 
-      pub steps_small : Small e
-      steps_small =
-          rw all (small_as _ _ steps_agree (small-step3 t m _ (small-step2 t m _ (small-step1 t m _ (small-start t m)))))
+-- of an accepted sheet
+module _ (s : List ℕ) (accepted : IsAccepted s) where
+  pub limits_held : TableLimits (table_of s)
+  limits_held = let h = held s accepted in accepted_limits s (table_of s) h.end h.reads
+
+  module _ (l : Layout) (d : Describes l (table_of s)) where
+    pub few_held : length l.columns.items ≤ most_columns
+    few_held = few_as l (table_of s) d limits_held
+
+    pub small_held : Small (step3 (longest_part (table_of s)) l (step2 l (step1 l (targeted l (started l)))))
+    small_held = steps_small l (table_of s) d few_held (longest_part (table_of s)) (λ j a h. refl) limits_held

@@ -2,7 +2,7 @@
 use Prim.Native.Nat.{ℕ, zero, suc, ◌-◌, ◌≤◌, ◌<◌}
 use mathlib.Core.Path.{◌≡◌, refl, sym, ap, ◌∙◌}
 use mathlib.Core.List.{List, [], ◌∷◌, ◌++◌, map, append_assoc}
-use mathlib.Core.Bool.{Bool, false}
+use mathlib.Core.Bool.{false}
 use native.Mathlib.Omega.{arith}
 use lib.ListN.{length, get_or, set, replicate, length-map, length-append}
 use lib.Seq.{set_at}
@@ -11,27 +11,22 @@ use Rattle.rules.specs.declared.Column.{Column}
 use Rattle.rules.specs.Text.{up_from}
 use Rattle.rules.specs.Sheet.{Table, most_columns, no_column, column_at, is_hidden}
 use Rattle.rules.specs.Limits.{TableLimits}
-use Rattle.rules.specs.Style.{any_left, any_right, any_junction}
 use Rattle.rules.specs.Calls.{as_array}
 use Rattle.rules.specs.Widths as doc
 use Rattle.rules.specs.Widths.{longest_part, contents}
 use Rattle.laws.proofs.Lists.{get_d_map, get_d-up_from, length-up_from, map_below}
-use Rattle.style.specs.Bytes.{bytes_of}
-use Rattle.std.specs.Prelude as std
-use Rattle.style.specs.Table.{arrangement_of, target_of}
-use Rattle.style.specs.declared.table.ContentArrangement.{ContentArrangement}
-use Rattle.style.specs.declared.table_style.TableStyle.{TableStyle}
-use Rattle.table.specs.Held.{settings_of, columns_of}
-use Rattle.table.specs.declared.records.Settings.{Settings}
+use Rattle.table.specs.Held.{IsAccepted, table_of, columns_of}
 use Rattle.constraint.specs.declared.Layout.{Layout}
 use Rattle.constraint.specs.Widths.{in_order, column}
 use Rattle.arrangement.specs.declared.Widths.{Widths}
 use Rattle.arrangement.specs.declared.dynamic.Course.{Course}
+use Rattle.arrangement.specs.declared.Found.{Found}
 use Rattle.arrangement.specs.Arrange.{arranged}
+use Rattle.arrangement.specs.Courses.{FoundIs}
 use Rattle.arrangement.specs.Describes.{Describes}
-use Rattle.arrangement.specs.Widths.{style_from, marked, widths_from, arranged_widths}
+use Rattle.arrangement.specs.Widths.{marked, widths_from, arranged_widths}
 use Rattle.arrangement.proofs.Offers.{count_as, hidden_as}
-use Rattle.arrangement.proofs.Arranged.{arranged-contents}
+use Rattle.arrangement.proofs.Arranged.{arranged-contents, limits_held, few_held}
 use Rattle.arrangement.proofs.Placed.{map_last}
 
 module _ (t : Table) (limits : TableLimits t) (x : ArrayVec Column) (columns : x ≡ columns_of t) where
@@ -47,35 +42,12 @@ module _ (t : Table) (limits : TableLimits t) (x : ArrayVec Column) (columns : x
   unfolding columns_of
   column-at j = ap (λ (y : ArrayVec Column). get_or y.items j no_column) columns
 
-  longest-at : (j : ℕ) → j < most_columns → get_or (map (doc.longest t) (up_from 0 most_columns)) j 0 ≡ doc.longest t j
-  longest-at j h =
-      get_d_map (doc.longest t) (up_from 0 most_columns) j 0 0 (omega (arith, length-up_from 0 most_columns))
-      ∙ ap (doc.longest t) (get_d-up_from 0 most_columns j 0 h ∙ omega arith)
-
-  -- what was read from the sheet
-  pub describes : (h : Settings) (S : List ℕ) (y : TableStyle) (r : ContentArrangement) (w : std.Option ℕ) (ns : List ℕ) (a b c : Bool) → h ≡ settings_of t → S ≡ t.style → y ≡ style_from S
-      → r ≡ arrangement_of h.arrangement → w ≡ target_of h.target → ns ≡ map (doc.longest t) (up_from 0 most_columns)
-      → a ≡ any_left (bytes_of y) → b ≡ any_right (bytes_of y) → c ≡ any_junction (bytes_of y)
-      → Describes (record {
-        arrangement = r;
-        target = w;
-        left = a;
-        right = b;
-        junction = c;
-        columns = x;
-        longest = ns;
-      }) t
-  unfolding settings_of columns_of
-  describes h S y z w ns a b c e f g q p i l r m =
-      record {
-        columns = ap (λ (y : ArrayVec Column). y.items) columns;
-        target = p ∙ ap (λ (z : Settings). target_of z.target) e;
-        arrangement = q ∙ ap (λ (z : Settings). arrangement_of z.arrangement) e;
-        left = l ∙ rw (g, f);
-        right = r ∙ rw (g, f);
-        junction = m ∙ rw (g, f);
-        longest = λ j k. rw i (longest-at j (omega (arith, limits.columns)));
-      }
+-- the longest lines, where the sheet's columns are no more than there can be
+pub longest_read : (t : Table) → length t.columns ≤ most_columns → (ns : List ℕ) → ns ≡ map (doc.longest t) (up_from 0 most_columns)
+    → (j : ℕ) → j < length t.columns → get_or ns j 0 ≡ doc.longest t j
+longest_read t few ns e j h =
+    rw e (get_d_map (doc.longest t) (up_from 0 most_columns) j 0 0 (omega (arith, length-up_from 0 most_columns))
+    ∙ ap (doc.longest t) (get_d-up_from 0 most_columns j 0 (omega arith) ∙ omega arith))
 
 -- entries set one after another
 set_padded : {A : Type 0} (a : A) (n : ℕ) (xs : List A) (v : A) → length xs ≡ n → n < most_columns → set (as_array a xs) n v ≡ as_array a (xs ++ (v ∷ []))
@@ -123,3 +95,13 @@ module _ (l : Layout) (t : Table) (d : Describes l t) (few : length l.columns.it
       let content : c.state.widths ≡ as_array 0 (contents t) =
       ap (λ (z : Course). z.state.widths) e ∙ arranged-contents l t d few (longest_part t) (λ j a h. refl) in
       f ∙ rw (content, marked_as, count_as l t d)
+
+-- of an accepted sheet
+module _ (s : List ℕ) (accepted : IsAccepted s) where
+  pub longest_held : (ns : List ℕ) → ns ≡ map (doc.longest (table_of s)) (up_from 0 most_columns)
+      → (j : ℕ) → j < length (table_of s).columns → get_or ns j 0 ≡ doc.longest (table_of s) j
+  longest_held = longest_read (table_of s) (limits_held s accepted).columns
+
+  module _ (a : Found) (f : FoundIs (table_of s) a) where
+    pub widths_found : (w : Widths) → w ≡ widths_from a.layout a.course → w ≡ arranged_widths (table_of s)
+    widths_found w e = widths-at a.layout (table_of s) f.describes (few_held s accepted a.layout f.describes) a.course w f.course e

@@ -142,3 +142,5 @@ module _ (f : State → State) (end r : State) (more : Bool) (g : Going f end r 
     pub round_less : left u + weight (not (eqb u.decided.0 r.decided.0)) < left r + weight more
     round_less =
         subst (λ (b : Bool). left u + weight (not (eqb u.decided.0 r.decided.0)) < left r + weight b) (sym e) (falls (eqb u.decided.0 r.decided.0) refl)
+
+pub ruleset rounds = (round_begin, round_done, round-again, round_less, turn_grew)

@@ -98,7 +98,7 @@ trait Step {
     fn has_ended(&self, s: &State) -> bool
         ensures { result ≡ ended s.now };
 
-    // The number stays: the longest line is asked by it.
+    // The number stays beside the column: the longest line is asked by it, and so are the parts of split lines.
     fn offer(&self, t: &Layout, c: &Column, i: usize, s: &State) -> Option<ContentWidth>
         requires { (i < most_columns) × (c.now ≡ column t.now i) × fits self.now t.now }
         ensures { offered result ≡ rule self.now t.now i s.now };
@@ -189,6 +189,7 @@ fn pass<S: Step>(step: &S, t: &Layout, s: &mut State)
 }
 
 // A pass that fixed a column is repeated, since the average may have changed.
+#[tactic(auto, using(crate::proofs::Rounds::rounds))]
 fn repeat<S: Step>(step: &S, t: &Layout, s: &mut State)
     requires { S.fits step.now t.now }
     ensures { s.new ≡ repeated (turn S.ended (S.rule step.now) t.now) s.old }
@@ -240,6 +241,7 @@ pub struct Course {
 }
 
 // The widths from the first step on, which must make up the target as well as they can.
+#[tactic(auto, using(crate::proofs::Arranged::small_held))]
 pub fn arrange(sheet: &AcceptedSheet<'_>, t: &Layout, mut s: State) -> Course
     requires { Describes t.now (table_of sheet.now.bytes.now) × (s ≡ started t.now) }
     ensures { result ≡ dynamic (longest_part (table_of sheet.now.bytes.now)) t.now s }

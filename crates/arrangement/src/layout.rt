@@ -14,6 +14,7 @@ use style::table::ContentArrangement;
 use style::table_style::{ContentLineStyle, LineStyle, TableStyle};
 use table::accepted::AcceptedSheet;
 
+// Kept beside `content_from`: the types are the Rust's, and what reads any number of characters would still need a way to each of them.
 fn line_from(b: [u8; STYLE_CHARACTERS], k: usize) -> LineStyle
     requires { k + 3 < style_characters }
     ensures { result ≡ line_from b k }
@@ -66,6 +67,7 @@ fn target_from(width: u16) -> Option<u16>
 }
 
 // The settings and columns by value, so that a changed copy of them can be arranged as well.
+#[tactic(auto, using(crate::proofs::Layouts::longest_held), unfolding(table::specs::Held::settings_of, table::specs::Held::columns_of))]
 pub fn layout(sheet: &AcceptedSheet<'_>) -> Layout
     ensures { Describes result (table_of sheet.now.bytes.now) }
 {

@@ -186,6 +186,7 @@ impl State {
     }
 
     // A hidden column is decided from the start, though it is never in the set.
+    // Here and below the number stays: the set and the widths are asked by it.
     pub fn is_decided(&self, c: &Column, i: usize) -> bool
         requires { i < most_columns }
         ensures { result ≡ decided c.now i self.now }

@@ -196,6 +196,7 @@ fn show_columns(sheet: &AcceptedSheet<'_>, widths: Widths) -> ArrayVec<VisibleCo
 }
 
 // The content widths of an accepted sheet.
+#[tactic(auto, using(arrangement::proofs::Layouts::widths_found))]
 pub fn content_widths(sheet: &AcceptedSheet<'_>) -> Widths
     ensures { result ≡ arranged_widths (table_of sheet.now.bytes.now) }
 {

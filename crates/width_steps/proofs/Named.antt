@@ -1,5 +1,5 @@
 -- What is told from the course of the widths is the report. Assumes nothing.
-use Prim.Native.Nat.{ℕ, ◌+◌, ◌≤◌, ◌<◌}
+use Prim.Native.Nat.{ℕ, ◌+◌, ◌<◌}
 use mathlib.Core.Path.{◌≡◌, refl, sym, ap, ◌∙◌}
 use mathlib.Core.Bool.{Bool, true, false, not, ◌||◌, ◌&&◌}
 use mathlib.Core.List.{List}
@@ -11,13 +11,14 @@ use borrow.Author.Tests.{le-ltb}
 use Rattle.rules.specs.declared.WidthStep.{WidthStep}
 use Rattle.rules.specs.declared.WidthStep.TheVariants.{FirstConstraint, LowerBound, UpperBound, LongestWithinAverage, SplitPart, EvenShare}
 use Rattle.rules.specs.declared.WidthStep.TheVariants.{UntargetedLongest, UntargetedUpper}
-use Rattle.rules.specs.Sheet.{Table, most_columns, column_at, padding, is_hidden}
+use Rattle.rules.specs.Sheet.{Table, column_at, padding, is_hidden}
 use Rattle.rules.specs.Calls.{as_array}
 use Rattle.rules.specs.Widths as doc
-use Rattle.rules.specs.Widths.{is_undecided, is_untargeted, below_longest, at_upper, content_of, longest_part}
+use Rattle.rules.specs.Widths.{is_undecided, is_untargeted, below_longest, at_upper, content_of}
 use Rattle.rules.specs.Fixing.{after1, after2, after3}
 use Rattle.rules.specs.Reasons.{step_number, untargeted_step, fitted_step, targeted_step, step_of, is_widened, step_numbers, widened_columns}
 use Rattle.laws.proofs.Explained.{explained}
+use Rattle.table.specs.Held.{IsAccepted, table_of}
 use Rattle.style.specs.Table.{is_disabled}
 use Rattle.std.specs.Prelude.{is_none, unwrap_or}
 use Rattle.style.proofs.Laws.{disabled_as, target_none, target_or}
@@ -26,13 +27,14 @@ use Rattle.constraint.specs.Set.{contains}
 use Rattle.constraint.specs.Widths.{choose, column, longest, visible, upper}
 use Rattle.arrangement.specs.declared.Widths.{Widths}
 use Rattle.arrangement.specs.declared.dynamic.Course.{Course}
-use Rattle.arrangement.specs.Arrange.{arranged}
+use Rattle.arrangement.specs.declared.Found.{Found}
 use Rattle.arrangement.specs.Describes.{Describes}
-use Rattle.arrangement.specs.Courses.{CourseIs}
+use Rattle.arrangement.specs.Courses.{CourseIs, FoundIs}
 use Rattle.arrangement.specs.Widths.{widths_from}
 use Rattle.arrangement.proofs.Offers.{count_as, column_as, longest_as, hidden_as, visible_as, upper_as}
 use Rattle.arrangement.proofs.Courses.{course_is}
-use Rattle.arrangement.proofs.Layouts.{entries_as, widths-at}
+use Rattle.arrangement.proofs.Arranged.{few_held}
+use Rattle.arrangement.proofs.Layouts.{entries_as, widths_found}
 use Rattle.width_steps.specs.declared.Report.{Report}
 use Rattle.width_steps.specs.Steps.{untargeted_by, fitted_by, targeted_by, step_by, steps_by, widened_by, widened_all_by, report_of}
 
@@ -159,14 +161,21 @@ module _ (l : Layout) (t : Table) (d : Describes l t) (a : Course) (c : CourseIs
       go true h = rw (hidden_as l t d j, h) (sym ((explained t).hidden j n h).1)
       go false h = at_split h (is_undecided (after3 t) j) (is_untargeted t) refl refl
 
--- the report
-module _ (l : Layout) (t : Table) (d : Describes l t) (few : length l.columns.items ≤ most_columns) (a : Course) (e : a ≡ arranged (longest_part t) l) where
-  pub report-at : (w : Widths) (n : ℕ) (xs : List ℕ) (fs : List Bool) → w ≡ widths_from l a → n ≡ unwrap_or l.target 0 → xs ≡ steps_by l a → fs ≡ widened_all_by l a
-      → ◌≡◌ {A = Report} (record { widths = w; target = n; step = xs; widened = fs }) (report_of t)
+-- the report on an accepted sheet
+module _ (s : List ℕ) (accepted : IsAccepted s) (a : Found) (f : FoundIs (table_of s) a) where
+  pub report_found : (w : Widths) (n : ℕ) (xs : List ℕ) (fs : List Bool) → w ≡ widths_from a.layout a.course → n ≡ unwrap_or a.layout.target 0
+      → xs ≡ steps_by a.layout a.course → fs ≡ widened_all_by a.layout a.course
+      → ◌≡◌ {A = Report} (record { widths = w; target = n; step = xs; widened = fs }) (report_of (table_of s))
   unfolding report_of
-  report-at w n xs fs f q g h =
-      let c = course_is l t d few a e in
+  report_found w n xs fs p q g h =
+      let l = a.layout in
+      let t = table_of s in
+      let d = f.describes in
+      let few = few_held s accepted l d in
+      let c = course_is l t d few a.course f.course in
       let steps : xs ≡ as_array 0 (step_numbers t) =
-      g ∙ entries_as l t d few 0 (λ j. step_number (step_by l a j)) (λ j. step_number (step_of t j)) (λ j k. ap step_number (step_named l t d a c j k)) in
-      let flags : fs ≡ as_array false (widened_columns t) = h ∙ entries_as l t d few false (λ j. widened_by (column l j) a j) (is_widened t) (widened_named l t d a c) in
-      rw (widths-at l t d few a w e f, steps, flags, q, d.target, target_or t.target)
+      g ∙ entries_as l t d few 0 (λ j. step_number (step_by l a.course j)) (λ j. step_number (step_of t j))
+      (λ j k. ap step_number (step_named l t d a.course c j k)) in
+      let flags : fs ≡ as_array false (widened_columns t) =
+      h ∙ entries_as l t d few false (λ j. widened_by (column l j) a.course j) (is_widened t) (widened_named l t d a.course c) in
+      rw (widths_found s accepted a f w p, steps, flags, q, d.target, target_or t.target)
