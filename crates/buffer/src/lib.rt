@@ -30,6 +30,14 @@ pub fn copy(dst: &mut [u8], at: usize, src: &[u8]) -> usize
     end
 }
 
+// The characters at the edges of a line's columns that are drawn: before the first, between two, behind the last.
+#[derive(Clone, Copy)]
+pub struct Edges {
+    pub left: Option<u8>,
+    pub junction: Option<u8>,
+    pub right: Option<u8>,
+}
+
 // Writes a character, if one is drawn; gives the place after.
 pub fn draw_edge(dst: &mut [u8], at: usize, edge: Option<u8>) -> usize
     requires { at + length (drawn edge) ≤ length dst.old }

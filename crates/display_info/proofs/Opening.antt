@@ -47,7 +47,6 @@ use Rattle.formatting.specs.Stand.{text_style_of}
 use Rattle.row.specs.declared.CellAlignment.{CellAlignment}
 use Rattle.row.specs.declared.CellAlignment.TheVariants.{Left}
 use Rattle.row.specs.declared.VisibleColumn.{VisibleColumn}
-use Rattle.formatting.specs.declared.content_format.TextStyle.{TextStyle}
 use Rattle.borders.specs.declared.RuleStyle.{RuleStyle}
 use Rattle.display_info.specs.declared.LineStyles.{LineStyles}
 use Rattle.display_info.specs.Opened.{styles_of, RowsAt}
@@ -65,45 +64,11 @@ glyph_is (suc c) r e = e
 
 -- ---- the look of a style
 
-pub rule_style_is : (S : List ℕ) (k x f y z : ℕ) (opens joined closes : Bool) (l j r : Option ℕ) → x ≡ glyph (glyph_at S k)
-    → f ≡ glyph (glyph_at S (k + 1)) → y ≡ glyph (glyph_at S (k + 2)) → z ≡ glyph (glyph_at S (k + 3)) → opens ≡ any_left S → closes ≡ any_right S
-    → l ≡ then_some opens x → j ≡ then_some joined y → r ≡ then_some closes z
-    → record { left = l; fill = f; junction = j; right = r } ≡ rule_style_of S joined k
-unfolding rule_style_of
-rule_style_is S k x f y z opens joined closes l j r a b c d e g p q o = rw (p, q, o, a, b, c, d, e, g)
-
-pub text_style_is : (S : List ℕ) (k x y z : ℕ) (opens joined closes : Bool) (l j r : Option ℕ) → x ≡ glyph (glyph_at S k)
-    → y ≡ glyph (glyph_at S (k + 1)) → z ≡ glyph (glyph_at S (k + 2)) → opens ≡ any_left S → joined ≡ any_junction S → closes ≡ any_right S
-    → l ≡ then_some opens x → j ≡ then_some joined y → r ≡ then_some closes z → record { left = l; junction = j; right = r } ≡ text_style_of S k
-unfolding text_style_of
-text_style_is S k x y z opens joined closes l j r a b c d e f p q o = rw (p, q, o, a, b, c, d, e, f)
-
 -- which edges the style record says are drawn
 pub edges_are : (S : List ℕ) (y : TableStyle) (opens joined closes : Bool) → y ≡ style_from S → opens ≡ any_left (bytes_of y) → joined ≡ any_junction
     (bytes_of y) → closes ≡ any_right (bytes_of y)
     → (opens ≡ any_left S) × ((joined ≡ any_junction S) × (closes ≡ any_right S))
 edges_are S y opens joined closes e a b c = (a ∙ rw e, (b ∙ rw e, c ∙ rw e))
-
--- and which borders and rules
-pub styles_are : (S : List ℕ) (y : TableStyle) (joined : Bool) (top header row bottom : RuleStyle) (head text : TextStyle) (a b c d : Bool) → y ≡
-    style_from S → joined ≡ any_junction S
-    → top ≡ rule_style_of S true top_border → head ≡ text_style_of S header_lines → header ≡ rule_style_of S joined header_rule → text ≡ text_style_of S
-    content_lines
-    → row ≡ rule_style_of S joined row_rule → bottom ≡ rule_style_of S true bottom_border
-    → b ≡ is_visible (bytes_of y) header_rule → c ≡ is_visible (bytes_of y) row_rule → a ≡ is_visible (bytes_of y) top_border → d ≡ is_visible (bytes_of y)
-    bottom_border
-    → ◌≡◌ {A = LineStyles}
-    (record {
-      top = top;
-      header = record { lines = head; rule = header; ruled = b };
-      body = record { lines = text; rule = row; ruled = c };
-      bottom = bottom;
-      has_top = a;
-      has_bottom = d;
-    })
-    (styles_of S)
-unfolding styles_of
-styles_are S y joined top header row bottom head text a b c d e f g h i j k l n o m p = rw (g, h, i, j, k, l, f, m, n, o, p, e)
 
 -- ---- the visible columns
 

@@ -1,5 +1,6 @@
 -- What a page is drawn from. Assumes nothing.
 use Rattle.std.specs.Prelude.{ℕ, ◌≤◌, ◌≡◌, ◌⊎◌, List, true, length, drop}
+use Rattle.std.specs.Bool.{then_some}
 use Rattle.rules.specs.Text.{All}
 use Rattle.rules.specs.Limits.{RowLimits, PlainTable}
 use Rattle.rules.specs.Style.{top_border, header_lines, header_rule, content_lines, row_rule, bottom_border, any_junction, is_visible}
@@ -21,12 +22,16 @@ widths_in s = contents (table_of s)
 -- the styles of a page's lines, by the 22 style characters
 unfoldable pub styles_of : List ℕ → LineStyles
 styles_of S = record {
-  top = rule_style_of S true top_border;
-  header = record { lines = text_style_of S header_lines; rule = rule_style_of S (any_junction S) header_rule; ruled = is_visible S header_rule };
-  body = record { lines = text_style_of S content_lines; rule = rule_style_of S (any_junction S) row_rule; ruled = is_visible S row_rule };
-  bottom = rule_style_of S true bottom_border;
-  has_top = is_visible S top_border;
-  has_bottom = is_visible S bottom_border;
+  top = then_some (is_visible S top_border) (rule_style_of S true top_border);
+  header = record {
+    lines = text_style_of S header_lines;
+    rule = then_some (is_visible S header_rule) (rule_style_of S (any_junction S) header_rule);
+  };
+  body = record {
+    lines = text_style_of S content_lines;
+    rule = then_some (is_visible S row_rule) (rule_style_of S (any_junction S) row_rule);
+  };
+  bottom = then_some (is_visible S bottom_border) (rule_style_of S true bottom_border);
 }
 
 -- rows of the sheet, within it and within the limits: those of the header or of the body, all but the first few

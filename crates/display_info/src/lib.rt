@@ -16,12 +16,12 @@ ghost use Rattle.formatting.specs.Stand.{text_style_of};
 ghost use Rattle.borders.specs.Rule.{rule_style_of, NarrowAll};
 ghost use Rattle.row.specs.Open.{Rising, UsableAll};
 ghost use Rattle.display_info.specs.Opened.{styles_of, Opened};
-ghost use Rattle.display_info.specs.Opening.{showing};
+ghost use Rattle.display_info.specs.Opening.{edges_of, showing};
 
 use arrangement::{Widths, layout};
 use arrayvec::ArrayVec;
 use borders::RuleStyle;
-use formatting::content_format::TextStyle;
+use buffer::Edges;
 use row::{CellAlignment, VisibleColumn};
 use rules::{
     BOTTOM_BORDER, CONTENT_LINES, Column, HEADER_LINES, HEADER_RULE, MOST_COLUMNS, ROW_RULE,
@@ -33,23 +33,20 @@ use table::accepted::AcceptedSheet;
 use table::records;
 use table::records::Rows;
 
-// How the lines of a row look: its text lines, the rule after it, and whether that rule is visible.
+// How the lines of a row look: its text lines, and the rule after it, if one is visible.
 #[derive(Clone, Copy)]
 pub struct RowStyle {
-    pub lines: TextStyle,
-    pub rule: RuleStyle,
-    pub ruled: bool,
+    pub lines: Edges,
+    pub rule: Option<RuleStyle>,
 }
 
-// How the lines of a page look, and which borders are visible.
+// How the lines of a page look: its rows, and the borders that are visible.
 #[derive(Clone, Copy)]
 pub struct LineStyles {
-    pub top: RuleStyle,
+    pub top: Option<RuleStyle>,
     pub header: RowStyle,
     pub body: RowStyle,
-    pub bottom: RuleStyle,
-    pub has_top: bool,
-    pub has_bottom: bool,
+    pub bottom: Option<RuleStyle>,
 }
 
 // A page over some rows of the sheet: the visible columns, the lines' styles, the header and the rows. On a plain page no cell has a pair, so that
@@ -70,6 +67,17 @@ fn glyph(c: u8) -> u8
     records::set(c).unwrap_or(b' ')
 }
 
+// Those of a line's three edges that are drawn.
+fn edges(left: u8, junction: u8, right: u8, opens: bool, joined: bool, closes: bool) -> Edges
+    ensures { result ≡ edges_of opens joined closes left junction right }
+{
+    Edges {
+        left: opens.then_some(glyph(left)),
+        junction: joined.then_some(glyph(junction)),
+        right: closes.then_some(glyph(right)),
+    }
+}
+
 // A border or a rule, whose four characters begin at k.
 fn rule_style(
     b: [u8; STYLE_CHARACTERS],
@@ -82,29 +90,17 @@ fn rule_style(
     ensures { result ≡ rule_style_of b joined k }
 {
     RuleStyle {
-        left: opens.then_some(glyph(b[k])),
+        edges: edges(b[k], b[k + 2], b[k + 3], opens, joined, closes),
         fill: glyph(b[k + 1]),
-        junction: joined.then_some(glyph(b[k + 2])),
-        right: closes.then_some(glyph(b[k + 3])),
     }
 }
 
 // Text lines, whose three characters begin at k.
-fn text_style(
-    b: [u8; STYLE_CHARACTERS],
-    k: usize,
-    opens: bool,
-    joined: bool,
-    closes: bool,
-) -> TextStyle
+fn text_style(b: [u8; STYLE_CHARACTERS], k: usize, opens: bool, joined: bool, closes: bool) -> Edges
     requires { (k + 2 < style_characters) × ((opens ≡ any_left b) × ((joined ≡ any_junction b) × (closes ≡ any_right b))) }
     ensures { result ≡ text_style_of b k }
 {
-    TextStyle {
-        left: opens.then_some(glyph(b[k])),
-        junction: joined.then_some(glyph(b[k + 1])),
-        right: closes.then_some(glyph(b[k + 2])),
-    }
+    edges(b[k], b[k + 1], b[k + 2], opens, joined, closes)
 }
 
 // The six kinds of line, once it is known which edges are drawn. Borders put a junction between columns even where no junction is set.
@@ -126,21 +122,17 @@ fn styles_by(
     let bottom = rule_style(b, BOTTOM_BORDER, opens, true, closes);
     let header = RowStyle {
         lines: header_lines,
-        rule: header_rule,
-        ruled: style.has_header_separator(),
+        rule: style.has_header_separator().then_some(header_rule),
     };
     let body = RowStyle {
         lines: content_lines,
-        rule: row_rule,
-        ruled: style.has_row_separator(),
+        rule: style.has_row_separator().then_some(row_rule),
     };
     LineStyles {
-        top,
+        top: style.has_top_border().then_some(top),
         header,
         body,
-        bottom,
-        has_top: style.has_top_border(),
-        has_bottom: style.has_bottom_border(),
+        bottom: style.has_bottom_border().then_some(bottom),
     }
 }
 

@@ -4,6 +4,7 @@ use mathlib.Core.Path.{◌≡◌, sym, ap, ◌∙◌}
 use mathlib.Core.List.{List}
 use mathlib.Core.Bool.{true, false}
 use native.Mathlib.Omega.{arith}
+use Rattle.std.specs.Prelude.{is_some}
 use Rattle.rules.specs.Text.{All}
 use Rattle.rules.specs.Limits.{Optional}
 use Rattle.rules.specs.Style.{top_border, bottom_border, is_visible}
@@ -14,6 +15,7 @@ use Rattle.display_info.specs.declared.LineStyles.{LineStyles}
 use Rattle.display_info.specs.declared.Page.{Page}
 use Rattle.display_info.specs.Opened.{Opened, widths_in, styles_of}
 use Rattle.display_info.proofs.Opening.{limits_of}
+use Rattle.parts.proofs.Measures.{some-drawn}
 use Rattle.parts.specs.declared.lengths.Lengths.{Lengths}
 use Rattle.parts.specs.Lengths.{LengthsAre}
 use Rattle.parts.specs.Ahead.{is_end, lines_of}
@@ -25,15 +27,15 @@ module _ (s : List ℕ) (p : Page) (O : Opened s p) (l : Lengths) (L : LengthsAr
   optional : All Optional (table_of s).style
   optional = (limits_of s O.passes).style_characters_fit
 
-  top_as : p.styles.has_top ≡ is_visible (table_of s).style top_border
+  top_as : is_some p.styles.top ≡ is_visible (table_of s).style top_border
   unfolding styles_of
-  top_as = ap (λ (x : LineStyles). x.has_top) O.styles
+  top_as = ap (λ (x : LineStyles). is_some x.top) O.styles ∙ some-drawn _ _
 
-  bottom_as : p.styles.has_bottom ≡ is_visible (table_of s).style bottom_border
+  bottom_as : is_some p.styles.bottom ≡ is_visible (table_of s).style bottom_border
   unfolding styles_of
-  bottom_as = ap (λ (x : LineStyles). x.has_bottom) O.styles
+  bottom_as = ap (λ (x : LineStyles). is_some x.bottom) O.styles ∙ some-drawn _ _
 
-  pub by_top : p.styles.has_top ≡ true → LongestIs s p l.border
+  pub by_top : is_some p.styles.top ≡ true → LongestIs s p l.border
   unfolding lines_of
   by_top e =
       record {
@@ -41,7 +43,7 @@ module _ (s : List ℕ) (p : Page) (O : Opened s p) (l : Lengths) (L : LengthsAr
         small = L.border_small;
       }
 
-  pub by_bottom : p.styles.has_bottom ≡ true → LongestIs s p l.border
+  pub by_bottom : is_some p.styles.bottom ≡ true → LongestIs s p l.border
   unfolding lines_of
   by_bottom e =
       record {
@@ -58,7 +60,7 @@ module _ (s : List ℕ) (p : Page) (O : Opened s p) (l : Lengths) (L : LengthsAr
       small = omega arith;
     }
 
-    pub by_line : p.styles.has_top ≡ false → p.styles.has_bottom ≡ false → is_end r.cursor.stage ≡ false → LongestIs s p l.line
+    pub by_line : is_some p.styles.top ≡ false → is_some p.styles.bottom ≡ false → is_end r.cursor.stage ≡ false → LongestIs s p l.line
     unfolding lines_of
     by_line a b e = record {
       longest = L.line ∙ sym (longest-line (table_of s) optional (widths_in s) (rows_in s p.rows) (sym top_as ∙ a) (sym bottom_as ∙ b) (omega (arith, before s p 0 r S e)));

@@ -105,10 +105,10 @@ pub fn longest_line(sheet: &[u8], p: &Page) -> usize
 {
     let l = lengths::measure(sheet, p);
     let styles = p.styles;
-    if styles.has_top {
+    if styles.top.is_some() {
         return l.border;
     }
-    if styles.has_bottom {
+    if styles.bottom.is_some() {
         return l.border;
     }
     let first = seek(sheet, p, 0);

@@ -8,8 +8,11 @@ use native.Mathlib.Nat.{suc-add, suc-mul}
 use lib.ListN.{length, take, drop, get_or, length-append, drop_of_length-le, get_or-append}
 use lib.Seq.{drop-nil, take-nil, get_or_at}
 use lib.Dec.{ltb}
+use mir.Val.{bool_byte}
 use borrow.Author.Tests.{not-true, not-false, ltb-true, ltb-false}
 use borrow.Rule.Slice.PartMut.{put_mid}
+use Rattle.std.specs.Prelude.{Option, Some, None, is_some}
+use Rattle.std.specs.Option.{ForSome}
 use Rattle.rules.specs.Text.{All}
 use Rattle.rules.specs.Sheet.{Row, no_row}
 use Rattle.rules.specs.Style.{top_border, bottom_border}
@@ -41,7 +44,7 @@ use Rattle.display_info.specs.Opened.{widths_in, RowsAt, Opened}
 use Rattle.parts.specs.Ahead.{rule_lines, part_lines, lines_of, At}
 use Rattle.parts.specs.Lengths.{LengthsAre}
 use Rattle.parts.specs.declared.lengths.Lengths.{Lengths}
-use Rattle.parts.specs.Band.{band_lines, band_count, body_style, SizedBand}
+use Rattle.parts.specs.Band.{rule_by, band_lines, body_style, SizedBand}
 use Rattle.display_info.specs.declared.Page.{Page}
 use Rattle.display_info.specs.declared.RowStyle.{RowStyle}
 use Rattle.parts.specs.declared.cursor.Cursor.{Cursor}
@@ -81,47 +84,50 @@ pub row-lines_are : (s : List ℕ) (view : View) (here : Rows) (r : records.Row)
     → m ≡ limited r.limit n → m ≡ row_height s (first_row s here)
 row-lines_are s view here r n m plain D R e f = f ∙ rw (e, R.limit, R.cells) (limited-height (table_of s) (widths_in s) (first_row s here) view D.views)
 
-pub band-none : (s : List ℕ) (b : Bool) (here : Rows) → here.left ≡ 0 → 0 ≡ band_count s b (rows_in s here)
-unfolding band_count
-band-none s b here e = go (rows_in s here) (rows_number s here)
+pub band-none : (s : List ℕ) (view : View) (y : RowStyle) (here : Rows) → here.left ≡ 0 → 0 ≡ length (band_lines s view y (rows_in s here))
+unfolding band_lines
+band-none s view y here e = go (rows_in s here) (rows_number s here)
   where
-    go : (rs : List Row) → length rs ≡ here.left → 0 ≡ band_count s b rs
+    go : (rs : List Row) → length rs ≡ here.left → 0 ≡ length (band_lines s view y rs)
     go [] f = refl
     go (r ∷ rs) f = absurd (omega arith)
 
-pub band-some : (s : List ℕ) (b : Bool) (here : Rows) (n m : ℕ) → (here.left ≡ 0 → ⊥) → n ≡ row_height s (first_row s here) → m ≡ cond b 1 0 → n + m ≡
-    band_count s b (rows_in s here)
-unfolding band_count
-band-some s b here n m h e f = go (rows_in s here) (rows_number s here) e
+pub rule_few : (view : View) (o : Option RuleStyle) → length (rule_by view o) ≤ 1
+rule_few view None = omega arith
+rule_few view (Some x) = omega arith
+
+pub rule_count : (view : View) (o : Option RuleStyle) → length (rule_by view o) ≡ bool_byte (is_some o)
+rule_count view None = refl
+rule_count view (Some x) = refl
+
+pub band-some : (s : List ℕ) (view : View) (y : RowStyle) (here : Rows) (n m : ℕ) → (here.left ≡ 0 → ⊥) → n ≡ row_height s (first_row s here)
+    → m ≡ bool_byte (is_some y.rule) → n + m ≡ length (band_lines s view y (rows_in s here))
+unfolding band_lines
+band-some s view y here n m h e f = go (rows_in s here) (rows_number s here) e
   where
-    go : (rs : List Row) → length rs ≡ here.left → n ≡ row_height s (get_or rs 0 no_row) → n + m ≡ band_count s b rs
+    go : (rs : List Row) → length rs ≡ here.left → n ≡ row_height s (get_or rs 0 no_row) → n + m ≡ length (band_lines s view y rs)
     go [] g i = absurd (h (omega arith))
-    go (r ∷ rs) g i = rw (i, f)
+    go (r ∷ rs) g i = rw (length-append (row_lines s y.lines r) (rule_by view y.rule), lines-count s y.lines r, rule_count view y.rule, i, f)
 
 -- ---- a border or a rule
 
-module _ (view : View) (y : RuleStyle) (b : List ℕ) where
-  pub rule-none : (visible : Bool) → not visible ≡ true → PartIs (cond visible (rule_text view y ∷ []) []) b b
-      (record { lines = 0; bytes = 0; whole = true })
-  rule-none true e = let z : ◌≡◌ {A = ℕ} 0 1 = cc in absurd (omega arith)
-  rule-none false e = part_none b
+module _ (view : View) (o : Option RuleStyle) (b : List ℕ) where
+  pub rule-none : o ≡ None → PartIs (rule_by view o) b b (record { lines = 0; bytes = 0; whole = true })
+  rule-none e = rw e (part_none b)
 
-  pub rule-full : (visible : Bool) (size : ℕ) → not visible ≡ false → size ≡ length (rule_text view y) + 1 → length b < size
-      → PartIs (cond visible (rule_text view y ∷ []) []) b b (record { lines = 0; bytes = 0; whole = false })
-  rule-full true size e f h = part-full (rule_text view y) [] b (omega arith)
-  rule-full false size e f h = let z : ◌≡◌ {A = ℕ} 0 1 = cc in absurd (omega arith)
+  module _ (y : RuleStyle) (e : o ≡ Some y) (size : ℕ) (f : size ≡ length (rule_text view y) + 1) where
+    pub rule-full : length b < size → PartIs (rule_by view o) b b (record { lines = 0; bytes = 0; whole = false })
+    rule-full h = rw e (part-full (rule_text view y) [] b (omega arith))
 
-  rule_size : length (rule_bytes view y) ≡ length (rule_text view y) + 1
-  rule_size = ap length (rule_text_lem view y) ∙ length-append (rule_text view y) (10 ∷ [])
+    rule_size : length (rule_bytes view y) ≡ length (rule_text view y) + 1
+    rule_size = ap length (rule_text_lem view y) ∙ length-append (rule_text view y) (10 ∷ [])
 
-  pub rule-room : (size : ℕ) → size ≡ length (rule_text view y) + 1 → size ≤ length b → length (rule_bytes view y) ≤ length b
-  rule-room size e h = omega (arith, rule_size)
+    pub rule-room : size ≤ length b → length (rule_bytes view y) ≤ length b
+    rule-room h = omega (arith, rule_size)
 
-  pub rule-one : (visible : Bool) (size n : ℕ) (a : List ℕ) → not visible ≡ false → size ≡ length (rule_text view y) + 1 → size ≤ length b → n ≡ length
-      (rule_bytes view y) → a ≡ over (rule_bytes view y) b
-      → PartIs (cond visible (rule_text view y ∷ []) []) b a (record { lines = 1; bytes = n; whole = true })
-  rule-one true size n a e f h i j = rw (i, rule_size) (part-line (rule_text view y) b a (omega arith) (j ∙ ap (λ l. over l b) (rule_text_lem view y)))
-  rule-one false size n a e f h i j = let z : ◌≡◌ {A = ℕ} 0 1 = cc in absurd (omega arith)
+    pub rule-one : (n : ℕ) (a : List ℕ) → size ≤ length b → n ≡ length (rule_bytes view y) → a ≡ over (rule_bytes view y) b
+        → PartIs (rule_by view o) b a (record { lines = 1; bytes = n; whole = true })
+    rule-one n a h i j = rw (e, i, rule_size) (part-line (rule_text view y) b a (omega arith) (j ∙ ap (λ l. over l b) (rule_text_lem view y)))
 
 -- ---- a row with the rule after it
 
@@ -157,19 +163,19 @@ module _ (s : List ℕ) (view : View) (y : RowStyle) (here : Rows) (plain : Bool
       go [] f = sym no_bytes
       go (r ∷ rs) f = absurd (omega arith)
 
-  rule-each : All (λ l. length l + 1 ≡ size) (cond y.ruled (rule_text view y.rule ∷ []) [])
-  rule-each = go y.ruled
+  rule-each : All (λ l. length l + 1 ≡ size) (rule_by view y.rule)
+  rule-each = go y.rule B.rule
     where
-      go : (b : Bool) → All (λ l. length l + 1 ≡ size) (cond b (rule_text view y.rule ∷ []) [])
-      go true = (sym B.rule, tt)
-      go false = tt
+      go : (o : Option RuleStyle) → ForSome o (λ x. size ≡ length (rule_text view x) + 1) → All (λ l. length l + 1 ≡ size) (rule_by view o)
+      go (Some x) F = (sym (F x refl), tt)
+      go None F = tt
 
-  rule_bytes_lem : length (closed (cond y.ruled (rule_text view y.rule ∷ []) [])) ≡ cond y.ruled size 0
-  rule_bytes_lem = go y.ruled
+  rule_bytes_lem : length (closed (rule_by view y.rule)) ≡ cond (is_some y.rule) size 0
+  rule_bytes_lem = go y.rule B.rule
     where
-      go : (b : Bool) → length (closed (cond b (rule_text view y.rule ∷ []) [])) ≡ cond b size 0
-      go true = ap length (closed-one (rule_text view y.rule)) ∙ length-append (rule_text view y.rule) (10 ∷ []) ∙ sym B.rule
-      go false = no_bytes
+      go : (o : Option RuleStyle) → ForSome o (λ x. size ≡ length (rule_text view x) + 1) → length (closed (rule_by view o)) ≡ cond (is_some o) size 0
+      go (Some x) F = ap length (closed-one (rule_text view x)) ∙ length-append (rule_text view x) (10 ∷ []) ∙ sym (F x refl)
+      go None F = no_bytes
 
   -- on a plain page every line takes as many bytes as the rule
   pub bytes-plain : plain ≡ true → (n : ℕ) → n ≡ length (band_lines s view y (rows_in s here)) → n * size ≡ length (closed (band_lines s view y (rows_in s here)))
@@ -180,28 +186,27 @@ module _ (s : List ℕ) (view : View) (y : RowStyle) (here : Rows) (plain : Bool
       go [] Z = tt
       go (r ∷ rs) Z =
           let z = Z (omega arith) in
-          all_append (λ l. length l + 1 ≡ size) (row_lines s y.lines r) (cond y.ruled (rule_text view y.rule ∷ []) [])
+          all_append (λ l. length l + 1 ≡ size) (row_lines s y.lines r) (rule_by view y.rule)
           (all_places (λ l. length l + 1 ≡ size) (row_lines s y.lines r) [] (λ i k. z.each e i (omega (arith, lines-count s y.lines r)))) rule-each
 
   module _ (some : 0 < here.left) where
-    rows_band : band_lines s view y (rows_in s here) ≡ row_lines s y.lines (first_row s here) ++ cond y.ruled (rule_text view y.rule ∷ []) []
+    rows_band : band_lines s view y (rows_in s here) ≡ row_lines s y.lines (first_row s here) ++ rule_by view y.rule
     unfolding band_lines
     rows_band = go (rows_in s here) (rows_number s here)
       where
-        go : (rs : List Row) → length rs ≡ here.left → band_lines s view y rs ≡ row_lines s y.lines (get_or rs 0 no_row) ++ cond y.ruled
-            (rule_text view y.rule ∷ []) []
+        go : (rs : List Row) → length rs ≡ here.left → band_lines s view y rs ≡ row_lines s y.lines (get_or rs 0 no_row) ++ rule_by view y.rule
         go [] e = absurd (omega arith)
         go (r ∷ rs) e = refl
 
     -- else its text lines' bytes and the rule's
-    pub bytes_summed : (a b : ℕ) → a ≡ length (closed (row_lines s y.lines (first_row s here))) → b ≡ cond y.ruled size 0
+    pub bytes_summed : (a b : ℕ) → a ≡ length (closed (row_lines s y.lines (first_row s here))) → b ≡ cond (is_some y.rule) size 0
         → a + b ≡ length (closed (band_lines s view y (rows_in s here)))
     bytes_summed a b e f =
         let ls = row_lines s y.lines (first_row s here) in
-        let r = cond y.ruled (rule_text view y.rule ∷ []) [] in
+        let r = rule_by view y.rule in
         let c = ap (λ l. length (closed l)) rows_band
-        ∙ ap length (closed-append (row_lines s y.lines (first_row s here)) (cond y.ruled (rule_text view y.rule ∷ []) []))
-        ∙ length-append (closed (row_lines s y.lines (first_row s here))) (closed (cond y.ruled (rule_text view y.rule ∷ []) [])) in
+        ∙ ap length (closed-append (row_lines s y.lines (first_row s here)) (rule_by view y.rule))
+        ∙ length-append (closed (row_lines s y.lines (first_row s here))) (closed (rule_by view y.rule)) in
         omega (arith, c, e, f, rule_bytes_lem)
 
     -- as many as plain lines would take, and its text lines' pairs
@@ -209,17 +214,17 @@ module _ (s : List ℕ) (view : View) (y : RowStyle) (here : Rows) (plain : Bool
         → length (closed (row_lines s y.lines (first_row s here))) ≡ row_height s (first_row s here) * size + q
         → n * size + q ≡ length (closed (band_lines s view y (rows_in s here)))
     bytes-and n q f z =
-        let d = ap length rows_band ∙ length-append (row_lines s y.lines (first_row s here)) (cond y.ruled (rule_text view y.rule ∷ []) []) in
+        let d = ap length rows_band ∙ length-append (row_lines s y.lines (first_row s here)) (rule_by view y.rule) in
         omega (
           arith,
-          bytes_summed (length (closed (row_lines s y.lines (first_row s here)))) (cond y.ruled size 0) refl refl,
+          bytes_summed (length (closed (row_lines s y.lines (first_row s here)))) (cond (is_some y.rule) size 0) refl refl,
           z,
-          lines_in y.ruled (row_height s (first_row s here)) n (omega (arith, f, d, lines-count s y.lines (first_row s here))),
+          lines_in y.rule (row_height s (first_row s here)) n (omega (arith, f, d, lines-count s y.lines (first_row s here))),
         )
       where
-        lines_in : (b : Bool) (h n : ℕ) → n ≡ h + length (cond b (rule_text view y.rule ∷ []) []) → n * size ≡ h * size + cond b size 0
-        lines_in true h n e = let k : n ≡ suc h = omega arith in rw k (suc-mul h size ∙ omega arith)
-        lines_in false h n e = let k : n ≡ h = omega arith in rw k (omega arith)
+        lines_in : (o : Option RuleStyle) (h n : ℕ) → n ≡ h + length (rule_by view o) → n * size ≡ h * size + cond (is_some o) size 0
+        lines_in (Some x) h n e = let k : n ≡ suc h = omega arith in rw k (suc-mul h size ∙ omega arith)
+        lines_in None h n e = let k : n ≡ h = omega arith in rw k (omega arith)
 
     -- without a limit those that its cells hold
     pub bytes-held : (first_row s here).limit ≡ 0 → (n q : ℕ) → n ≡ length (band_lines s view y (rows_in s here))
@@ -228,7 +233,7 @@ module _ (s : List ℕ) (view : View) (y : RowStyle) (here : Rows) (plain : Bool
 
     band-height : row_height s (first_row s here) ≤ length (band_lines s view y (rows_in s here))
     band-height =
-        let d = ap length rows_band ∙ length-append (row_lines s y.lines (first_row s here)) (cond y.ruled (rule_text view y.rule ∷ []) []) in
+        let d = ap length rows_band ∙ length-append (row_lines s y.lines (first_row s here)) (rule_by view y.rule) in
         omega (arith, d, lines-count s y.lines (first_row s here))
 
     -- else those that its lines show
@@ -239,12 +244,8 @@ module _ (s : List ℕ) (view : View) (y : RowStyle) (here : Rows) (plain : Bool
 
     pub bytes_few : length (band_lines s view y (rows_in s here)) ≤ most_lines + 1
     bytes_few =
-        let d = ap length rows_band ∙ length-append (row_lines s y.lines (first_row s here)) (cond y.ruled (rule_text view y.rule ∷ []) []) in
-        omega (arith, d, lines-count s y.lines (first_row s here), (B.text (omega (arith, rows_number s here))).bounded.few, one y.ruled)
-      where
-        one : (b : Bool) → length (cond b (rule_text view y.rule ∷ []) []) ≤ 1
-        one true = omega arith
-        one false = omega arith
+        let d = ap length rows_band ∙ length-append (row_lines s y.lines (first_row s here)) (rule_by view y.rule) in
+        omega (arith, d, lines-count s y.lines (first_row s here), (B.text (omega (arith, rows_number s here))).bounded.few, rule_few view y.rule)
 
     -- they aren't too many
     pub text-most : length (closed (row_lines s y.lines (first_row s here))) ≤ most_lines * (longest_line + 1)
@@ -261,7 +262,7 @@ module _ (s : List ℕ) (view : View) (y : RowStyle) (here : Rows) (plain : Bool
         )
 
     pub band-most : length (closed (band_lines s view y (rows_in s here))) ≤ (most_lines + 1) * (longest_line + 1)
-    band-most = omega (arith, bytes_summed _ (cond y.ruled size 0) refl refl, text-most, rule_small y.ruled)
+    band-most = omega (arith, bytes_summed _ (cond (is_some y.rule) size 0) refl refl, text-most, rule_small (is_some y.rule))
       where
         rule_small : (b : Bool) → cond b size 0 ≤ longest_line + 1
         rule_small true = B.small
@@ -272,7 +273,7 @@ module _ (s : List ℕ) (view : View) (y : RowStyle) (here : Rows) (plain : Bool
         → get_or (band_lines s view y (rows_in s here)) n [] ≡ get_or (row_lines s y.lines (first_row s here)) n []
     line_text n h =
         ap (λ l. get_or l n []) rows_band
-        ∙ get_or-append (row_lines s y.lines (first_row s here)) (cond y.ruled (rule_text view y.rule ∷ []) []) [] n
+        ∙ get_or-append (row_lines s y.lines (first_row s here)) (rule_by view y.rule) [] n
         (omega (arith, lines-count s y.lines (first_row s here)))
 
     pub line-shown : (n q : ℕ) → n < row_height s (first_row s here)
@@ -284,32 +285,30 @@ module _ (s : List ℕ) (view : View) (y : RowStyle) (here : Rows) (plain : Bool
         → size ≡ length (get_or (band_lines s view y (rows_in s here)) n []) + 1
     line_rule n h k =
         let ls = row_lines s y.lines (first_row s here) in
-        let c = length-append (row_lines s y.lines (first_row s here)) (cond y.ruled (rule_text view y.rule ∷ []) []) in
+        let c = length-append (row_lines s y.lines (first_row s here)) (rule_by view y.rule) in
         let d = lines-count s y.lines (first_row s here) in
-        go y.ruled refl (rw rows_band at k)
+        go y.rule refl (rw rows_band at k)
       where
-        go : (b : Bool) → y.ruled ≡ b
-            → n < length (row_lines s y.lines (first_row s here) ++ cond y.ruled (rule_text view y.rule ∷ []) [])
+        go : (o : Option RuleStyle) → y.rule ≡ o → n < length (row_lines s y.lines (first_row s here) ++ rule_by view y.rule)
             → size ≡ length (get_or (band_lines s view y (rows_in s here)) n []) + 1
-        go true e q =
+        go (Some x) e q =
             let ls = row_lines s y.lines (first_row s here) in
-            let r : cond y.ruled (rule_text view y.rule ∷ []) [] ≡ rule_text view y.rule ∷ [] = ap (λ b. cond b (rule_text view y.rule ∷ []) []) e in
+            let r : rule_by view y.rule ≡ rule_text view x ∷ [] = ap (rule_by view) e in
             let z : length (row_lines s y.lines (first_row s here)) ≡ n =
             omega (
               arith,
               lines-count s y.lines (first_row s here),
-              length-append (row_lines s y.lines (first_row s here)) (cond y.ruled (rule_text view y.rule ∷ []) []),
+              length-append (row_lines s y.lines (first_row s here)) (rule_by view y.rule),
               ap length r,
             ) in
-            B.rule ∙ sym (ap (λ l. length (get_or l n []) + 1) (rows_band ∙ ap (λ l. row_lines s y.lines (first_row s here) ++ l) r)
-            ∙ ap (λ l. length l + 1) (get_or_at (row_lines s y.lines (first_row s here)) (rule_text view y.rule) [] [] n z))
-        go false e q =
-            let r : cond y.ruled (rule_text view y.rule ∷ []) [] ≡ [] = ap (λ b. cond b (rule_text view y.rule ∷ []) []) e in
+            B.rule x e ∙ sym (ap (λ l. length (get_or l n []) + 1) (rows_band ∙ ap (λ l. row_lines s y.lines (first_row s here) ++ l) r)
+            ∙ ap (λ l. length l + 1) (get_or_at (row_lines s y.lines (first_row s here)) (rule_text view x) [] [] n z))
+        go None e q =
             absurd (omega (
               arith,
               lines-count s y.lines (first_row s here),
-              length-append (row_lines s y.lines (first_row s here)) (cond y.ruled (rule_text view y.rule ∷ []) []),
-              ap length r,
+              length-append (row_lines s y.lines (first_row s here)) (rule_by view y.rule),
+              ap (λ o. length (rule_by view o)) e,
             ))
 
     pub line_plain : plain ≡ true → (n : ℕ) → n < length (band_lines s view y (rows_in s here))
@@ -342,39 +341,33 @@ band_there s view y here n h = go (rows_in s here) (rows_number s here) h
 
 module _ (s : List ℕ) (view : View) (y : RowStyle) (here : Rows) (first : ℕ) (some : 0 < here.left)
     (within : first ≤ length (band_lines s view y (rows_in s here)) - 1) where
-  band_is : band_lines s view y (rows_in s here) ≡ row_lines s y.lines (first_row s here) ++ cond y.ruled (rule_text view y.rule ∷ []) []
+  band_is : band_lines s view y (rows_in s here) ≡ row_lines s y.lines (first_row s here) ++ rule_by view y.rule
   unfolding band_lines
   band_is = go (rows_in s here) (rows_number s here)
     where
-      go : (rs : List Row) → length rs ≡ here.left → band_lines s view y rs ≡ row_lines s y.lines (get_or rs 0 no_row) ++ cond y.ruled
-          (rule_text view y.rule ∷ []) []
+      go : (rs : List Row) → length rs ≡ here.left → band_lines s view y rs ≡ row_lines s y.lines (get_or rs 0 no_row) ++ rule_by view y.rule
       go [] e = absurd (omega arith)
       go (r ∷ rs) e = refl
 
-  few : (b : Bool) → length (cond b (rule_text view y.rule ∷ []) []) ≤ 1
-  few true = omega arith
-  few false = omega arith
-
-  pub band-split : drop first (band_lines s view y (rows_in s here)) ≡ drop first (row_lines s y.lines (first_row s here)) ++ cond y.ruled
-      (rule_text view y.rule ∷ []) []
+  pub band-split : drop first (band_lines s view y (rows_in s here)) ≡ drop first (row_lines s y.lines (first_row s here)) ++ rule_by view y.rule
   band-split =
       let l = row_lines s y.lines (first_row s here) in
-      ap (drop first) band_is ∙ drop-append first (row_lines s y.lines (first_row s here)) (cond y.ruled (rule_text view y.rule ∷ []) [])
+      ap (drop first) band_is ∙ drop-append first (row_lines s y.lines (first_row s here)) (rule_by view y.rule)
       (omega (
         arith,
         within,
         ap length band_is,
         length-append (row_lines s y.lines (first_row s here))
-            (cond y.ruled (rule_text view y.rule ∷ []) []),
-        few y.ruled,
+            (rule_by view y.rule),
+        rule_few view y.rule,
       ))
 
   pub band-cut : (b a : List ℕ) (r : Part) → PartIs (drop first (row_lines s y.lines (first_row s here))) b a r → not r.whole ≡ true → PartIs
       (drop first (band_lines s view y (rows_in s here))) b a r
-  band-cut b a r P e = rw band-split (part_short _ (cond y.ruled (rule_text view y.rule ∷ []) []) b a r P (not-true r.whole e))
+  band-cut b a r P e = rw band-split (part_short _ (rule_by view y.rule) b a r P (not-true r.whole e))
 
   pub band_whole : (b a c ys : List ℕ) (r q : Part) → PartIs (drop first (row_lines s y.lines (first_row s here))) b a r → not r.whole ≡ false
-      → PartIs (cond y.ruled (rule_text view y.rule ∷ []) []) (take (length a - r.bytes) (drop r.bytes a)) ys q → c ≡ put_mid r.bytes
+      → PartIs (rule_by view y.rule) (take (length a - r.bytes) (drop r.bytes a)) ys q → c ≡ put_mid r.bytes
       (length a - r.bytes) a ys
       → PartIs (drop first (band_lines s view y (rows_in s here))) b c
       (record { lines = r.lines + q.lines; bytes = r.bytes + q.bytes; whole = q.whole })
@@ -404,13 +397,12 @@ module _ (s : List ℕ) (p : Page) (O : Opened s p) (c : Cursor) (A : At s p c) 
   border-start k e = let z : c.line ≡ 0 = omega (arith, A.within, ap length e, border_few s k) in ap (λ n. drop n (part_lines s p c)) z ∙ e
 
   module _ (b a : List ℕ) (r : Part) where
-    pub draw_top : c.stage ≡ Top → PartIs (cond p.styles.has_top (rule_text p.columns.items p.styles.top ∷ []) []) b a r → PartIs
+    pub draw_top : c.stage ≡ Top → PartIs (rule_by p.columns.items p.styles.top) b a r → PartIs
         (drop c.line (part_lines s p c)) b a r
     unfolding part_lines
     draw_top e P = rw (border-start top_border (rw e), ← top-drawn s p O) P
 
-    pub draw_bottom : c.stage ≡ Bottom → PartIs (cond p.styles.has_bottom (rule_text p.columns.items p.styles.bottom ∷ []) []) b a
-        r → PartIs (drop c.line (part_lines s p c)) b a r
+    pub draw_bottom : c.stage ≡ Bottom → PartIs (rule_by p.columns.items p.styles.bottom) b a r → PartIs (drop c.line (part_lines s p c)) b a r
     unfolding part_lines
     draw_bottom e P = rw (border-start bottom_border (rw e), ← bottom-drawn s p O) P
 
@@ -526,10 +518,6 @@ module _ (s : List ℕ) (p : Page) (O : Opened s p) (c : Cursor) where
 pub part_few : (ls : List (List ℕ)) (b a : List ℕ) (r : Part) → PartIs ls b a r → r.lines ≤ length ls
 part_few ls b a r P = omega (arith, P.lines, fitting_few (length b) ls)
 
-pub rule_few : (view : View) (y : RuleStyle) (visible : Bool) → length (cond visible (rule_text view y ∷ []) []) ≤ 1
-rule_few view y true = omega arith
-rule_few view y false = omega arith
-
 module _ (s : List ℕ) (p : Page) (O : Opened s p) where
   rows_left : length (rows_in s p.rows) ≤ 100
   rows_left = omega (arith, rows_number s p.rows, O.rows_few)
@@ -543,26 +531,28 @@ module _ (s : List ℕ) (p : Page) (O : Opened s p) where
   unfolding lines_of
   total_bytes = framed-byte-bound (table_of s) (limits_of s O.passes) (rows_in s p.rows) rows_left O.rows_at.sound
 
-  band_few : (b : Bool) (here : Rows) → RowsAt s here → band_count s b (rows_in s here) ≤ 6449
-  unfolding band_count
-  band_few b here A = go b (rows_in s here) A.sound
+  band_few : (y : RowStyle) (here : Rows) → RowsAt s here → length (band_lines s p.columns.items y (rows_in s here)) ≤ 6449
+  unfolding band_lines
+  band_few y here A = go (rows_in s here) A.sound
     where
-      go : (b : Bool) (rs : List Row) → All (RowLimits (length (table_of s).columns)) rs → band_count s b rs ≤ 6449
-      go b [] a = omega arith
-      go true (r ∷ rs) a = omega (arith, height_bound (table_of s) (widths_in s) r a.0.each)
-      go false (r ∷ rs) a = omega (arith, height_bound (table_of s) (widths_in s) r a.0.each)
-
-  one : (b : Bool) → cond b 1 0 ≤ 1
-  one true = omega arith
-  one false = omega arith
+      go : (rs : List Row) → All (RowLimits (length (table_of s).columns)) rs → length (band_lines s p.columns.items y rs) ≤ 6449
+      go [] a = omega arith
+      go (r ∷ rs) a = omega (
+        arith,
+        length-append (row_lines s y.lines r) (rule_by p.columns.items y.rule),
+        lines-count s y.lines r,
+        rule_few p.columns.items y.rule,
+        height_bound (table_of s) (widths_in s) r a.0.each,
+      )
 
   -- a part's lines
   pub lines_few : (c : Cursor) → RowsAt s c.here → length (part_lines s p c) ≤ 6449
   lines_few c A = go c.stage refl
     where
       go : (g : Stage) → c.stage ≡ g → length (part_lines s p c) ≤ 6449
-      go Top e = omega (arith, top_count s p O c _ e refl, one p.styles.has_top)
-      go Header e = omega (arith, header-count s p O c _ e refl, band_few p.styles.header.ruled p.header O.header_at)
-      go Body e = omega (arith, body-count s p O c _ _ e refl refl, band_few (p.styles.body.ruled && ltb 1 c.here.left) c.here A)
-      go Bottom e = omega (arith, bottom-count s p O c _ e refl, one p.styles.has_bottom)
+      go Top e = omega (arith, top_count s p O c _ e refl, rule_few p.columns.items p.styles.top)
+      go Header e = omega (arith, header-count s p O c _ e refl, band_few p.styles.header p.header O.header_at)
+      go Body e =
+          omega (arith, body-count s p O c _ _ e refl refl, band_few (body_style p.styles.body c.here.left) c.here A)
+      go Bottom e = omega (arith, bottom-count s p O c _ e refl, rule_few p.columns.items p.styles.bottom)
       go End e = omega (arith, end-count s p O c 0 e refl)

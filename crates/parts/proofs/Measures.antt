@@ -22,7 +22,7 @@ use Rattle.row.specs.View.{View, visible_at, Views, shown_of, number_of}
 use Rattle.row.specs.Height.{added_up_to, pairs_held}
 use Rattle.formatting.specs.Shown.{shown_in, kept_lines, pairs_shown}
 use Rattle.formatting.proofs.Shown.{shown-one, shown-all}
-use Rattle.borders.specs.Rule.{rule_style_of}
+use Rattle.formatting.specs.Stand.{text_style_of}
 use Rattle.row.specs.declared.VisibleColumn.{VisibleColumn}
 use Rattle.row.proofs.Joined.{map_numbered}
 use Rattle.display_info.specs.Opened.{widths_in, styles_of, Opened}
@@ -76,24 +76,24 @@ module _ (t : Table) (ws : List ℕ) (view : View) (W : Views t ws view) where
   width-sum = up_to (length view) (omega arith) ∙ sym (ap sum (map_numbered (visible_width t ws) 0 (visible t) ∙ ap (λ n. map here (up_from 0 n))
       (sym W.count)))
 
--- a character is there where it is drawn
-some-drawn : (b : Bool) (c : ℕ) → is_some (then_some b c) ≡ b
+-- a character or a rule is there where it is drawn
+pub some-drawn : {A : Type 0} (b : Bool) (c : A) → is_some (then_some b c) ≡ b
 some-drawn true c = refl
 some-drawn false c = refl
 
 -- the lengths from their parts
-pub lengths_are : (s : List ℕ) (p : Page) → Opened s p → (a b i j n : ℕ) → a ≡ cond (is_some p.styles.body.rule.left) 1 0 → b
-    ≡ cond (is_some p.styles.body.rule.right) 1 0
-    → i ≡ length p.columns.items - 1 → j ≡ cond (is_some p.styles.body.rule.junction) i 0 → n ≡ width_up_to p.columns.items (length p.columns.items) → LengthsAre s
+pub lengths_are : (s : List ℕ) (p : Page) → Opened s p → (a b i j n : ℕ) → a ≡ cond (is_some p.styles.body.lines.left) 1 0 → b
+    ≡ cond (is_some p.styles.body.lines.right) 1 0
+    → i ≡ length p.columns.items - 1 → j ≡ cond (is_some p.styles.body.lines.junction) i 0 → n ≡ width_up_to p.columns.items (length p.columns.items) → LengthsAre s
     (record { line = a + b + j + n; border = a + b + i + n })
-unfolding line_length border_length borders borders_of styles_of rule_style_of
+unfolding line_length border_length borders borders_of styles_of text_style_of
 lengths_are s p O a b i j n ea eb ei ej en =
     let S = (table_of s).style in
     let L = limits_of s O.passes in
     let w : n ≡ sum (visible_widths (table_of s) (widths_in s)) = en ∙ width-sum (table_of s) (widths_in s) p.columns.items O.views in
-    let left : is_some p.styles.body.rule.left ≡ any_left S = ap (λ (l : LineStyles). is_some l.body.rule.left) O.styles ∙ some-drawn (any_left S) _ in
-    let right : is_some p.styles.body.rule.right ≡ any_right S = ap (λ (l : LineStyles). is_some l.body.rule.right) O.styles ∙ some-drawn (any_right S) _ in
-    let inner : is_some p.styles.body.rule.junction ≡ any_junction S = ap (λ (l : LineStyles). is_some l.body.rule.junction) O.styles
+    let left : is_some p.styles.body.lines.left ≡ any_left S = ap (λ (l : LineStyles). is_some l.body.lines.left) O.styles ∙ some-drawn (any_left S) _ in
+    let right : is_some p.styles.body.lines.right ≡ any_right S = ap (λ (l : LineStyles). is_some l.body.lines.right) O.styles ∙ some-drawn (any_right S) _ in
+    let inner : is_some p.styles.body.lines.junction ≡ any_junction S = ap (λ (l : LineStyles). is_some l.body.lines.junction) O.styles
     ∙ some-drawn (any_junction S) _ in
     let x : a ≡ one_if (any_left S) = ea ∙ ap (λ k. cond k 1 0) left ∙ one_if-cond (any_left S) in
     let y : b ≡ one_if (any_right S) = eb ∙ ap (λ k. cond k 1 0) right ∙ one_if-cond (any_right S) in

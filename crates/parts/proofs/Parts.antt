@@ -33,6 +33,10 @@ use Rattle.formatting.specs.Shown.{pairs_shown}
 use Rattle.parts.proofs.Measures.{held-sum, line-sum, shown-sum}
 use Rattle.formatting.specs.RowText.{styled, row_lines, row_height, most_bytes, Sized, Drawable}
 use Rattle.borders.specs.Rule.{rule_text, rule_style_of}
+use Rattle.borders.specs.declared.RuleStyle.{RuleStyle}
+use Rattle.std.specs.Bool.{then_some}
+use Rattle.std.specs.Option.{ForSome, option_and_then}
+use Rattle.std.specs.Prelude.{Option, Some, None}
 use Rattle.formatting.specs.Stand.{text_style_of}
 use Rattle.formatting.proofs.RowText.{lines-count}
 use Rattle.formatting.proofs.Whole.{styled_text}
@@ -42,7 +46,7 @@ use Rattle.display_info.specs.Opened.{widths_in, styles_of, RowsAt, Opened}
 use Rattle.parts.specs.Ahead.{rule_lines, text_lines, first_ruled, header_lines_of, row_lines_of, body_lines, part_by, part_lines, rest_by, rest_lines}
 use Rattle.parts.specs.Ahead.{ahead, lines_of, is_end, first_cursor, At, Next, AfterRow}
 use Rattle.parts.specs.Lengths.{LengthsAre}
-use Rattle.parts.specs.Band.{band_lines, band_count, body_style, SizedBand}
+use Rattle.parts.specs.Band.{rule_by, band_lines, body_style, SizedBand}
 use Rattle.display_info.specs.declared.RowStyle.{RowStyle}
 use Rattle.display_info.specs.declared.Page.{Page}
 use Rattle.parts.specs.declared.cursor.Cursor.{Cursor}
@@ -240,32 +244,32 @@ text-styled s k r = same_map (styled (text_style_of (table_of s).style k)) (text
     (areas (table_of s) (widths_in s) r)
 
 module _ (s : List ℕ) (p : Page) (O : Opened s p) where
-  border-styled : (k : ℕ) → cond (is_visible (table_of s).style k) (rule_text p.columns.items (rule_style_of (table_of s).style true k) ∷ []) []
+  border-styled : (k : ℕ) → rule_by p.columns.items (then_some (is_visible (table_of s).style k) (rule_style_of (table_of s).style true k))
       ≡ rule_lines s true k
   unfolding rule_lines shown
   border-styled k = go (is_visible (table_of s).style k)
     where
-      go : (b : Bool) → cond b (rule_text p.columns.items (rule_style_of (table_of s).style true k) ∷ []) []
+      go : (b : Bool) → rule_by p.columns.items (then_some b (rule_style_of (table_of s).style true k))
           ≡ elim b as (λ x. List (List ℕ)) [ true ↦ ruled (table_of s).style true k (visible_widths (table_of s) (widths_in s)) ∷ [] | false ↦ [] ]
       go true = ap (λ l. l ∷ []) (rule-drawn (table_of s) (widths_in s) p.columns.items O.views (table_of s).style true k)
       go false = refl
 
-  rule-styled : (k : ℕ) → cond (is_visible (table_of s).style k) (rule_text p.columns.items
-      (rule_style_of (table_of s).style (any_junction (table_of s).style) k) ∷ []) [] ≡ rule_lines s false k
+  rule-styled : (k : ℕ) → rule_by p.columns.items
+      (then_some (is_visible (table_of s).style k) (rule_style_of (table_of s).style (any_junction (table_of s).style) k)) ≡ rule_lines s false k
   unfolding rule_lines shown
   rule-styled k = go (is_visible (table_of s).style k)
     where
-      go : (b : Bool) → cond b (rule_text p.columns.items (rule_style_of (table_of s).style (any_junction (table_of s).style) k) ∷ []) []
+      go : (b : Bool) → rule_by p.columns.items (then_some b (rule_style_of (table_of s).style (any_junction (table_of s).style) k))
           ≡ elim b as (λ x. List (List ℕ)) [ true ↦ ruled (table_of s).style false k (visible_widths (table_of s) (widths_in s)) ∷ [] | false ↦ [] ]
       go true = ap (λ l. l ∷ []) (rule-drawn (table_of s) (widths_in s) p.columns.items O.views (table_of s).style false k)
       go false = refl
 
   -- the top border and the bottom border
-  pub top-drawn : cond p.styles.has_top (rule_text p.columns.items p.styles.top ∷ []) [] ≡ rule_lines s true top_border
+  pub top-drawn : rule_by p.columns.items p.styles.top ≡ rule_lines s true top_border
   unfolding styles_of
   top-drawn = rw O.styles (border-styled top_border)
 
-  pub bottom-drawn : cond p.styles.has_bottom (rule_text p.columns.items p.styles.bottom ∷ []) [] ≡ rule_lines s true bottom_border
+  pub bottom-drawn : rule_by p.columns.items p.styles.bottom ≡ rule_lines s true bottom_border
   unfolding styles_of
   bottom-drawn = rw O.styles (border-styled bottom_border)
 
@@ -287,13 +291,13 @@ module _ (s : List ℕ) (p : Page) (O : Opened s p) where
       rw (e, O.styles) (ap (λ n. band_lines s p.columns.items (body_style (styles_of (table_of s).style).body n) (rows_in s here))
       (sym (rows_number s here)) ∙ go (rows_in s here))
     where
-      out : (b : Bool) (x : List (List ℕ)) → cond (b && false) x [] ≡ []
-      out true x = refl
-      out false x = refl
+      out : (o : Option RuleStyle) → rule_by p.columns.items (option_and_then (then_some false) o) ≡ []
+      out None = refl
+      out (Some x) = refl
 
-      kept : (b : Bool) → (b && true) ≡ b
-      kept true = refl
-      kept false = refl
+      kept : (o : Option RuleStyle) → option_and_then (then_some true) o ≡ o
+      kept None = refl
+      kept (Some x) = refl
 
       go : (rs : List Row) → band_lines s p.columns.items (body_style (styles_of (table_of s).style).body (length rs)) rs ≡ body_lines s rs
       go [] = refl
@@ -302,50 +306,27 @@ module _ (s : List ℕ) (p : Page) (O : Opened s p) where
 
   -- ---- counts
 
-  rule-count : (k : ℕ) (always : Bool) → cond (is_visible (table_of s).style k) 1 0 ≡ length (rule_lines s always k)
-  unfolding rule_lines shown
-  rule-count k always = go (is_visible (table_of s).style k)
-    where
-      go : (b : Bool) → cond b 1 0 ≡ length {A = List ℕ} (elim b as (λ x. List (List ℕ))
-          [ true ↦ ruled (table_of s).style always k (visible_widths (table_of s) (widths_in s)) ∷ [] | false ↦ [] ])
-      go true = refl
-      go false = refl
-
   module _ (c : Cursor) (n : ℕ) where
-    pub top_count : c.stage ≡ Top → n ≡ cond p.styles.has_top 1 0 → n ≡ length (part_lines s p c)
-    unfolding part_lines styles_of
-    top_count e f = f ∙ rw (e, O.styles) (rule-count top_border true)
+    pub top_count : c.stage ≡ Top → n ≡ length (rule_by p.columns.items p.styles.top) → n ≡ length (part_lines s p c)
+    unfolding part_lines
+    top_count e f = f ∙ rw (e, top-drawn)
 
-    pub bottom-count : c.stage ≡ Bottom → n ≡ cond p.styles.has_bottom 1 0 → n ≡ length (part_lines s p c)
-    unfolding part_lines styles_of
-    bottom-count e f = f ∙ rw (e, O.styles) (rule-count bottom_border true)
+    pub bottom-count : c.stage ≡ Bottom → n ≡ length (rule_by p.columns.items p.styles.bottom) → n ≡ length (part_lines s p c)
+    unfolding part_lines
+    bottom-count e f = f ∙ rw (e, bottom-drawn)
 
     pub end-count : c.stage ≡ End → n ≡ 0 → n ≡ length (part_lines s p c)
     unfolding part_lines
     end-count e f = f ∙ rw e
 
-  band-count : (y : RowStyle) (rs : List Row) → band_count s y.ruled rs ≡ length (band_lines s p.columns.items y rs)
-  unfolding band_count band_lines
-  band-count y [] = refl
-  band-count y (r ∷ rs) = sym (length-append (row_lines s y.lines r) (cond y.ruled (rule_text p.columns.items y.rule ∷ []) []) ∙ rw
-      (lines-count s y.lines r, one y.ruled))
-    where
-      one : (b : Bool) → length (cond b (rule_text p.columns.items y.rule ∷ []) []) ≡ cond b 1 0
-      one true = refl
-      one false = refl
+    pub header-count : c.stage ≡ Header → n ≡ length (band_lines s p.columns.items p.styles.header (rows_in s p.header)) → n ≡ length (part_lines s p c)
+    unfolding part_lines
+    header-count e f = f ∙ rw (header-drawn, e)
 
-  pub header-count : (c : Cursor) (n : ℕ) → c.stage ≡ Header → n ≡ band_count s p.styles.header.ruled (rows_in s p.header) → n ≡ length
-      (part_lines s p c)
-  unfolding part_lines
-  header-count c n e f = f ∙ band-count p.styles.header (rows_in s p.header) ∙ rw (header-drawn, e)
-
-  pub body-count : (c : Cursor) (n : ℕ) (b : Bool) → c.stage ≡ Body → b ≡ (p.styles.body.ruled && ltb 1 c.here.left) → n ≡ band_count s b
-      (rows_in s c.here) → n ≡ length (part_lines s p c)
-  unfolding part_lines
-  body-count c n b e f g =
-      let y = body_style p.styles.body c.here.left in
-      g ∙ ap (λ x. band_count s x (rows_in s c.here)) f ∙ band-count (body_style p.styles.body c.here.left) (rows_in s c.here)
-      ∙ rw (body-drawn c.here (body_style p.styles.body c.here.left) refl, e)
+    pub body-count : (y : RowStyle) → c.stage ≡ Body → y ≡ body_style p.styles.body c.here.left
+        → n ≡ length (band_lines s p.columns.items y (rows_in s c.here)) → n ≡ length (part_lines s p c)
+    unfolding part_lines
+    body-count y e f g = g ∙ rw (body-drawn c.here y f, e)
 
   -- ---- sizes
 
@@ -423,16 +404,28 @@ module _ (s : List ℕ) (p : Page) (O : Opened s p) where
         ap (λ ls. length (closed ls)) (text-styled s k r) ∙ row-shown t (widths_in s) r k
         ∙ rw (← shown-sum t (widths_in s) p.columns.items O.views r n h, ← L.line)
 
-    rule_sized : (k : ℕ) → l.line + 1 ≡ length (rule_text p.columns.items
+    rule_length : (k : ℕ) → l.line + 1 ≡ length (rule_text p.columns.items
         (rule_style_of (table_of s).style (any_junction (table_of s).style) k)) + 1
-    rule_sized k = rw (
+    rule_length k = rw (
       rule-drawn (table_of s) (widths_in s) p.columns.items O.views (table_of s).style false k,
       rule-length (table_of s)
           (widths_in s) k,
       L.line,
     )
 
-    pub border_sized : (k : ℕ) → l.border + 1 ≡ length (rule_text p.columns.items (rule_style_of (table_of s).style true k)) + 1
+    -- what holds of a rule holds where it may be left out
+    kept_sized : {P : RuleStyle → Type 0} (b : Bool) (o : Option RuleStyle) → ForSome o P → ForSome (option_and_then (then_some b) o) P
+    kept_sized true None F x e = cc
+    kept_sized false None F x e = cc
+    kept_sized true (Some y) F x e = F x e
+    kept_sized false (Some y) F x e = cc
+
+    chosen_sized : (b : Bool) (y : RuleStyle) (n : ℕ) → n ≡ length (rule_text p.columns.items y) + 1
+        → ForSome (then_some b y) (λ x. n ≡ length (rule_text p.columns.items x) + 1)
+    chosen_sized true y n e x f = let g : y ≡ x = cc in rw (← g) e
+    chosen_sized false y n e x f = cc
+
+    border_sized : (k : ℕ) → l.border + 1 ≡ length (rule_text p.columns.items (rule_style_of (table_of s).style true k)) + 1
     border_sized k = rw (
       rule-drawn (table_of s) (widths_in s) p.columns.items O.views (table_of s).style true k,
       border-length (table_of s)
@@ -440,13 +433,17 @@ module _ (s : List ℕ) (p : Page) (O : Opened s p) where
       L.border,
     )
 
-    pub top_sized : l.border + 1 ≡ length (rule_text p.columns.items p.styles.top) + 1
+    pub top_sized : ForSome p.styles.top (λ x. l.border + 1 ≡ length (rule_text p.columns.items x) + 1)
     unfolding styles_of
-    top_sized = rw O.styles (border_sized top_border)
+    top_sized = rw O.styles (chosen_sized (is_visible (table_of s).style top_border) _ _ (border_sized top_border))
 
-    pub bottom_sized : l.border + 1 ≡ length (rule_text p.columns.items p.styles.bottom) + 1
+    pub bottom_sized : ForSome p.styles.bottom (λ x. l.border + 1 ≡ length (rule_text p.columns.items x) + 1)
     unfolding styles_of
-    bottom_sized = rw O.styles (border_sized bottom_border)
+    bottom_sized = rw O.styles (chosen_sized (is_visible (table_of s).style bottom_border) _ _ (border_sized bottom_border))
+
+    rule_sized : (k : ℕ) → ForSome (then_some (is_visible (table_of s).style k) (rule_style_of (table_of s).style (any_junction (table_of s).style) k))
+        (λ x. l.line + 1 ≡ length (rule_text p.columns.items x) + 1)
+    rule_sized k = chosen_sized (is_visible (table_of s).style k) _ _ (rule_length k)
 
     pub header_sized : SizedBand s p.columns.items p.styles.header (rows_in s p.header) p.plain (l.line + 1)
     unfolding styles_of
@@ -465,7 +462,7 @@ module _ (s : List ℕ) (p : Page) (O : Opened s p) where
       text = λ h. text_sized content_lines here A (omega (arith, rows_number s here));
       held = λ h. text-pairs content_lines here A (omega (arith, rows_number s here));
       shown = λ h. text-shown content_lines here;
-      rule = rule_sized row_rule;
+      rule = kept_sized (ltb 1 here.left) _ (rule_sized row_rule);
       small = omega (arith, L.line_small);
     })
 

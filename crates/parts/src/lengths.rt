@@ -1,5 +1,5 @@
 // How long a page's lines are.
-ghost use Rattle.std.specs.Prelude.{◌≡◌, cond, ◌*◌, ◌≤◌, length};
+ghost use Rattle.std.specs.Prelude.{◌≡◌, is_some, cond, ◌*◌, ◌≤◌, length};
 ghost use Rattle.borders.specs.Rule.{NarrowAll};
 ghost use Rattle.display_info.specs.Opened.{Opened};
 ghost use Rattle.parts.specs.Lengths.{width_up_to, LengthsAre};
@@ -14,11 +14,11 @@ pub struct Lengths {
     pub border: usize,
 }
 
-// A count where something is drawn.
-pub fn where_drawn(drawn: bool, n: usize) -> usize
-    ensures { (result ≡ cond drawn n 0) × (result ≤ n) }
+// A count where a character is drawn.
+fn where_drawn(edge: Option<u8>, n: usize) -> usize
+    ensures { (result ≡ cond (is_some edge) n 0) × (result ≤ n) }
 {
-    if drawn { n } else { 0 }
+    if edge.is_some() { n } else { 0 }
 }
 
 // The visible widths of the columns.
@@ -38,12 +38,12 @@ pub fn measure(sheet: &[u8], p: &Page) -> Lengths
     requires { Opened sheet.now p.now }
     ensures { LengthsAre sheet.now result }
 {
-    let style = p.styles.body.rule;
+    let edges = p.styles.body.lines;
     let columns = p.columns.as_slice();
     let inside = columns.len().saturating_sub(1);
-    let edges = where_drawn(style.left.is_some(), 1) + where_drawn(style.right.is_some(), 1);
+    let ends = where_drawn(edges.left, 1) + where_drawn(edges.right, 1);
     let sum = visible_width(columns);
-    let line = edges + where_drawn(style.junction.is_some(), inside) + sum;
-    let border = edges + inside + sum;
+    let line = ends + where_drawn(edges.junction, inside) + sum;
+    let border = ends + inside + sum;
     Lengths { line, border }
 }

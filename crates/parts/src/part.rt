@@ -1,17 +1,17 @@
 // A part of a page: how many lines it has, and the part drawn from one of its lines on, for as many lines as there is room for.
-ghost use Rattle.std.specs.Prelude.{◌≡◌, [], ◌∷◌, cond, ◌+◌, ◌-◌, ◌≤◌, ◌<◌, length, drop};
+ghost use Rattle.std.specs.Prelude.{◌≡◌, ◌+◌, ◌-◌, ◌≤◌, ◌<◌, length, drop};
+ghost use Rattle.std.specs.Option.{ForSome};
 ghost use Rattle.table.specs.Walk.{rows_in, first_row};
 ghost use Rattle.formatting.specs.Part.{PartIs};
 ghost use Rattle.borders.specs.Rule.{rule_text, NarrowAll};
 ghost use Rattle.display_info.specs.Opened.{RowsAt, Opened};
 ghost use Rattle.parts.specs.Ahead.{At, part_lines};
 ghost use Rattle.parts.specs.Lengths.{LengthsAre};
-ghost use Rattle.parts.specs.Band.{band_lines, band_count, body_style, SizedBand};
+ghost use Rattle.parts.specs.Band.{rule_by, band_lines, body_style, SizedBand};
 ghost use Rattle.row.specs.Height.{limited};
 ghost use Rattle.formatting.specs.RowText.{Drawable, row_height};
 
 use crate::cursor::{Cursor, Stage};
-use crate::lengths;
 use crate::lengths::Lengths;
 use borders::RuleStyle;
 use display_info::{Page, RowStyle};
@@ -44,15 +44,15 @@ pub fn row_lines(sheet: &[u8], columns: &[VisibleColumn], here: Rows, plain: boo
 }
 
 // The lines of the first of some rows and of the rule after it.
-fn band_lines(sheet: &[u8], p: &Page, ruled: bool, here: Rows) -> usize
+fn band_lines(sheet: &[u8], p: &Page, style: RowStyle, here: Rows) -> usize
     requires { Opened sheet.now p.now × RowsAt sheet.now here }
-    ensures { result ≡ band_count sheet.now ruled (rows_in sheet.now here) }
+    ensures { result ≡ length (band_lines sheet.now p.now.columns.items style (rows_in sheet.now here)) }
 {
     if here.left == 0 {
         return 0;
     }
     let columns = p.columns.as_slice();
-    row_lines(sheet, columns, here, p.plain) + lengths::where_drawn(ruled, 1)
+    row_lines(sheet, columns, here, p.plain) + usize::from(style.rule.is_some())
 }
 
 // The lines of the part that the cursor stands before.
@@ -62,10 +62,10 @@ pub fn lines(sheet: &[u8], p: &Page, c: Cursor) -> usize
 {
     let styles = p.styles;
     match c.stage {
-        Stage::Top => lengths::where_drawn(styles.has_top, 1),
-        Stage::Header => band_lines(sheet, p, styles.header.ruled, p.header),
-        Stage::Body => band_lines(sheet, p, styles.body.ruled & (1 < c.here.left), c.here),
-        Stage::Bottom => lengths::where_drawn(styles.has_bottom, 1),
+        Stage::Top => usize::from(styles.top.is_some()),
+        Stage::Header => band_lines(sheet, p, styles.header, p.header),
+        Stage::Body => band_lines(sheet, p, body_style(styles.body, c.here.left), c.here),
+        Stage::Bottom => usize::from(styles.bottom.is_some()),
         Stage::End => 0,
     }
 }
@@ -80,20 +80,20 @@ fn nothing(whole: bool) -> Part
     }
 }
 
-// A border or a rule, where it is visible. It takes `size` bytes, its 0A included.
+// A border or a rule, if there is one. It takes `size` bytes, its 0A included.
 fn draw_rule(
     page: &mut [u8],
     columns: &[VisibleColumn],
-    style: RuleStyle,
-    visible: bool,
+    style: Option<RuleStyle>,
     size: usize,
 ) -> Part
-    requires { NarrowAll columns.now × (size ≡ length (rule_text columns.now style) + 1) }
-    ensures { PartIs (cond visible (rule_text columns.now style ∷ []) []) page.old page.new result }
+    requires { NarrowAll columns.now × ForSome style (λ y. size ≡ length (rule_text columns.now y) + 1) }
+    ensures { PartIs (rule_by columns.now style) page.old page.new result }
 {
-    if !visible {
-        return nothing(true);
-    }
+    let style = match style {
+        Some(style) => style,
+        None => return nothing(true),
+    };
     if page.len() < size {
         return nothing(false);
     }
@@ -141,7 +141,7 @@ fn draw_band(
         return text;
     }
     let at = text.bytes;
-    let drawn = draw_rule(&mut page[at..], columns, style.rule, style.ruled, size);
+    let drawn = draw_rule(&mut page[at..], columns, style.rule, size);
     Part {
         lines: text.lines + drawn.lines,
         bytes: at + drawn.bytes,
@@ -149,12 +149,12 @@ fn draw_band(
     }
 }
 
-// The rows' style, where a rule stands only between two rows.
+// The rows' style: no rule stands after the last of them.
 pub fn body_style(style: RowStyle, left: usize) -> RowStyle
     ensures { result ≡ body_style style left }
 {
     RowStyle {
-        ruled: style.ruled & (1 < left),
+        rule: style.rule.filter(|_| 1 < left),
         ..style
     }
 }
@@ -168,13 +168,13 @@ pub fn draw(page: &mut [u8], sheet: &[u8], p: &Page, l: Lengths, c: Cursor) -> P
     let columns = p.columns.as_slice();
     let (line, border) = (l.line + 1, l.border + 1);
     match c.stage {
-        Stage::Top => draw_rule(page, columns, styles.top, styles.has_top, border),
+        Stage::Top => draw_rule(page, columns, styles.top, border),
         Stage::Header => draw_band(page, sheet, p, styles.header, p.header, c.line, line),
         Stage::Body => {
             let body = body_style(styles.body, c.here.left);
             draw_band(page, sheet, p, body, c.here, c.line, line)
         }
-        Stage::Bottom => draw_rule(page, columns, styles.bottom, styles.has_bottom, border),
+        Stage::Bottom => draw_rule(page, columns, styles.bottom, border),
         Stage::End => nothing(true),
     }
 }

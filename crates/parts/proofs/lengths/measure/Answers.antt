@@ -55,6 +55,6 @@ overflow_add-border-2 c =
 
 pub returns : goal.returns
 returns c =
-    lengths_are c.args.sheet.now c.args.p.now c.requires _ _ _ _ _ (rw c.is_some.ensures at c.where_drawn.ensures.0)
-    (rw c.is_some-2.ensures at c.where_drawn-2.ensures.0) (rw c.as_slice-columns.ensures.value at c.saturating_sub-inside.ensures)
-    (rw c.is_some-3.ensures at c.where_drawn-3.ensures.0) (rw c.as_slice-columns.ensures.value at c.visible_width-sum.ensures.0)
+    lengths_are c.args.sheet.now c.args.p.now c.requires _ _ _ _ _ c.where_drawn.ensures.0
+    c.where_drawn-2.ensures.0 (rw c.as_slice-columns.ensures.value at c.saturating_sub-inside.ensures)
+    c.where_drawn-3.ensures.0 (rw c.as_slice-columns.ensures.value at c.visible_width-sum.ensures.0)

@@ -57,7 +57,7 @@ overflow_add-result c =
       lines-count c.args.sheet.now c.args.style.lines (first_row c.args.sheet.now c.args.here),
       Z.bounded.few,
       part_few _ _ _ _ (rw c.as_slice-columns.ensures.value at c.draw_rule-drawn.ensures),
-      rule_few c.args.p.now.columns.items c.args.style.rule c.args.style.ruled,
+      rule_few c.args.p.now.columns.items c.args.style.rule,
     )
 
 pub overflow_add-result-2 : goal.overflow_add-result-2
