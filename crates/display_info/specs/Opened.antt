@@ -1,5 +1,5 @@
 -- What a page is drawn from. Assumes nothing.
-use Rattle.std.specs.Prelude.{ℕ, ◌≤◌, ◌≡◌, ◌⊎◌, List, true, length, drop}
+use Rattle.std.specs.Prelude.{ℕ, ◌-◌, ◌≤◌, ◌≡◌, ◌⊎◌, List, true, length, drop}
 use Rattle.std.specs.Bool.{then_some}
 use Rattle.rules.specs.Text.{All}
 use Rattle.rules.specs.Limits.{RowLimits, PlainTable}
@@ -13,7 +13,8 @@ use Rattle.borders.specs.Rule.{NarrowAll, rule_style_of}
 use Rattle.row.specs.View.{Views}
 use Rattle.formatting.specs.Stand.{text_style_of}
 use Rattle.display_info.specs.declared.LineStyles.{LineStyles}
-use Rattle.display_info.specs.declared.Page.{Page}
+use Rattle.display_info.specs.declared.DisplayInfo.{DisplayInfo}
+use Rattle.display_info.specs.Lengths.{LengthsAre}
 
 -- the content widths of a sheet's table
 abbrev pub widths_in : List ℕ → List ℕ
@@ -41,8 +42,8 @@ pub record RowsAt (s : List ℕ) (c : Rows) : Type 0 where
   pub skipped : ℕ
   pub among : (rows_in s c ≡ drop skipped (table_of s).header) ⊎ (rows_in s c ≡ drop skipped (table_of s).rows)
 
--- a page over some rows is drawn from the sheet's columns, style and header
-pub record Opened (s : List ℕ) (p : Page) : Type 0 where
+-- a page over the last few rows of the sheet is drawn from its columns, style and header
+pub record Opened (s : List ℕ) (p : DisplayInfo) : Type 0 where
   pub passes : IsAccepted s
   pub views : Views (table_of s) (widths_in s) p.columns.items
   pub rising : Rising p.columns.items
@@ -50,8 +51,10 @@ pub record Opened (s : List ℕ) (p : Page) : Type 0 where
   pub plain : p.plain ≡ true → PlainTable (table_of s)
   pub narrow : NarrowAll p.columns.items
   pub styles : p.styles ≡ styles_of (table_of s).style
+  pub lengths : LengthsAre s p.lengths
   pub header : rows_in s p.header ≡ (table_of s).header
-  pub header_at : RowsAt s p.header
+  pub header_ends : rows_end s p.header ≤ length s
   pub header_one : p.header.left ≤ 1
-  pub rows_at : RowsAt s p.rows
+  pub rows : rows_in s p.rows ≡ drop (length (table_of s).rows - p.rows.left) (table_of s).rows
+  pub rows_ends : rows_end s p.rows ≤ length s
   pub rows_few : p.rows.left ≤ 100

@@ -1,6 +1,8 @@
 // What every line of a page is drawn from, read from an accepted sheet once.
 #![tactic(auto)]
 
+pub mod lengths;
+
 ghost use Rattle.std.specs.Prelude.{◌≡◌, true, ◌+◌, ◌<◌};
 ghost use Rattle.rules.specs.Sheet.{most_columns};
 ghost use Rattle.arrayvec.specs.ArrayVec.{array_vec_len};
@@ -12,12 +14,15 @@ ghost use Rattle.table.specs.Held.{table_of};
 ghost use Rattle.table.specs.Walk.{rows_in};
 ghost use Rattle.arrangement.specs.Widths.{style_from, arranged_widths};
 ghost use Rattle.row.specs.View.{Views};
+ghost use Rattle.formatting.specs.RowText.{Marks};
 ghost use Rattle.formatting.specs.Stand.{text_style_of};
 ghost use Rattle.borders.specs.Rule.{rule_style_of, NarrowAll};
 ghost use Rattle.row.specs.Open.{Rising, UsableAll};
 ghost use Rattle.display_info.specs.Opened.{styles_of, Opened};
+ghost use Rattle.display_info.specs.Props.{props};
 ghost use Rattle.display_info.specs.Opening.{edges_of, showing};
 
+use crate::lengths::Lengths;
 use arrangement::{Widths, layout};
 use arrayvec::ArrayVec;
 use borders::RuleStyle;
@@ -49,15 +54,32 @@ pub struct LineStyles {
     pub bottom: Option<RuleStyle>,
 }
 
-// A page over some rows of the sheet: the visible columns, the lines' styles, the header and the rows. On a plain page no cell has a pair, so that
-// each text line has as many bytes as columns.
+// What a page over some rows of the sheet is drawn from. On a plain page no cell has a pair, so that each text line has as many bytes as columns.
 #[derive(Drop)]
-pub struct Page {
+pub struct DisplayInfo {
     pub plain: bool,
     pub columns: ArrayVec<VisibleColumn, MOST_COLUMNS>,
     pub styles: LineStyles,
+    pub lengths: Lengths,
     pub header: Rows,
     pub rows: Rows,
+}
+
+// An accepted sheet, lent, and what its page is drawn from.
+#[derive(Drop)]
+pub struct Page<'a> {
+    pub sheet: &'a [u8],
+    pub info: DisplayInfo,
+    pub ghost opened: { Opened sheet.now info } by { Prim.hlevel props },
+}
+
+impl<'a> Page<'a> {
+    // What stands behind a text that is cut, a part of the sheet.
+    pub fn indicator(&self) -> &'a [u8]
+        ensures { Marks self.now.sheet.now result.now }
+    {
+        AcceptedSheet { bytes: self.sheet }.indicator()
+    }
 }
 
 // Unset characters print as a space.
@@ -196,28 +218,35 @@ pub fn content_widths(sheet: &AcceptedSheet<'_>) -> Widths
 }
 
 // The page over all rows of the sheet, by its widths; it may be called plain if the check found it so.
-pub fn open_by(sheet: &AcceptedSheet<'_>, plain: bool, widths: Widths) -> Page
+pub fn open_by<'a>(sheet: &AcceptedSheet<'a>, plain: bool, widths: Widths) -> Page<'a>
     requires arranged { widths ≡ arranged_widths (table_of sheet.now.bytes.now) }
     requires plain_table { plain ≡ true → PlainTable (table_of sheet.now.bytes.now) }
-    ensures { Opened sheet.now.bytes.now result × (rows_in sheet.now.bytes.now result.rows ≡ (table_of sheet.now.bytes.now).rows) }
+    ensures same_sheet { result.sheet.now ≡ sheet.now.bytes.now }
+    ensures all_rows { rows_in sheet.now.bytes.now result.info.rows ≡ (table_of sheet.now.bytes.now).rows }
 {
     let columns = show_columns(sheet, widths);
     let styles = styles(sheet.style());
+    let lengths = lengths::measure(columns.as_slice(), styles.body.lines);
     let header = sheet.header();
     let rows = sheet.rows(header);
     Page {
-        plain,
-        columns,
-        styles,
-        header,
-        rows,
+        sheet: sheet.bytes,
+        info: DisplayInfo {
+            plain,
+            columns,
+            styles,
+            lengths,
+            header,
+            rows,
+        },
     }
 }
 
 // The page, once its widths are found.
-pub fn open(sheet: &AcceptedSheet<'_>, plain: bool) -> Page
+pub fn open<'a>(sheet: &AcceptedSheet<'a>, plain: bool) -> Page<'a>
     requires { plain ≡ true → PlainTable (table_of sheet.now.bytes.now) }
-    ensures { Opened sheet.now.bytes.now result × (rows_in sheet.now.bytes.now result.rows ≡ (table_of sheet.now.bytes.now).rows) }
+    ensures same_sheet { result.sheet.now ≡ sheet.now.bytes.now }
+    ensures all_rows { rows_in sheet.now.bytes.now result.info.rows ≡ (table_of sheet.now.bytes.now).rows }
 {
     open_by(sheet, plain, content_widths(sheet))
 }

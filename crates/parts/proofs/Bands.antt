@@ -42,17 +42,14 @@ use Rattle.formatting.proofs.Parts.{part_none, part-line, part-full, part_join, 
 use Rattle.borders.proofs.Rule.{rule_text_lem}
 use Rattle.display_info.specs.Opened.{widths_in, RowsAt, Opened}
 use Rattle.parts.specs.Ahead.{rule_lines, part_lines, lines_of, At}
-use Rattle.parts.specs.Lengths.{LengthsAre}
-use Rattle.parts.specs.declared.lengths.Lengths.{Lengths}
-use Rattle.parts.specs.Band.{rule_by, band_lines, body_style, SizedBand}
-use Rattle.display_info.specs.declared.Page.{Page}
+use Rattle.parts.specs.Band.{rule_by, SizedRule, band_lines, body_style, SizedBand}
+use Rattle.display_info.specs.declared.DisplayInfo.{DisplayInfo}
 use Rattle.display_info.specs.declared.RowStyle.{RowStyle}
 use Rattle.parts.specs.declared.cursor.Cursor.{Cursor}
 use Rattle.parts.specs.declared.cursor.Stage.{Stage}
 use Rattle.parts.specs.declared.cursor.Stage.TheVariants.{Top, Header, Body, Bottom, End}
-use Rattle.display_info.proofs.Opening.{limits_of}
-use Rattle.parts.proofs.Parts.{border_few, border_lengths, border-most, top-drawn, bottom-drawn, header-drawn, body-drawn}
-use Rattle.parts.proofs.Parts.{top_count, header-count, body-count, bottom-count, end-count}
+use Rattle.display_info.proofs.Opening.{limits_of, header_at, rows_at}
+use Rattle.parts.proofs.Parts.{part_top, part_header, part_body, part_bottom, part_end}
 
 pub drop-append : {A : Type 0} (n : ℕ) (xs ys : List A) → n ≤ length xs → drop n (xs ++ ys) ≡ drop n xs ++ ys
 drop-append zero xs ys h = refl
@@ -166,14 +163,14 @@ module _ (s : List ℕ) (view : View) (y : RowStyle) (here : Rows) (plain : Bool
   rule-each : All (λ l. length l + 1 ≡ size) (rule_by view y.rule)
   rule-each = go y.rule B.rule
     where
-      go : (o : Option RuleStyle) → ForSome o (λ x. size ≡ length (rule_text view x) + 1) → All (λ l. length l + 1 ≡ size) (rule_by view o)
+      go : (o : Option RuleStyle) → SizedRule view o size → All (λ l. length l + 1 ≡ size) (rule_by view o)
       go (Some x) F = (sym (F x refl), tt)
       go None F = tt
 
   rule_bytes_lem : length (closed (rule_by view y.rule)) ≡ cond (is_some y.rule) size 0
   rule_bytes_lem = go y.rule B.rule
     where
-      go : (o : Option RuleStyle) → ForSome o (λ x. size ≡ length (rule_text view x) + 1) → length (closed (rule_by view o)) ≡ cond (is_some o) size 0
+      go : (o : Option RuleStyle) → SizedRule view o size → length (closed (rule_by view o)) ≡ cond (is_some o) size 0
       go (Some x) F = ap length (closed-one (rule_text view x)) ∙ length-append (rule_text view x) (10 ∷ []) ∙ sym (F x refl)
       go None F = no_bytes
 
@@ -373,163 +370,44 @@ module _ (s : List ℕ) (view : View) (y : RowStyle) (here : Rows) (first : ℕ)
       (record { lines = r.lines + q.lines; bytes = r.bytes + q.bytes; whole = q.whole })
   band_whole b a c ys r q P e Q f = rw band-split (part_join _ _ b a c ys r q P (not-false r.whole e) Q f)
 
--- ---- a part drawn
+-- ---- a border
 
-module _ (s : List ℕ) (p : Page) (O : Opened s p) (c : Cursor) (A : At s p c) where
-  header-part : c.stage ≡ Header → part_lines s p c ≡ band_lines s p.columns.items p.styles.header (rows_in s p.header)
-  unfolding part_lines
-  header-part e = rw e (sym (header-drawn s p O))
+module _ (view : View) where
+  pub border_bytes : (o : Option RuleStyle) (m n : ℕ) → SizedRule view o m → n ≡ length (rule_by view o) → n * m ≡ length (closed (rule_by view o))
+  border_bytes None m n S e = rw e (omega (arith, no_bytes))
+  border_bytes (Some x) m n S e =
+      rw e (omega (arith, S x refl, ap length (closed-one (rule_text view x)), length-append (rule_text view x) (10 ∷ [])))
 
-  body-part : (y : RowStyle) → c.stage ≡ Body → y ≡ body_style p.styles.body c.here.left → part_lines s p c ≡ band_lines s
-      p.columns.items y (rows_in s c.here)
-  unfolding part_lines
-  body-part y e f = rw e (sym (body-drawn s p O c.here y f))
+  pub border_most : (o : Option RuleStyle) (m n : ℕ) → n ≡ length (rule_by view o) → n * m ≤ m
+  border_most None m n e = rw e (omega arith)
+  border_most (Some x) m n e = rw e (omega arith)
 
-  pub header-within : c.stage ≡ Header → c.line ≤ length (band_lines s p.columns.items p.styles.header (rows_in s p.header)) - 1
-  header-within e = rw (← header-part e) A.within
+  pub border_line : (o : Option RuleStyle) (m n : ℕ) → SizedRule view o m → n < length (rule_by view o)
+      → m ≡ length (get_or (rule_by view o) n []) + 1
+  border_line None m n S h = absurd (omega arith)
+  border_line (Some x) m n S h = let z : n ≡ 0 = omega arith in rw z (S x refl)
 
-  pub body-within : (y : RowStyle) → c.stage ≡ Body → y ≡ body_style p.styles.body c.here.left → c.line ≤ length
-      (band_lines s p.columns.items y (rows_in s c.here)) - 1
-  body-within y e f = rw (← body-part y e f) A.within
-
-  -- a border has one line or none, so the cursor is at its start
-  border-start : (k : ℕ) → part_lines s p c ≡ rule_lines s true k → drop c.line (part_lines s p c) ≡ rule_lines s true k
-  border-start k e = let z : c.line ≡ 0 = omega (arith, A.within, ap length e, border_few s k) in ap (λ n. drop n (part_lines s p c)) z ∙ e
-
-  module _ (b a : List ℕ) (r : Part) where
-    pub draw_top : c.stage ≡ Top → PartIs (rule_by p.columns.items p.styles.top) b a r → PartIs
-        (drop c.line (part_lines s p c)) b a r
-    unfolding part_lines
-    draw_top e P = rw (border-start top_border (rw e), ← top-drawn s p O) P
-
-    pub draw_bottom : c.stage ≡ Bottom → PartIs (rule_by p.columns.items p.styles.bottom) b a r → PartIs (drop c.line (part_lines s p c)) b a r
-    unfolding part_lines
-    draw_bottom e P = rw (border-start bottom_border (rw e), ← bottom-drawn s p O) P
-
-    pub draw_header : c.stage ≡ Header → PartIs (drop c.line (band_lines s p.columns.items p.styles.header (rows_in s p.header))) b
-        a r → PartIs (drop c.line (part_lines s p c)) b a r
-    draw_header e P = rw (header-part e) P
-
-    pub draw-body : (y : RowStyle) → c.stage ≡ Body → y ≡ body_style p.styles.body c.here.left
-        → PartIs (drop c.line (band_lines s p.columns.items y (rows_in s c.here))) b a r → PartIs (drop c.line (part_lines s p c)) b a
-        r
-    draw-body y e f P = rw (body-part y e f) P
-
-  pub draw_end : (b : List ℕ) → c.stage ≡ End → PartIs (drop c.line (part_lines s p c)) b b (record { lines = 0; bytes = 0; whole = true })
-  unfolding part_lines
-  draw_end b e = rw (e, drop-nil c.line) (part_none b)
-
--- ---- a part's bytes, and those of one of its lines
-
-module _ (s : List ℕ) (p : Page) (O : Opened s p) (c : Cursor) where
-  border_bytes : (k n m : ℕ) → part_lines s p c ≡ rule_lines s true k → n ≡ length (part_lines s p c) → m ≡ border_length (table_of s) (widths_in s) + 1
-      → n * m ≡ length (closed (part_lines s p c))
-  border_bytes k n m e f g =
-      rw (f, g, e) (sym (closed_sized (border_length (table_of s) (widths_in s) + 1) (rule_lines s true k) (border_lengths s k)))
-
-  border-line : (k m : ℕ) → part_lines s p c ≡ rule_lines s true k → m ≡ border_length (table_of s) (widths_in s) + 1 → c.line < length (part_lines s p c)
-      → m ≡ length (get_or (part_lines s p c) c.line []) + 1
-  border-line k m e g h =
-      g ∙ sym (all_get_d (λ l. length l + 1 ≡ border_length (table_of s) (widths_in s) + 1) (part_lines s p c) c.line [] h (rw e (border_lengths s k)))
-
-  part_top : c.stage ≡ Top → part_lines s p c ≡ rule_lines s true top_border
-  unfolding part_lines
-  part_top e = rw e
-
-  part_bottom : c.stage ≡ Bottom → part_lines s p c ≡ rule_lines s true bottom_border
-  unfolding part_lines
-  part_bottom e = rw e
-
-  part_header : c.stage ≡ Header → part_lines s p c ≡ band_lines s p.columns.items p.styles.header (rows_in s p.header)
-  unfolding part_lines
-  part_header e = rw e (sym (header-drawn s p O))
-
-  part_body : (y : RowStyle) → c.stage ≡ Body → y ≡ body_style p.styles.body c.here.left
-      → part_lines s p c ≡ band_lines s p.columns.items y (rows_in s c.here)
-  unfolding part_lines
-  part_body y e f = rw e (sym (body-drawn s p O c.here y f))
-
-  module _ (l : Lengths) (L : LengthsAre s l) (n : ℕ) (h : n ≡ length (part_lines s p c)) where
-    pub top-most : c.stage ≡ Top → n * (l.border + 1) ≤ longest_line + 1
-    top-most e =
-        let z = border_bytes top_border n (l.border + 1) (part_top e) h (rw L.border) ∙ ap (λ ls. length (closed ls)) (part_top e) in
-        omega (arith, z, border-most s top_border, L.border, L.border_small)
-
-    pub bottom-most : c.stage ≡ Bottom → n * (l.border + 1) ≤ longest_line + 1
-    bottom-most e =
-        let z = border_bytes bottom_border n (l.border + 1) (part_bottom e) h (rw L.border) ∙ ap (λ ls. length (closed ls)) (part_bottom e) in
-        omega (arith, z, border-most s bottom_border, L.border, L.border_small)
-
-    pub top_bytes : c.stage ≡ Top → n * (l.border + 1) ≡ length (closed (part_lines s p c))
-    top_bytes e = border_bytes top_border n (l.border + 1) (part_top e) h (rw L.border)
-
-    pub bottom_bytes : c.stage ≡ Bottom → n * (l.border + 1) ≡ length (closed (part_lines s p c))
-    bottom_bytes e = border_bytes bottom_border n (l.border + 1) (part_bottom e) h (rw L.border)
-
-  pub end_bytes : c.stage ≡ End → 0 ≡ length (closed (part_lines s p c))
-  unfolding part_lines
-  end_bytes e = rw e (sym no_bytes)
-
-  pub header-here : c.stage ≡ Header → (n : ℕ) → n ≡ length (part_lines s p c)
-      → n ≡ length (band_lines s p.columns.items p.styles.header (rows_in s p.header))
-  header-here e n h = h ∙ ap length (part_header e)
-
-  pub body-here : (y : RowStyle) → c.stage ≡ Body → y ≡ body_style p.styles.body c.here.left → (n : ℕ) → n ≡ length (part_lines s p c)
-      → n ≡ length (band_lines s p.columns.items y (rows_in s c.here))
-  body-here y e f n h = h ∙ ap length (part_body y e f)
-
-  pub header_bytes : c.stage ≡ Header → (r : ℕ) → r ≡ length (closed (band_lines s p.columns.items p.styles.header (rows_in s p.header)))
-      → r ≡ length (closed (part_lines s p c))
-  header_bytes e r h = h ∙ ap (λ ls. length (closed ls)) (sym (part_header e))
-
-  pub body_bytes : (y : RowStyle) → c.stage ≡ Body → y ≡ body_style p.styles.body c.here.left → (r : ℕ)
-      → r ≡ length (closed (band_lines s p.columns.items y (rows_in s c.here))) → r ≡ length (closed (part_lines s p c))
-  body_bytes y e f r h = h ∙ ap (λ ls. length (closed ls)) (sym (part_body y e f))
-
-  module _ (h : c.line < length (part_lines s p c)) where
-    pub top-line : (l : Lengths) → LengthsAre s l → c.stage ≡ Top → l.border + 1 ≡ length (get_or (part_lines s p c) c.line []) + 1
-    top-line l L e = border-line top_border (l.border + 1) (part_top e) (rw L.border) h
-
-    pub bottom-line : (l : Lengths) → LengthsAre s l → c.stage ≡ Bottom → l.border + 1 ≡ length (get_or (part_lines s p c) c.line []) + 1
-    bottom-line l L e = border-line bottom_border (l.border + 1) (part_bottom e) (rw L.border) h
-
-    pub header_there : c.stage ≡ Header → c.line < length (band_lines s p.columns.items p.styles.header (rows_in s p.header))
-    header_there e = rw (part_header e) at h
-
-    pub body_there : (y : RowStyle) → c.stage ≡ Body → y ≡ body_style p.styles.body c.here.left
-        → c.line < length (band_lines s p.columns.items y (rows_in s c.here))
-    body_there y e f = rw (part_body y e f) at h
-
-    pub end_line : c.stage ≡ End → 1 ≡ length (get_or (part_lines s p c) c.line []) + 1
-    unfolding part_lines
-    end_line e = absurd (omega (arith, rw e at h))
-
-  pub header-line : c.stage ≡ Header → (r : ℕ) → r ≡ length (get_or (band_lines s p.columns.items p.styles.header (rows_in s p.header)) c.line []) + 1
-      → r ≡ length (get_or (part_lines s p c) c.line []) + 1
-  header-line e r h = h ∙ ap (λ ls. length (get_or ls c.line []) + 1) (sym (part_header e))
-
-  pub body-line : (y : RowStyle) → c.stage ≡ Body → y ≡ body_style p.styles.body c.here.left → (r : ℕ)
-      → r ≡ length (get_or (band_lines s p.columns.items y (rows_in s c.here)) c.line []) + 1
-      → r ≡ length (get_or (part_lines s p c) c.line []) + 1
-  body-line y e f r h = h ∙ ap (λ ls. length (get_or ls c.line []) + 1) (sym (part_body y e f))
+  -- it has one line or none, so that it is drawn from its start
+  pub border_start : (o : Option RuleStyle) (n : ℕ) → n ≤ length (rule_by view o) - 1 → drop n (rule_by view o) ≡ rule_by view o
+  border_start o n h = let z : n ≡ 0 = omega (arith, rule_few view o) in rw z
 
 -- ---- how many lines
 
 pub part_few : (ls : List (List ℕ)) (b a : List ℕ) (r : Part) → PartIs ls b a r → r.lines ≤ length ls
 part_few ls b a r P = omega (arith, P.lines, fitting_few (length b) ls)
 
-module _ (s : List ℕ) (p : Page) (O : Opened s p) where
+module _ (s : List ℕ) (p : DisplayInfo) (O : Opened s p) where
   rows_left : length (rows_in s p.rows) ≤ 100
   rows_left = omega (arith, rows_number s p.rows, O.rows_few)
 
   -- a page has at most a million lines, each within the longest
   pub total-lines : length (lines_of s p) ≤ most_lines
   unfolding lines_of
-  total-lines = framed-count (table_of s) (limits_of s O.passes) (widths_in s) (rows_in s p.rows) rows_left O.rows_at.sound
+  total-lines = framed-count (table_of s) (limits_of s O.passes) (widths_in s) (rows_in s p.rows) rows_left (rows_at s p O).sound
 
   pub total_bytes : length (closed (lines_of s p)) ≤ most_lines * (longest_line + 1)
   unfolding lines_of
-  total_bytes = framed-byte-bound (table_of s) (limits_of s O.passes) (rows_in s p.rows) rows_left O.rows_at.sound
+  total_bytes = framed-byte-bound (table_of s) (limits_of s O.passes) (rows_in s p.rows) rows_left (rows_at s p O).sound
 
   band_few : (y : RowStyle) (here : Rows) → RowsAt s here → length (band_lines s p.columns.items y (rows_in s here)) ≤ 6449
   unfolding band_lines
@@ -550,9 +428,10 @@ module _ (s : List ℕ) (p : Page) (O : Opened s p) where
   lines_few c A = go c.stage refl
     where
       go : (g : Stage) → c.stage ≡ g → length (part_lines s p c) ≤ 6449
-      go Top e = omega (arith, top_count s p O c _ e refl, rule_few p.columns.items p.styles.top)
-      go Header e = omega (arith, header-count s p O c _ e refl, band_few p.styles.header p.header O.header_at)
+      go Top e = omega (arith, ap length (part_top s p O c e).lines, rule_few p.columns.items p.styles.top)
+      go Header e = omega (arith, ap length (part_header s p O c e).lines, band_few p.styles.header p.header (header_at s p O))
       go Body e =
-          omega (arith, body-count s p O c _ _ e refl refl, band_few (body_style p.styles.body c.here.left) c.here A)
-      go Bottom e = omega (arith, bottom-count s p O c _ e refl, rule_few p.columns.items p.styles.bottom)
-      go End e = omega (arith, end-count s p O c 0 e refl)
+          let y = body_style p.styles.body c.here.left in
+          omega (arith, ap length (part_body s p O c A y e refl).lines, band_few y c.here A)
+      go Bottom e = omega (arith, ap length (part_bottom s p O c e).lines, rule_few p.columns.items p.styles.bottom)
+      go End e = omega (arith, ap length (part_end s p O c e).lines)

@@ -19,7 +19,11 @@ abbrev pub rule_by : View → Option RuleStyle → List (List ℕ)
 rule_by view None = []
 rule_by view (Some y) = rule_text view y ∷ []
 
--- its lines
+-- its line takes n bytes, its 0A included
+abbrev pub SizedRule : View → Option RuleStyle → ℕ → Type 0
+SizedRule view y n = ForSome y (λ x. n ≡ length (rule_text view x) + 1)
+
+-- the lines of the first of some rows and of the rule after it
 unfoldable pub band_lines : List ℕ → View → RowStyle → List Row → List (List ℕ)
 band_lines s view y [] = []
 band_lines s view y (r ∷ rs) = row_lines s y.lines r ++ rule_by view y.rule
@@ -38,5 +42,5 @@ pub record SizedBand (s : List ℕ) (view : View) (y : RowStyle) (rs : List Row)
       → length (closed (row_lines s y.lines (get_or rs 0 no_row)))
       ≡ row_height s (get_or rs 0 no_row) * n
       + added_up_to (pairs_shown (table_of s).indicator (get_or rs 0 no_row).limit 0 k) (get_or rs 0 no_row).cells view (length view)
-  pub rule : ForSome y.rule (λ x. n ≡ length (rule_text view x) + 1)
+  pub rule : SizedRule view y.rule n
   pub small : n ≤ longest_line + 1

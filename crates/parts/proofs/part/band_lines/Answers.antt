@@ -7,16 +7,16 @@ pub returns-then-here-eq0 : goal.returns-then-here-eq0
 returns-then-here-eq0 c = band-none _ _ _ _ c.if-here-eq0.true
 
 pub row_lines-requires : goal.row_lines-requires
-row_lines-requires c = rw c.as_slice-columns.ensures.value (drawable _ _ c.requires.0 _ c.requires.1 (omega (arith, c.if-here-eq0.false)))
+row_lines-requires c = rw c.as_slice-columns.ensures.value (drawable _ _ c.args.p.now.opened _ c.requires (omega (arith, c.if-here-eq0.false)))
 
 pub overflow_add-result : goal.overflow_add-result
 overflow_add-result c =
     omega (
       arith,
-      row-height_few _ _ c.requires.1 (omega (arith, c.if-here-eq0.false)),
+      row-height_few _ _ c.requires (omega (arith, c.if-here-eq0.false)),
       c.row_lines.ensures,
-      rule_count c.args.p.now.columns.items c.args.style.rule,
-      rule_few c.args.p.now.columns.items c.args.style.rule,
+      rule_count c.args.p.now.info.columns.items c.args.style.rule,
+      rule_few c.args.p.now.info.columns.items c.args.style.rule,
       (rw c.is_some.ensures at c.from.ensures),
     )
 

@@ -1,10 +1,9 @@
 // How long a page's lines are.
 ghost use Rattle.std.specs.Prelude.{◌≡◌, is_some, cond, ◌*◌, ◌≤◌, length};
 ghost use Rattle.borders.specs.Rule.{NarrowAll};
-ghost use Rattle.display_info.specs.Opened.{Opened};
-ghost use Rattle.parts.specs.Lengths.{width_up_to, LengthsAre};
+ghost use Rattle.display_info.specs.Lengths.{width_up_to, measured};
 
-use display_info::Page;
+use buffer::Edges;
 use row::VisibleColumn;
 
 // How long lines are, without their 0A: text lines in columns and rules, and borders.
@@ -33,13 +32,11 @@ fn visible_width(columns: &[VisibleColumn]) -> usize
     sum
 }
 
-// How long the lines of a page are.
-pub fn measure(sheet: &[u8], p: &Page) -> Lengths
-    requires { Opened sheet.now p.now }
-    ensures { LengthsAre sheet.now result }
+// How long the lines of these columns are, where text lines have these edges.
+pub fn measure(columns: &[VisibleColumn], edges: Edges) -> Lengths
+    requires { NarrowAll columns.now }
+    ensures { result ≡ measured columns.now edges }
 {
-    let edges = p.styles.body.lines;
-    let columns = p.columns.as_slice();
     let inside = columns.len().saturating_sub(1);
     let ends = where_drawn(edges.left, 1) + where_drawn(edges.right, 1);
     let sum = visible_width(columns);
