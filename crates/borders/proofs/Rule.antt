@@ -20,8 +20,8 @@ use Rattle.borders.specs.Rule.{rule_area, rule_piece, rule_text, rule_bytes, rul
 use Rattle.borders.specs.declared.RuleStyle.{RuleStyle}
 
 module _ (view : View) (style : RuleStyle) where
-  pub rule_is : rule_bytes view style ≡ drawn style.left ++
-      (build (rule_piece view style) (length view) ++ (drawn style.right ++ (10 ∷ [])))
+  pub rule_is : rule_bytes view style ≡ drawn style.edges.left ++
+      (build (rule_piece view style) (length view) ++ (drawn style.edges.right ++ (10 ∷ [])))
   unfolding rule_bytes
   rule_is = refl
 
@@ -30,25 +30,25 @@ module _ (view : View) (style : RuleStyle) where
   rule_text_lem = simp append_assoc
 
   pub rule-length : length (rule_bytes view style)
-      ≡ length (drawn style.left) + length (build (rule_piece view style) (length view)) + length
-      (drawn style.right) + 1
+      ≡ length (drawn style.edges.left) + length (build (rule_piece view style) (length view)) + length
+      (drawn style.edges.right) + 1
   unfolding rule_bytes
   rule-length =
-      let l = drawn style.left in
+      let l = drawn style.edges.left in
       let b = build (rule_piece view style) (length view) in
-      let r = drawn style.right in
+      let r = drawn style.edges.right in
       omega (arith, length-append l (b ++ (r ++ (10 ∷ []))), length-append b (r ++ (10 ∷ [])), length-append r (10 ∷ []))
 
   -- the whole, once its last byte is stored
-  pub rule_whole : (d d₁ d₂ d₃ : List ℕ) (p q e : ℕ) → d₁ ≡ put_at d 0 (drawn style.left) → d₂ ≡ put_at d₁ p
+  pub rule_whole : (d d₁ d₂ d₃ : List ℕ) (p q e : ℕ) → d₁ ≡ put_at d 0 (drawn style.edges.left) → d₂ ≡ put_at d₁ p
       (build (rule_piece view style) (length view))
-      → d₃ ≡ put_at d₂ q (drawn style.right) → length (drawn style.left) ≡ p → p + length
+      → d₃ ≡ put_at d₂ q (drawn style.edges.right) → length (drawn style.edges.left) ≡ p → p + length
       (build (rule_piece view style) (length view)) ≡ q
-      → q + length (drawn style.right) ≡ e → e < length d₃ → set d₃ e 10 ≡ over (rule_bytes view style) d
+      → q + length (drawn style.edges.right) ≡ e → e < length d₃ → set d₃ e 10 ≡ over (rule_bytes view style) d
   rule_whole d d₁ d₂ d₃ p q e e₁ e₂ e₃ x y z h =
-      let l = drawn style.left in
+      let l = drawn style.edges.left in
       let b = build (rule_piece view style) (length view) in
-      let r = drawn style.right in
+      let r = drawn style.edges.right in
       let f : d₂ ≡ put_at d 0 (l ++ b) = two d 0 l b d₁ d₂ p e₁ e₂ (omega arith) (omega arith) in
       let g : d₃ ≡ put_at d 0 ((l ++ b) ++ r) = two d 0 (l ++ b) r d₂ d₃ q f e₃ (omega (arith, length-append l b)) (omega arith) in
       let i : set d₃ e 10 ≡ put_at d 0 (((l ++ b) ++ r) ++ (10 ∷ [])) =
@@ -68,23 +68,23 @@ module _ (view : View) (style : RuleStyle) (page₀ : List ℕ) (at₀ : ℕ) wh
   ruling_begins = record { within = omega arith; place = omega arith; text = sym (put-nil page₀ at₀); size = refl }
 
   module _ (page : List ℕ) (at i : ℕ) (D : Ruling view style page₀ at₀ page at i) (h : i < length view) where
-    here-length : length (rule_piece view style i) ≡ length (drawn (lead i style.junction)) +
+    here-length : length (rule_piece view style i) ≡ length (drawn (lead i style.edges.junction)) +
         ((visible_at view i).left + ((visible_at view i).width + (visible_at view i).right))
     unfolding rule_piece
     here-length =
-        length-append (drawn (lead i style.junction)) (rule_area (visible_at view i) style.fill)
-        ∙ ap (λ n. length (drawn (lead i style.junction)) + n)
+        length-append (drawn (lead i style.edges.junction)) (rule_area (visible_at view i) style.fill)
+        ∙ ap (λ n. length (drawn (lead i style.edges.junction)) + n)
         (length-replicate ((visible_at view i).left + ((visible_at view i).width + (visible_at view i).right)) style.fill)
 
     pub ruling-room : at₀ + length (build (rule_piece view style) (length view)) ≤ length page₀
-        → at + (length (drawn (lead i style.junction)) +
+        → at + (length (drawn (lead i style.edges.junction)) +
         ((visible_at view i).left + ((visible_at view i).width + (visible_at view i).right))) ≤ length page
     ruling-room r = omega (arith, D.place, D.size, here-length, build-room (rule_piece view style) i (length view) h)
 
     pub ruling-on : (page₁ : List ℕ) (at₁ : ℕ) → at₀ + length (build (rule_piece view style) (length view)) ≤ length page₀
-        → at₁ ≡ at + (length (drawn (lead i style.junction)) +
+        → at₁ ≡ at + (length (drawn (lead i style.edges.junction)) +
         ((visible_at view i).left + ((visible_at view i).width + (visible_at view i).right)))
-        → page₁ ≡ put_at page at (drawn (lead i style.junction) ++ rule_area (visible_at view i) style.fill)
+        → page₁ ≡ put_at page at (drawn (lead i style.edges.junction) ++ rule_area (visible_at view i) style.fill)
         → length page₁ ≡ length page → Ruling view style page₀ at₀ page₁ at₁ (i + 1)
     unfolding rule_piece
     ruling-on page₁ at₁ r e w l =

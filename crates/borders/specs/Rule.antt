@@ -14,15 +14,15 @@ rule_area v f = replicate (v.left + (v.width + v.right)) f
 
 -- what visible column i adds
 unfoldable pub rule_piece : View → RuleStyle → ℕ → List ℕ
-rule_piece view style i = drawn (lead i style.junction) ++ rule_area (visible_at view i) style.fill
+rule_piece view style i = drawn (lead i style.edges.junction) ++ rule_area (visible_at view i) style.fill
 
 -- the line
 unfoldable pub rule_text : View → RuleStyle → List ℕ
-rule_text view style = drawn style.left ++ (build (rule_piece view style) (length view) ++ drawn style.right)
+rule_text view style = drawn style.edges.left ++ (build (rule_piece view style) (length view) ++ drawn style.edges.right)
 
 -- the line with its 0A
 unfoldable pub rule_bytes : View → RuleStyle → List ℕ
-rule_bytes view style = drawn style.left ++ (build (rule_piece view style) (length view) ++ (drawn style.right ++ (10 ∷ [])))
+rule_bytes view style = drawn style.edges.left ++ (build (rule_piece view style) (length view) ++ (drawn style.edges.right ++ (10 ∷ [])))
 
 -- visible widths are small
 pub record NarrowAll (view : View) : Type 0 where
@@ -32,8 +32,10 @@ pub record NarrowAll (view : View) : Type 0 where
 -- the characters of a border or a rule, whose four begin at k
 unfoldable pub rule_style_of : List ℕ → Bool → ℕ → RuleStyle
 rule_style_of S joined k = record {
-  left = then_some (any_left S) (glyph (glyph_at S k));
+  edges = record {
+    left = then_some (any_left S) (glyph (glyph_at S k));
+    junction = then_some joined (glyph (glyph_at S (k + 2)));
+    right = then_some (any_right S) (glyph (glyph_at S (k + 3)));
+  };
   fill = glyph (glyph_at S (k + 1));
-  junction = then_some joined (glyph (glyph_at S (k + 2)));
-  right = then_some (any_right S) (glyph (glyph_at S (k + 3)));
 }

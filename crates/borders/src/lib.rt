@@ -5,15 +5,14 @@ ghost use Rattle.std.specs.Prelude.{◌≡◌, ◌++◌, ◌+◌, ◌≤◌, ◌
 ghost use Rattle.buffer.specs.Put.{over, put_at, drawn};
 ghost use Rattle.borders.specs.Rule.{rule_bytes, NarrowAll, rule_area};
 
+use buffer::Edges;
 use row::VisibleColumn;
 
-// The characters of a border or a rule that are drawn.
+// The characters of a border or a rule: those at the edges, and the one that fills the columns.
 #[derive(Clone, Copy)]
 pub struct RuleStyle {
-    pub left: Option<u8>,
+    pub edges: Edges,
     pub fill: u8,
-    pub junction: Option<u8>,
-    pub right: Option<u8>,
 }
 
 // A junction, if one stands before the column, and the column's fill.
@@ -34,12 +33,12 @@ pub fn draw_line(page: &mut [u8], columns: &[VisibleColumn], style: RuleStyle) -
     ensures value { result ≡ length (rule_bytes columns.now style) }
     ensures page_after { page.new ≡ over (rule_bytes columns.now style) page.old }
 {
-    let mut at = buffer::draw_edge(page, 0, style.left);
+    let mut at = buffer::draw_edge(page, 0, style.edges.left);
     for (i, &v) in columns.iter().enumerate() {
-        let junction = buffer::joins_before(i, style.junction);
+        let junction = buffer::joins_before(i, style.edges.junction);
         at = draw_fill(page, at, v, junction, style.fill);
     }
-    let e = buffer::draw_edge(page, at, style.right);
+    let e = buffer::draw_edge(page, at, style.edges.right);
     page[e] = 10;
     e + 1
 }

@@ -128,3 +128,8 @@ edge_skip d at edge e = rw e (sym (put-nil d at))
 pub two : (d : List ℕ) (at : ℕ) (a b d₁ d₂ : List ℕ) (p : ℕ) → d₁ ≡ put_at d at a → d₂ ≡ put_at d₁ p b → at + length a ≡ p → at ≤ length d → d₂ ≡ put_at
     d at (a ++ b)
 two d at a b d₁ d₂ p e₁ e₂ x h = e₂ ∙ ap (λ (t : List ℕ). put_at t p b) e₁ ∙ put-put d at a b p x h
+
+-- a part of n bytes from at on has come back as l
+pub part_back : (d : List ℕ) (at n : ℕ) (l ys : List ℕ) → ys ≡ l → n ≡ length l → put_mid at n d ys ≡ put_at d at l
+unfolding over put_at
+part_back d at n l ys e f = rw (e, f)

@@ -4,20 +4,19 @@
 ghost use Rattle.std.specs.Prelude.{◌≡◌, ◌+◌, ◌≤◌, length, replicate};
 ghost use Rattle.buffer.specs.Put.{put_at, drawn, lead};
 
-// Writes a byte n times; gives the place after. One byte, as most paddings are, is stored by itself: the loop is compiled to a call.
+// Writes a byte n times; gives the place after. One byte, as most paddings are, is stored by itself: filling more of them is compiled to a call.
 pub fn fill(dst: &mut [u8], at: usize, n: usize, b: u8) -> usize
     requires { at + n ≤ length dst.old }
     ensures value { result ≡ at + n }
     ensures dst_after { dst.new ≡ put_at dst.old at (replicate n b) }
 {
+    let end = at + n;
     if n == 1 {
         dst[at] = b;
-        return at + 1;
+    } else {
+        dst[at..end].fill(b);
     }
-    for i in 0..n {
-        dst[at + i] = b;
-    }
-    at + n
+    end
 }
 
 // Copies a text; gives the place after.
@@ -26,10 +25,17 @@ pub fn copy(dst: &mut [u8], at: usize, src: &[u8]) -> usize
     ensures value { result ≡ at + length src.now }
     ensures dst_after { dst.new ≡ put_at dst.old at src.now }
 {
-    for (i, &byte) in src.iter().enumerate() {
-        dst[at + i] = byte;
-    }
-    at + src.len()
+    let end = at + src.len();
+    dst[at..end].copy_from_slice(src);
+    end
+}
+
+// The characters at the edges of a line's columns that are drawn: before the first, between two, behind the last.
+#[derive(Clone, Copy)]
+pub struct Edges {
+    pub left: Option<u8>,
+    pub junction: Option<u8>,
+    pub right: Option<u8>,
 }
 
 // Writes a character, if one is drawn; gives the place after.

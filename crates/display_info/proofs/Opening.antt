@@ -6,7 +6,7 @@ use mathlib.Core.List.{List, [], ◌∷◌, map}
 use mathlib.Core.Bool.{Bool, true, false}
 use native.Mathlib.Numerals.{add-one}
 use native.Mathlib.Omega.{arith}
-use lib.ListN.{length, get_or, replicate, length-append, length-map, get_or-append}
+use lib.ListN.{length, drop, get_or, replicate, length-append, length-map, get_or-append}
 use Rattle.std.specs.Prelude.{Option}
 use Rattle.std.specs.Bool.{then_some}
 use Rattle.rules.specs.declared.Column.{Column}
@@ -21,7 +21,7 @@ use Rattle.laws.proofs.Areas.{content-some}
 use Rattle.laws.proofs.Bounds.{Most, contents_801}
 use Rattle.laws.proofs.Contents.{length-contents}
 use Rattle.laws.proofs.Counts.{visible_to, visible-to-none, visible-to-shown, visible-to_hidden, visible-to-all, visible_rising, visible_number}
-use Rattle.laws.proofs.Lists.{all_get_d, get_d_map}
+use Rattle.laws.proofs.Lists.{all_drop, all_get_d, get_d_map}
 use Rattle.laws.proofs.Texts.{plain-all}
 use Rattle.rules.specs.Places.{rows_place}
 use Rattle.style.specs.Bytes.{bytes_of}
@@ -47,10 +47,10 @@ use Rattle.formatting.specs.Stand.{text_style_of}
 use Rattle.row.specs.declared.CellAlignment.{CellAlignment}
 use Rattle.row.specs.declared.CellAlignment.TheVariants.{Left}
 use Rattle.row.specs.declared.VisibleColumn.{VisibleColumn}
-use Rattle.formatting.specs.declared.content_format.TextStyle.{TextStyle}
 use Rattle.borders.specs.declared.RuleStyle.{RuleStyle}
 use Rattle.display_info.specs.declared.LineStyles.{LineStyles}
-use Rattle.display_info.specs.Opened.{styles_of, RowsAt}
+use Rattle.display_info.specs.Opened.{styles_of, RowsAt, Opened}
+use Rattle.display_info.specs.declared.DisplayInfo.{DisplayInfo}
 use Rattle.display_info.specs.Opening.{shown_from, behind, showing}
 
 -- the table of a sheet that passes keeps every limit
@@ -65,45 +65,16 @@ glyph_is (suc c) r e = e
 
 -- ---- the look of a style
 
-pub rule_style_is : (S : List ℕ) (k x f y z : ℕ) (opens joined closes : Bool) (l j r : Option ℕ) → x ≡ glyph (glyph_at S k)
-    → f ≡ glyph (glyph_at S (k + 1)) → y ≡ glyph (glyph_at S (k + 2)) → z ≡ glyph (glyph_at S (k + 3)) → opens ≡ any_left S → closes ≡ any_right S
-    → l ≡ then_some opens x → j ≡ then_some joined y → r ≡ then_some closes z
-    → record { left = l; fill = f; junction = j; right = r } ≡ rule_style_of S joined k
-unfolding rule_style_of
-rule_style_is S k x f y z opens joined closes l j r a b c d e g p q o = rw (p, q, o, a, b, c, d, e, g)
-
-pub text_style_is : (S : List ℕ) (k x y z : ℕ) (opens joined closes : Bool) (l j r : Option ℕ) → x ≡ glyph (glyph_at S k)
-    → y ≡ glyph (glyph_at S (k + 1)) → z ≡ glyph (glyph_at S (k + 2)) → opens ≡ any_left S → joined ≡ any_junction S → closes ≡ any_right S
-    → l ≡ then_some opens x → j ≡ then_some joined y → r ≡ then_some closes z → record { left = l; junction = j; right = r } ≡ text_style_of S k
-unfolding text_style_of
-text_style_is S k x y z opens joined closes l j r a b c d e f p q o = rw (p, q, o, a, b, c, d, e, f)
-
 -- which edges the style record says are drawn
 pub edges_are : (S : List ℕ) (y : TableStyle) (opens joined closes : Bool) → y ≡ style_from S → opens ≡ any_left (bytes_of y) → joined ≡ any_junction
     (bytes_of y) → closes ≡ any_right (bytes_of y)
     → (opens ≡ any_left S) × ((joined ≡ any_junction S) × (closes ≡ any_right S))
 edges_are S y opens joined closes e a b c = (a ∙ rw e, (b ∙ rw e, c ∙ rw e))
 
--- and which borders and rules
-pub styles_are : (S : List ℕ) (y : TableStyle) (joined : Bool) (top header row bottom : RuleStyle) (head text : TextStyle) (a b c d : Bool) → y ≡
-    style_from S → joined ≡ any_junction S
-    → top ≡ rule_style_of S true top_border → head ≡ text_style_of S header_lines → header ≡ rule_style_of S joined header_rule → text ≡ text_style_of S
-    content_lines
-    → row ≡ rule_style_of S joined row_rule → bottom ≡ rule_style_of S true bottom_border
-    → b ≡ is_visible (bytes_of y) header_rule → c ≡ is_visible (bytes_of y) row_rule → a ≡ is_visible (bytes_of y) top_border → d ≡ is_visible (bytes_of y)
-    bottom_border
-    → ◌≡◌ {A = LineStyles}
-    (record {
-      top = top;
-      header = record { lines = head; rule = header; ruled = b };
-      body = record { lines = text; rule = row; ruled = c };
-      bottom = bottom;
-      has_top = a;
-      has_bottom = d;
-    })
-    (styles_of S)
+-- the edges of the body's text lines
+pub body_edges : (S : List ℕ) (l : LineStyles) → l ≡ styles_of S → l.body.lines ≡ text_style_of S content_lines
 unfolding styles_of
-styles_are S y joined top header row bottom head text a b c d e f g h i j k l n o m p = rw (g, h, i, j, k, l, f, m, n, o, p, e)
+body_edges S l e = ap (λ (x : LineStyles). x.body.lines) e
 
 -- ---- the visible columns
 
@@ -226,15 +197,30 @@ module _ (t : Table) (view : View) (T : TableLimits t) (W : Views t (contents t)
 -- ---- header and rows
 
 module _ (s : List ℕ) (passes : IsAccepted s) (c : Rows) where
-  pub header_at : rows_in s c ≡ (table_of s).header → rows_end s c ≡ rows_place s → RowsAt s c
-  header_at e f = let m = room s passes in record { ends = omega (arith, f); sound = rw e (limits_of s passes).header_row; skipped = 0; among = inl e }
-
   -- at most one header row
   pub header_one : rows_in s c ≡ (table_of s).header → c.left ≤ 1
   header_one e = omega (arith, (limits_of s passes).header, ap length e, rows_number s c)
 
+  pub header_ends : rows_end s c ≡ rows_place s → rows_end s c ≤ length s
+  header_ends f = let m = room s passes in omega (arith, f)
+
   pub rows_few : rows_in s c ≡ (table_of s).rows → c.left ≤ 100
   rows_few e = omega (arith, (limits_of s passes).rows, ap length e, rows_number s c)
 
-  pub rows_at : rows_in s c ≡ (table_of s).rows → rows_end s c ≡ length s → RowsAt s c
-  rows_at e f = record { ends = omega (arith, f); sound = rw e (limits_of s passes).each_row; skipped = 0; among = inr e }
+  -- all rows are the last ones
+  pub rows_last : rows_in s c ≡ (table_of s).rows → rows_in s c ≡ drop (length (table_of s).rows - c.left) (table_of s).rows
+  rows_last e =
+      let z : length (table_of s).rows - c.left ≡ 0 = omega (arith, ap length e, rows_number s c) in
+      e ∙ ap (λ n. drop n (table_of s).rows) (sym z)
+
+module _ (s : List ℕ) (p : DisplayInfo) (O : Opened s p) where
+  pub header_at : RowsAt s p.header
+  header_at = record { ends = O.header_ends; sound = rw O.header (limits_of s O.passes).header_row; skipped = 0; among = inl O.header }
+
+  pub rows_at : RowsAt s p.rows
+  rows_at = record {
+    ends = O.rows_ends;
+    sound = rw O.rows (all_drop _ (length (table_of s).rows - p.rows.left) (table_of s).rows (limits_of s O.passes).each_row);
+    skipped = length (table_of s).rows - p.rows.left;
+    among = inr O.rows;
+  }

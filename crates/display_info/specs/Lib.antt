@@ -1,2 +1,4 @@
+pub mod Lengths
 pub mod Opened
 pub mod Opening
+pub mod Props

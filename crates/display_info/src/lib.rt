@@ -1,6 +1,8 @@
 // What every line of a page is drawn from, read from an accepted sheet once.
 #![tactic(auto)]
 
+pub mod lengths;
+
 ghost use Rattle.std.specs.Prelude.{◌≡◌, true, ◌+◌, ◌<◌};
 ghost use Rattle.rules.specs.Sheet.{most_columns};
 ghost use Rattle.arrayvec.specs.ArrayVec.{array_vec_len};
@@ -12,16 +14,19 @@ ghost use Rattle.table.specs.Held.{table_of};
 ghost use Rattle.table.specs.Walk.{rows_in};
 ghost use Rattle.arrangement.specs.Widths.{style_from, arranged_widths};
 ghost use Rattle.row.specs.View.{Views};
+ghost use Rattle.formatting.specs.RowText.{Marks};
 ghost use Rattle.formatting.specs.Stand.{text_style_of};
 ghost use Rattle.borders.specs.Rule.{rule_style_of, NarrowAll};
 ghost use Rattle.row.specs.Open.{Rising, UsableAll};
 ghost use Rattle.display_info.specs.Opened.{styles_of, Opened};
-ghost use Rattle.display_info.specs.Opening.{showing};
+ghost use Rattle.display_info.specs.Props.{props};
+ghost use Rattle.display_info.specs.Opening.{edges_of, showing};
 
+use crate::lengths::Lengths;
 use arrangement::{Widths, layout};
 use arrayvec::ArrayVec;
 use borders::RuleStyle;
-use formatting::content_format::TextStyle;
+use buffer::Edges;
 use row::{CellAlignment, VisibleColumn};
 use rules::{
     BOTTOM_BORDER, CONTENT_LINES, Column, HEADER_LINES, HEADER_RULE, MOST_COLUMNS, ROW_RULE,
@@ -33,34 +38,48 @@ use table::accepted::AcceptedSheet;
 use table::records;
 use table::records::Rows;
 
-// How the lines of a row look: its text lines, the rule after it, and whether that rule is visible.
+// How the lines of a row look: its text lines, and the rule after it, if one is visible.
 #[derive(Clone, Copy)]
 pub struct RowStyle {
-    pub lines: TextStyle,
-    pub rule: RuleStyle,
-    pub ruled: bool,
+    pub lines: Edges,
+    pub rule: Option<RuleStyle>,
 }
 
-// How the lines of a page look, and which borders are visible.
+// How the lines of a page look: its rows, and the borders that are visible.
 #[derive(Clone, Copy)]
 pub struct LineStyles {
-    pub top: RuleStyle,
+    pub top: Option<RuleStyle>,
     pub header: RowStyle,
     pub body: RowStyle,
-    pub bottom: RuleStyle,
-    pub has_top: bool,
-    pub has_bottom: bool,
+    pub bottom: Option<RuleStyle>,
 }
 
-// A page over some rows of the sheet: the visible columns, the lines' styles, the header and the rows. On a plain page no cell has a pair, so that
-// each text line has as many bytes as columns.
+// What a page over some rows of the sheet is drawn from. On a plain page no cell has a pair, so that each text line has as many bytes as columns.
 #[derive(Drop)]
-pub struct Page {
+pub struct DisplayInfo {
     pub plain: bool,
     pub columns: ArrayVec<VisibleColumn, MOST_COLUMNS>,
     pub styles: LineStyles,
+    pub lengths: Lengths,
     pub header: Rows,
     pub rows: Rows,
+}
+
+// An accepted sheet, lent, and what its page is drawn from.
+#[derive(Drop)]
+pub struct Page<'a> {
+    pub sheet: &'a [u8],
+    pub info: DisplayInfo,
+    pub ghost opened: { Opened sheet.now info } by { Prim.hlevel props },
+}
+
+impl<'a> Page<'a> {
+    // What stands behind a text that is cut, a part of the sheet.
+    pub fn indicator(&self) -> &'a [u8]
+        ensures { Marks self.now.sheet.now result.now }
+    {
+        AcceptedSheet { bytes: self.sheet }.indicator()
+    }
 }
 
 // Unset characters print as a space.
@@ -68,6 +87,17 @@ fn glyph(c: u8) -> u8
     ensures { result ≡ characters.glyph c }
 {
     records::set(c).unwrap_or(b' ')
+}
+
+// Those of a line's three edges that are drawn.
+fn edges(left: u8, junction: u8, right: u8, opens: bool, joined: bool, closes: bool) -> Edges
+    ensures { result ≡ edges_of opens joined closes left junction right }
+{
+    Edges {
+        left: opens.then_some(glyph(left)),
+        junction: joined.then_some(glyph(junction)),
+        right: closes.then_some(glyph(right)),
+    }
 }
 
 // A border or a rule, whose four characters begin at k.
@@ -82,29 +112,17 @@ fn rule_style(
     ensures { result ≡ rule_style_of b joined k }
 {
     RuleStyle {
-        left: opens.then_some(glyph(b[k])),
+        edges: edges(b[k], b[k + 2], b[k + 3], opens, joined, closes),
         fill: glyph(b[k + 1]),
-        junction: joined.then_some(glyph(b[k + 2])),
-        right: closes.then_some(glyph(b[k + 3])),
     }
 }
 
 // Text lines, whose three characters begin at k.
-fn text_style(
-    b: [u8; STYLE_CHARACTERS],
-    k: usize,
-    opens: bool,
-    joined: bool,
-    closes: bool,
-) -> TextStyle
+fn text_style(b: [u8; STYLE_CHARACTERS], k: usize, opens: bool, joined: bool, closes: bool) -> Edges
     requires { (k + 2 < style_characters) × ((opens ≡ any_left b) × ((joined ≡ any_junction b) × (closes ≡ any_right b))) }
     ensures { result ≡ text_style_of b k }
 {
-    TextStyle {
-        left: opens.then_some(glyph(b[k])),
-        junction: joined.then_some(glyph(b[k + 1])),
-        right: closes.then_some(glyph(b[k + 2])),
-    }
+    edges(b[k], b[k + 1], b[k + 2], opens, joined, closes)
 }
 
 // The six kinds of line, once it is known which edges are drawn. Borders put a junction between columns even where no junction is set.
@@ -126,21 +144,17 @@ fn styles_by(
     let bottom = rule_style(b, BOTTOM_BORDER, opens, true, closes);
     let header = RowStyle {
         lines: header_lines,
-        rule: header_rule,
-        ruled: style.has_header_separator(),
+        rule: style.has_header_separator().then_some(header_rule),
     };
     let body = RowStyle {
         lines: content_lines,
-        rule: row_rule,
-        ruled: style.has_row_separator(),
+        rule: style.has_row_separator().then_some(row_rule),
     };
     LineStyles {
-        top,
+        top: style.has_top_border().then_some(top),
         header,
         body,
-        bottom,
-        has_top: style.has_top_border(),
-        has_bottom: style.has_bottom_border(),
+        bottom: style.has_bottom_border().then_some(bottom),
     }
 }
 
@@ -205,28 +219,35 @@ pub fn content_widths(sheet: &AcceptedSheet<'_>) -> Widths
 }
 
 // The page over all rows of the sheet, by its widths; it may be called plain if the check found it so.
-pub fn open_by(sheet: &AcceptedSheet<'_>, plain: bool, widths: Widths) -> Page
+pub fn open_by<'a>(sheet: &AcceptedSheet<'a>, plain: bool, widths: Widths) -> Page<'a>
     requires arranged { widths ≡ arranged_widths (table_of sheet.now.bytes.now) }
     requires plain_table { plain ≡ true → PlainTable (table_of sheet.now.bytes.now) }
-    ensures { Opened sheet.now.bytes.now result × (rows_in sheet.now.bytes.now result.rows ≡ (table_of sheet.now.bytes.now).rows) }
+    ensures same_sheet { result.sheet.now ≡ sheet.now.bytes.now }
+    ensures all_rows { rows_in sheet.now.bytes.now result.info.rows ≡ (table_of sheet.now.bytes.now).rows }
 {
     let columns = show_columns(sheet, widths);
     let styles = styles(sheet.style());
+    let lengths = lengths::measure(columns.as_slice(), styles.body.lines);
     let header = sheet.header();
     let rows = sheet.rows(header);
     Page {
-        plain,
-        columns,
-        styles,
-        header,
-        rows,
+        sheet: sheet.bytes,
+        info: DisplayInfo {
+            plain,
+            columns,
+            styles,
+            lengths,
+            header,
+            rows,
+        },
     }
 }
 
 // The page, once its widths are found.
-pub fn open(sheet: &AcceptedSheet<'_>, plain: bool) -> Page
+pub fn open<'a>(sheet: &AcceptedSheet<'a>, plain: bool) -> Page<'a>
     requires { plain ≡ true → PlainTable (table_of sheet.now.bytes.now) }
-    ensures { Opened sheet.now.bytes.now result × (rows_in sheet.now.bytes.now result.rows ≡ (table_of sheet.now.bytes.now).rows) }
+    ensures same_sheet { result.sheet.now ≡ sheet.now.bytes.now }
+    ensures all_rows { rows_in sheet.now.bytes.now result.info.rows ≡ (table_of sheet.now.bytes.now).rows }
 {
     open_by(sheet, plain, content_widths(sheet))
 }

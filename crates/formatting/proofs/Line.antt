@@ -18,7 +18,7 @@ use Rattle.row.specs.declared.Pending.{Pending}
 use Rattle.row.proofs.Stand.{same_below}
 use Rattle.formatting.specs.Area.{After, column_piece}
 use Rattle.formatting.specs.Line.{line_piece, line_bytes, ReadyAll, AfterAll}
-use Rattle.formatting.specs.declared.content_format.TextStyle.{TextStyle}
+use Rattle.buffer.specs.declared.Edges.{Edges}
 
 -- ---- every visible column's cell at its next line
 
@@ -62,7 +62,7 @@ module _ (s : List ℕ) (view : View) where
 
 -- ---- lengths
 
-module _ (s : List ℕ) (view : View) (ind : List ℕ) (style : TextStyle) (ts : List Pending) (last : Bool) where
+module _ (s : List ℕ) (view : View) (ind : List ℕ) (style : Edges) (ts : List Pending) (last : Bool) where
   pub line_is : line_bytes s view ind style ts last ≡ drawn style.left ++
       (build (line_piece s view ind style ts last) (length view) ++ (drawn style.right ++ (10 ∷ [])))
   unfolding line_bytes
@@ -97,14 +97,14 @@ module _ (s : List ℕ) (view : View) (ind : List ℕ) (style : TextStyle) (ts :
 
 -- ---- the columns drawn one after another
 
-pub record Drawing (s : List ℕ) (view : View) (ind : List ℕ) (style : TextStyle) (ts₀ : List Pending) (last : Bool) (page₀ : List ℕ) (at₀ : ℕ)
+pub record Drawing (s : List ℕ) (view : View) (ind : List ℕ) (style : Edges) (ts₀ : List Pending) (last : Bool) (page₀ : List ℕ) (at₀ : ℕ)
     (page : List ℕ) (ts : List Pending) (more : Bool) (at i : ℕ) : Type 0 where
   pub passing : Passing s view ts₀ ts more i
   pub place : at ≡ at₀ + length (build (line_piece s view ind style ts₀ last) i)
   pub text : page ≡ put_at page₀ at₀ (build (line_piece s view ind style ts₀ last) i)
   pub size : length page ≡ length page₀
 
-module _ (s : List ℕ) (view : View) (ind : List ℕ) (style : TextStyle) (ts₀ : List Pending) (last : Bool) (page₀ : List ℕ) (at₀ : ℕ)
+module _ (s : List ℕ) (view : View) (ind : List ℕ) (style : Edges) (ts₀ : List Pending) (last : Bool) (page₀ : List ℕ) (at₀ : ℕ)
     (R : ReadyAll s view ts₀) where
   pub drawing_begins : Drawing s view ind style ts₀ last page₀ at₀ page₀ ts₀ false at₀ 0
   drawing_begins = record { passing = passing_begins s view ts₀ R.size; place = omega arith; text = sym (put-nil page₀ at₀); size = refl }

@@ -28,15 +28,15 @@ use Rattle.formatting.specs.RowText.{styled, row_lines, row_height, most_bytes, 
 use Rattle.formatting.specs.Stand.{in_limit, last_of}
 use Rattle.row.specs.Open.{OpenedRow}
 use Rattle.row.specs.declared.Pending.{Pending}
-use Rattle.formatting.specs.declared.content_format.TextStyle.{TextStyle}
+use Rattle.buffer.specs.declared.Edges.{Edges}
 use Rattle.formatting.proofs.Parts.{part_none, part-line, part-full, part_length, part_room, part_join}
 use Rattle.formatting.proofs.Whole.{line-styled, height_has, opened-stands, stands_after, stands_ready}
 
-pub lines-count : (s : List ℕ) (y : TextStyle) (r : Row) → length (row_lines s y r) ≡ row_height s r
+pub lines-count : (s : List ℕ) (y : Edges) (r : Row) → length (row_lines s y r) ≡ row_height s r
 unfolding row_lines
 lines-count s y r = length-map (areas (table_of s) (contents (table_of s)) r) (styled y) ∙ length-areas (table_of s) (contents (table_of s)) r
 
-line_of : (s : List ℕ) (y : TextStyle) (r : Row) (j : ℕ) → j < row_height s r
+line_of : (s : List ℕ) (y : Edges) (r : Row) (j : ℕ) → j < row_height s r
     → get_or (row_lines s y r) j [] ≡ styled y (map (area_at (table_of s) (contents (table_of s)) r j) (visible (table_of s)))
 unfolding row_lines
 line_of s y r j h =
@@ -48,7 +48,7 @@ first-true true b e = refl
 first-true false b e = e
 
 -- line j is pending, and its bytes are known, n being those of a plain line
-pub record Measured (s : List ℕ) (view : View) (r : Row) (j : ℕ) (i : List ℕ) (y : TextStyle) (ts : List Pending) (last plain : Bool) (n : ℕ) : Type 0 where
+pub record Measured (s : List ℕ) (view : View) (r : Row) (j : ℕ) (i : List ℕ) (y : Edges) (ts : List Pending) (last plain : Bool) (n : ℕ) : Type 0 where
   pub ready : ReadyAll s view ts
   pub indicator : Plain i
   pub most : length (line_bytes s view i y ts last) ≤ most_bytes plain n (length view)
@@ -77,7 +77,7 @@ module _ (s : List ℕ) (view : View) (r : Row) (W : Views (table_of s) (content
         (sym (height_has s (table_of s) (contents (table_of s)) r view W j ts (S.stands e)) ∙ sym S.has ∙ e)
 
     -- the pending line is the row's
-    module _ (i : List ℕ) (M : Marks s i) (y : TextStyle) (limit : ℕ) (el : limit ≡ r.limit) (last : Bool) (ea : last ≡ last_of limit j) where
+    module _ (i : List ℕ) (M : Marks s i) (y : Edges) (limit : ℕ) (el : limit ≡ r.limit) (last : Bool) (ea : last ≡ last_of limit j) where
       pub line-here : line_bytes s view i y ts last ≡ get_or (row_lines s y r) j [] ++ (10 ∷ [])
       line-here =
           rw (M.are, ea, el)
@@ -92,7 +92,7 @@ module _ (s : List ℕ) (view : View) (r : Row) (W : Views (table_of s) (content
       line-some = omega (arith, here_size)
 
     -- it can be drawn, and its bytes are known
-    pub stands_measurable : (i : List ℕ) → Marks s i → (y : TextStyle) (limit : ℕ) → limit ≡ r.limit → (last : Bool) → last ≡ last_of limit j
+    pub stands_measurable : (i : List ℕ) → Marks s i → (y : Edges) (limit : ℕ) → limit ≡ r.limit → (last : Bool) → last ≡ last_of limit j
         → (plain : Bool) (n : ℕ) → Sized s y r plain view n → Measured s view r j i y ts last plain n
     stands_measurable i M y limit el last ea plain n Z =
         let h = here_size i M y limit el last ea in
@@ -115,13 +115,13 @@ module _ (s : List ℕ) (view : View) (r : Row) (W : Views (table_of s) (content
 -- ---- lines drawn
 
 -- the lines from `first` up to `line` are written, and line `line` is pending, if the row has it
-pub record Running (s : List ℕ) (view : View) (y : TextStyle) (r : Row) (first : ℕ) (b page : List ℕ) (ts : List Pending) (more : Bool)
+pub record Running (s : List ℕ) (view : View) (y : Edges) (r : Row) (first : ℕ) (b page : List ℕ) (ts : List Pending) (more : Bool)
     (at line : ℕ) : Type 0 where
   pub onward : first ≤ line
   pub stands : StandsAt s view r line more ts
   pub part : PartIs (take (line - first) (drop first (row_lines s y r))) b page (record { lines = line - first; bytes = at; whole = true })
 
-module _ (s : List ℕ) (view : View) (y : TextStyle) (r : Row) (first : ℕ) (W : Views (table_of s) (contents (table_of s)) view) (b : List ℕ) where
+module _ (s : List ℕ) (view : View) (y : Edges) (r : Row) (first : ℕ) (W : Views (table_of s) (contents (table_of s)) view) (b : List ℕ) where
   pub running_begins : (ts : List Pending) (more : Bool) → StandsAt s view r first more ts → Running s view y r first b b ts more 0 first
   running_begins ts more S =
       let z : first - first ≡ 0 = omega arith in

@@ -26,7 +26,7 @@ use Rattle.formatting.specs.Area.{column_piece}
 use Rattle.formatting.specs.Line.{line_piece, line_bytes, AfterAll, ReadyAll}
 use Rattle.formatting.specs.RowText.{styled}
 use Rattle.formatting.specs.Stand.{StandsCell, StandsRow, in_limit, last_of, text_style_of}
-use Rattle.formatting.specs.declared.content_format.TextStyle.{TextStyle}
+use Rattle.buffer.specs.declared.Edges.{Edges}
 use Rattle.formatting.proofs.Stand.{piece-area, stands_found, cut_has, stands_on}
 
 -- ---- a text line
@@ -43,7 +43,7 @@ styled_text S k ps = rw (
 
 module _ (s : List ℕ) (t : Table) (ws : List ℕ) (r : Row) (view : View) (W : Views t ws view) (j : ℕ) (ts : List Pending)
     (R : StandsRow s t ws r view j ts) where
-  pub line-styled : (y : TextStyle) → in_limit r.limit j ≡ true
+  pub line-styled : (y : Edges) → in_limit r.limit j ≡ true
       → line_bytes s view t.indicator y ts (last_of r.limit j) ≡ styled y (map (area_at t ws r j) (visible t)) ++ (10 ∷ [])
   unfolding line_bytes line_piece styled line_of
   line-styled y e =

@@ -6,14 +6,14 @@ use Rattle.row.specs.declared.Pending.{Pending}
 use Rattle.row.specs.View.{View, visible_at}
 use Rattle.row.specs.Pending.{pending_at, Ready}
 use Rattle.formatting.specs.Area.{After, column_piece}
-use Rattle.formatting.specs.declared.content_format.TextStyle.{TextStyle}
+use Rattle.buffer.specs.declared.Edges.{Edges}
 
 -- what visible column i adds, ind being the indicator
-unfoldable pub line_piece : List ℕ → View → List ℕ → TextStyle → List Pending → Bool → ℕ → List ℕ
+unfoldable pub line_piece : List ℕ → View → List ℕ → Edges → List Pending → Bool → ℕ → List ℕ
 line_piece s view ind style ts last i = drawn (lead i style.junction) ++ column_piece s (visible_at view i) (pending_at ts i) ind last
 
 -- the line with its 0A
-unfoldable pub line_bytes : List ℕ → View → List ℕ → TextStyle → List Pending → Bool → List ℕ
+unfoldable pub line_bytes : List ℕ → View → List ℕ → Edges → List Pending → Bool → List ℕ
 line_bytes s view ind style ts last =
     drawn style.left ++ (build (line_piece s view ind style ts last) (length view) ++ (drawn style.right ++ (10 ∷ [])))
 

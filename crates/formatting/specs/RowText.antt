@@ -15,15 +15,15 @@ use Rattle.row.specs.Open.{CellKnown, Rising, UsableAll}
 use Rattle.row.specs.declared.Pending.{Pending}
 use Rattle.formatting.specs.Shown.{pairs_shown}
 use Rattle.formatting.specs.Stand.{StandsRow}
-use Rattle.formatting.specs.declared.content_format.TextStyle.{TextStyle}
+use Rattle.buffer.specs.declared.Edges.{Edges}
 use Rattle.formatting.specs.declared.content_format.Entered.{Entered}
 
 -- a text line of these parts
-unfoldable pub styled : TextStyle → List (List ℕ) → List ℕ
+unfoldable pub styled : Edges → List (List ℕ) → List ℕ
 styled y ps = line_of (drawn y.left) (drawn y.junction) (drawn y.right) ps
 
 -- a row's lines, and how many they are
-unfoldable pub row_lines : List ℕ → TextStyle → Row → List (List ℕ)
+unfoldable pub row_lines : List ℕ → Edges → Row → List (List ℕ)
 row_lines s y r = map (styled y) (areas (table_of s) (contents (table_of s)) r)
 
 abbrev pub row_height : List ℕ → Row → ℕ
@@ -45,7 +45,7 @@ pub record Marks (s ind : List ℕ) : Type 0 where
   pub plain : Plain ind
 
 -- a row's lines are neither too long nor too many
-pub record Bounded (s : List ℕ) (y : TextStyle) (r : Row) : Type 0 where
+pub record Bounded (s : List ℕ) (y : Edges) (r : Row) : Type 0 where
   pub short : (k : ℕ) → k < row_height s r → length (get_or (row_lines s y r) k []) ≤ longest_line
   pub few : row_height s r ≤ most_lines
 
@@ -56,7 +56,7 @@ most_bytes true n count = n
 most_bytes false n count = n + min n (100 * count)
 
 -- and each takes n bytes, its 0A included, and the pairs that it shows; if the row is said to be plain, it shows none
-pub record Sized (s : List ℕ) (y : TextStyle) (r : Row) (plain : Bool) (view : View) (n : ℕ) : Type 0 where
+pub record Sized (s : List ℕ) (y : Edges) (r : Row) (plain : Bool) (view : View) (n : ℕ) : Type 0 where
   pub bounded : Bounded s y r
   pub small : n ≤ longest_line + 1
   pub each : plain ≡ true → (k : ℕ) → k < row_height s r → length (get_or (row_lines s y r) k []) + 1 ≡ n

@@ -10,7 +10,7 @@ use Rattle.row.specs.Pending.{pending_at, Stands}
 use Rattle.row.specs.View.{View, visible_at, number_of}
 use Rattle.row.specs.declared.VisibleColumn.{VisibleColumn}
 use Rattle.row.specs.declared.Pending.{Pending}
-use Rattle.formatting.specs.declared.content_format.TextStyle.{TextStyle}
+use Rattle.buffer.specs.declared.Edges.{Edges}
 
 -- line j of a row's cell of visible column i is pending
 pub record StandsCell (s : List ℕ) (t : Table) (ws : List ℕ) (r : Row) (v : VisibleColumn) (i j : ℕ) (st : Pending) : Type 0 where
@@ -32,7 +32,7 @@ last_of zero j = false
 last_of (suc h) j = eqb (j + 1) (suc h)
 
 -- the characters of text lines, whose three begin at k
-unfoldable pub text_style_of : List ℕ → ℕ → TextStyle
+unfoldable pub text_style_of : List ℕ → ℕ → Edges
 text_style_of S k = record {
   left = then_some (any_left S) (glyph (glyph_at S k));
   junction = then_some (any_junction S) (glyph (glyph_at S (k + 1)));

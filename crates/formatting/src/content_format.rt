@@ -19,6 +19,7 @@ ghost use Rattle.formatting.specs.RowText.{Drawable, row_lines, EnteredIs, most_
 ghost use Rattle.formatting.specs.Shown.{pairs_shown};
 
 use crate::row_size;
+use buffer::Edges;
 use cells::{CellCursor, Next, Wrapping};
 use row::{CellAlignment, Pending, VisibleColumn};
 use rules::MOST_COLUMNS;
@@ -215,14 +216,6 @@ fn draw_column(
     }
 }
 
-// The characters of a text line that are drawn.
-#[derive(Clone, Copy)]
-pub struct TextStyle {
-    pub left: Option<u8>,
-    pub junction: Option<u8>,
-    pub right: Option<u8>,
-}
-
 // What was written, and whether a cell has a line after it.
 #[derive(Clone, Copy)]
 pub struct Lined {
@@ -236,7 +229,7 @@ fn write_line(
     sheet: &[u8],
     columns: &[VisibleColumn],
     indicator: &[u8],
-    style: TextStyle,
+    style: Edges,
     last: bool,
     state: &mut [Pending; MOST_COLUMNS],
 ) -> Lined
@@ -368,7 +361,7 @@ pub fn draw_row(
     sheet: &[u8],
     columns: &[VisibleColumn],
     indicator: &[u8],
-    style: TextStyle,
+    style: Edges,
     here: Rows,
     first: usize,
     plain: bool,

@@ -4,6 +4,7 @@ use mathlib.Core.Path.{◌≡◌, sym, ap, ◌∙◌}
 use mathlib.Core.List.{List}
 use mathlib.Core.Bool.{true, false}
 use native.Mathlib.Omega.{arith}
+use Rattle.std.specs.Prelude.{is_some}
 use Rattle.rules.specs.Text.{All}
 use Rattle.rules.specs.Limits.{Optional}
 use Rattle.rules.specs.Style.{top_border, bottom_border, is_visible}
@@ -11,42 +12,41 @@ use Rattle.laws.proofs.Printed.{longest_top, longest_bottom, longest-line, longe
 use Rattle.table.specs.Held.{table_of}
 use Rattle.table.specs.Walk.{rows_in}
 use Rattle.display_info.specs.declared.LineStyles.{LineStyles}
-use Rattle.display_info.specs.declared.Page.{Page}
+use Rattle.display_info.specs.declared.DisplayInfo.{DisplayInfo}
 use Rattle.display_info.specs.Opened.{Opened, widths_in, styles_of}
 use Rattle.display_info.proofs.Opening.{limits_of}
-use Rattle.parts.specs.declared.lengths.Lengths.{Lengths}
-use Rattle.parts.specs.Lengths.{LengthsAre}
+use Rattle.display_info.proofs.Measures.{some-drawn}
 use Rattle.parts.specs.Ahead.{is_end, lines_of}
 use Rattle.lines.specs.declared.Sought.{Sought}
 use Rattle.lines.specs.Walk.{SoughtIs, LongestIs}
 use Rattle.lines.proofs.Walks.{all_passed, before}
 
-module _ (s : List ℕ) (p : Page) (O : Opened s p) (l : Lengths) (L : LengthsAre s l) where
+module _ (s : List ℕ) (p : DisplayInfo) (O : Opened s p) where
   optional : All Optional (table_of s).style
   optional = (limits_of s O.passes).style_characters_fit
 
-  top_as : p.styles.has_top ≡ is_visible (table_of s).style top_border
+  top_as : is_some p.styles.top ≡ is_visible (table_of s).style top_border
   unfolding styles_of
-  top_as = ap (λ (x : LineStyles). x.has_top) O.styles
+  top_as = ap (λ (x : LineStyles). is_some x.top) O.styles ∙ some-drawn _ _
 
-  bottom_as : p.styles.has_bottom ≡ is_visible (table_of s).style bottom_border
+  bottom_as : is_some p.styles.bottom ≡ is_visible (table_of s).style bottom_border
   unfolding styles_of
-  bottom_as = ap (λ (x : LineStyles). x.has_bottom) O.styles
+  bottom_as = ap (λ (x : LineStyles). is_some x.bottom) O.styles ∙ some-drawn _ _
 
-  pub by_top : p.styles.has_top ≡ true → LongestIs s p l.border
+  pub by_top : is_some p.styles.top ≡ true → LongestIs s p p.lengths.border
   unfolding lines_of
   by_top e =
       record {
-        longest = L.border ∙ sym (longest_top (table_of s) optional (widths_in s) (rows_in s p.rows) (sym top_as ∙ e));
-        small = L.border_small;
+        longest = O.lengths.border ∙ sym (longest_top (table_of s) optional (widths_in s) (rows_in s p.rows) (sym top_as ∙ e));
+        small = O.lengths.border_small;
       }
 
-  pub by_bottom : p.styles.has_bottom ≡ true → LongestIs s p l.border
+  pub by_bottom : is_some p.styles.bottom ≡ true → LongestIs s p p.lengths.border
   unfolding lines_of
   by_bottom e =
       record {
-        longest = L.border ∙ sym (longest_bottom (table_of s) optional (widths_in s) (rows_in s p.rows) (sym bottom_as ∙ e));
-        small = L.border_small;
+        longest = O.lengths.border ∙ sym (longest_bottom (table_of s) optional (widths_in s) (rows_in s p.rows) (sym bottom_as ∙ e));
+        small = O.lengths.border_small;
       }
 
   -- line 0 sought: the end is reached exactly if there is none
@@ -58,9 +58,9 @@ module _ (s : List ℕ) (p : Page) (O : Opened s p) (l : Lengths) (L : LengthsAr
       small = omega arith;
     }
 
-    pub by_line : p.styles.has_top ≡ false → p.styles.has_bottom ≡ false → is_end r.cursor.stage ≡ false → LongestIs s p l.line
+    pub by_line : is_some p.styles.top ≡ false → is_some p.styles.bottom ≡ false → is_end r.cursor.stage ≡ false → LongestIs s p p.lengths.line
     unfolding lines_of
     by_line a b e = record {
-      longest = L.line ∙ sym (longest-line (table_of s) optional (widths_in s) (rows_in s p.rows) (sym top_as ∙ a) (sym bottom_as ∙ b) (omega (arith, before s p 0 r S e)));
-      small = L.line_small;
+      longest = O.lengths.line ∙ sym (longest-line (table_of s) optional (widths_in s) (rows_in s p.rows) (sym top_as ∙ a) (sym bottom_as ∙ b) (omega (arith, before s p 0 r S e)));
+      small = O.lengths.line_small;
     }

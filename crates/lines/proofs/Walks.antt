@@ -15,7 +15,7 @@ use Rattle.formatting.specs.declared.content_format.Part.{Part}
 use Rattle.formatting.proofs.Parts.{part_none, part_length, part_room, part_whole, part_join, part_short}
 use Rattle.display_info.specs.Opened.{Opened}
 use Rattle.parts.specs.Ahead.{part_lines, rest_lines, ahead, lines_of, is_end, first_cursor, further_on, At, Next}
-use Rattle.display_info.specs.declared.Page.{Page}
+use Rattle.display_info.specs.declared.DisplayInfo.{DisplayInfo}
 use Rattle.lines.specs.declared.Sought.{Sought}
 use Rattle.parts.specs.declared.cursor.Cursor.{Cursor}
 use Rattle.rules.specs.declared.Reason.TheVariants.{NoSuchLine, PageOverBuffer}
@@ -26,13 +26,13 @@ use Rattle.parts.proofs.Bands.{drop-append, drop_whole, take_more, part_few}
 -- ---- counting
 
 -- the parts before the cursor are counted
-pub record Counting (s : List ℕ) (p : Page) (c : Cursor) (lines bytes : ℕ) : Type 0 where
+pub record Counting (s : List ℕ) (p : DisplayInfo) (c : Cursor) (lines bytes : ℕ) : Type 0 where
   pub at : At s p c
   pub start : c.line ≡ 0
   pub counted : lines + length (ahead s p c) ≡ length (lines_of s p)
   pub sized : bytes + length (closed (ahead s p c)) ≡ length (closed (lines_of s p))
 
-pub counting_begins : (s : List ℕ) (p : Page) → Opened s p → (c : Cursor) → c ≡ first_cursor p → Counting s p c 0 0
+pub counting_begins : (s : List ℕ) (p : DisplayInfo) → Opened s p → (c : Cursor) → c ≡ first_cursor p.rows → Counting s p c 0 0
 counting_begins s p O c e = rw e (record {
   at = first-at s p O;
   start = refl;
@@ -40,7 +40,7 @@ counting_begins s p O c e = rw e (record {
   sized = omega (arith, ap (λ ls. length (closed ls)) (first-ahead s p O));
 })
 
-module _ (s : List ℕ) (p : Page) (c : Cursor) (lines bytes : ℕ) (C : Counting s p c lines bytes) where
+module _ (s : List ℕ) (p : DisplayInfo) (c : Cursor) (lines bytes : ℕ) (C : Counting s p c lines bytes) where
   parts-length : length (ahead s p c) ≡ length (part_lines s p c) + length (rest_lines s p c)
   parts-length = ap length (ahead-start s p c C.start) ∙ length-append (part_lines s p c) (rest_lines s p c)
 
@@ -54,14 +54,14 @@ module _ (s : List ℕ) (p : Page) (c : Cursor) (lines bytes : ℕ) (C : Countin
         let b = parts_bytes in
         (omega (arith, parts-length, C.counted), omega (arith, C.sized))
 
-    pub counting-on : (k : Cursor) → Next s p c k → Counting s p k (lines + n) (bytes + m)
+    pub counting-on : (k : Cursor) → Next s c k → Counting s p k (lines + n) (bytes + m)
     counting-on k N =
         let b = parts_bytes in
         record {
-          at = N.at;
+          at = N.at p;
           start = N.start;
-          counted = rw N.lines (omega (arith, parts-length, C.counted));
-          sized = rw N.lines (omega (arith, C.sized));
+          counted = rw (N.lines p) (omega (arith, parts-length, C.counted));
+          sized = rw (N.lines p) (omega (arith, C.sized));
         }
 
   pub counting_done : is_end c.stage ≡ true → TotalsAre s p (record { lines = lines; bytes = bytes })
@@ -75,14 +75,14 @@ module _ (s : List ℕ) (p : Page) (c : Cursor) (lines bytes : ℕ) (C : Countin
 -- ---- seeking
 
 -- `left` lines are still to be passed to reach line k
-pub record Reaching (s : List ℕ) (p : Page) (k : ℕ) (c : Cursor) (left : ℕ) : Type 0 where
+pub record Reaching (s : List ℕ) (p : DisplayInfo) (k : ℕ) (c : Cursor) (left : ℕ) : Type 0 where
   pub at : At s p c
   pub start : c.line ≡ 0
   pub within : left ≤ k
   pub lines : ahead s p c ≡ drop (k - left) (lines_of s p)
   pub passed : k - left ≤ length (lines_of s p)
 
-pub reaching_begins : (s : List ℕ) (p : Page) → Opened s p → (k : ℕ) (c : Cursor) → c ≡ first_cursor p → Reaching s p k c k
+pub reaching_begins : (s : List ℕ) (p : DisplayInfo) → Opened s p → (k : ℕ) (c : Cursor) → c ≡ first_cursor p.rows → Reaching s p k c k
 reaching_begins s p O k c e =
     let z : k - k ≡ 0 = omega arith in
     rw e (record {
@@ -93,7 +93,7 @@ reaching_begins s p O k c e =
       passed = omega arith;
     })
 
-module _ (s : List ℕ) (p : Page) (k : ℕ) (c : Cursor) (left : ℕ) (R : Reaching s p k c left) where
+module _ (s : List ℕ) (p : DisplayInfo) (k : ℕ) (c : Cursor) (left : ℕ) (R : Reaching s p k c left) where
   here-lines : length (part_lines s p c) + length (rest_lines s p c) ≡ length (lines_of s p) - (k - left)
   here-lines = sym (ap length (ahead-start s p c R.start) ∙ length-append (part_lines s p c) (rest_lines s p c)) ∙ ap length R.lines ∙ length-drop
       (k - left) (lines_of s p)
@@ -121,7 +121,7 @@ module _ (s : List ℕ) (p : Page) (k : ℕ) (c : Cursor) (left : ℕ) (R : Reac
         some = λ _. omega (arith, line, ap length same);
       }
 
-  pub reaching-on : (n : ℕ) → n ≡ length (part_lines s p c) → n ≤ left → (r : Cursor) → Next s p c r → Reaching s p k r (left - n)
+  pub reaching-on : (n : ℕ) → n ≡ length (part_lines s p c) → n ≤ left → (r : Cursor) → Next s c r → Reaching s p k r (left - n)
   reaching-on n e h r N =
       let w = R.within in
       let m : k - (left - n) ≡ k - left + n = omega arith in
@@ -129,10 +129,10 @@ module _ (s : List ℕ) (p : Page) (k : ℕ) (c : Cursor) (left : ℕ) (R : Reac
       sym (ap (drop n) (ahead-start s p c R.start) ∙ drop-append n (part_lines s p c) (rest_lines s p c) (omega arith) ∙ rw
       (drop_whole n (part_lines s p c) (omega arith))) in
       record {
-        at = N.at;
+        at = N.at p;
         start = N.start;
         within = omega arith;
-        lines = N.lines ∙ rest ∙ ap (drop n) R.lines ∙ drop-drop n (k - left) (lines_of s p) ∙ ap (λ j. drop j (lines_of s p)) (sym m);
+        lines = N.lines p ∙ rest ∙ ap (drop n) R.lines ∙ drop-drop n (k - left) (lines_of s p) ∙ ap (λ j. drop j (lines_of s p)) (sym m);
         passed = omega (arith, here-lines, R.passed);
       }
 
@@ -146,7 +146,7 @@ module _ (s : List ℕ) (p : Page) (k : ℕ) (c : Cursor) (left : ℕ) (R : Reac
     some = λ f. absurd (true≢false (sym e ∙ f));
   }
 
-module _ (s : List ℕ) (p : Page) (k : ℕ) (r : Sought) (S : SoughtIs s p k r) where
+module _ (s : List ℕ) (p : DisplayInfo) (k : ℕ) (r : Sought) (S : SoughtIs s p k r) where
   -- at the end all lines are passed
   pub all_passed : is_end r.cursor.stage ≡ true → r.passed ≡ length (lines_of s p)
   all_passed e = omega (
@@ -200,16 +200,16 @@ module _ (s : List ℕ) (p : Page) (k : ℕ) (r : Sought) (S : SoughtIs s p k r)
 -- ---- writing
 
 -- `n` of the lines that `from` had before it are written, in `at` bytes
-pub record Filling (s : List ℕ) (p : Page) (from : Cursor) (b page : List ℕ) (c : Cursor) (n at : ℕ) : Type 0 where
+pub record Filling (s : List ℕ) (p : DisplayInfo) (from : Cursor) (b page : List ℕ) (c : Cursor) (n at : ℕ) : Type 0 where
   pub stands : At s p c
   pub few : n ≤ length (ahead s p from)
   pub rest : ahead s p c ≡ drop n (ahead s p from)
   pub part : PartIs (take n (ahead s p from)) b page (record { lines = n; bytes = at; whole = true })
 
-pub filling_begins : (s : List ℕ) (p : Page) (from : Cursor) (b : List ℕ) → At s p from → Filling s p from b b from 0 0
+pub filling_begins : (s : List ℕ) (p : DisplayInfo) (from : Cursor) (b : List ℕ) → At s p from → Filling s p from b b from 0 0
 filling_begins s p from b A = record { stands = A; few = omega arith; rest = refl; part = part_none b }
 
-module _ (s : List ℕ) (p : Page) (from : Cursor) (b page : List ℕ) (c : Cursor) (n at : ℕ) (G : Filling s p from b page c n at) where
+module _ (s : List ℕ) (p : DisplayInfo) (from : Cursor) (b page : List ℕ) (c : Cursor) (n at : ℕ) (G : Filling s p from b page c n at) where
   pub filling-room : at ≤ length page
   filling-room = part_room _ b page _ G.part
 
@@ -251,7 +251,7 @@ module _ (s : List ℕ) (p : Page) (from : Cursor) (b page : List ℕ) (c : Curs
     filling_bytes = omega (arith, part_room _ b d _ both, part_length _ b d _ both)
 
     -- the part is whole
-    pub filling-on : r.whole ≡ true → (k : Cursor) → Next s p c k → Filling s p from b d k (n + r.lines) (at + r.bytes)
+    pub filling-on : r.whole ≡ true → (k : Cursor) → Next s c k → Filling s p from b d k (n + r.lines) (at + r.bytes)
     filling-on w k N =
         let m : r.lines ≡ length (drop c.line (part_lines s p c)) = P.lines ∙ part_whole _ _ _ _ P w in
         let rest : drop (n + r.lines) (ahead s p from) ≡ rest_lines s p c =
@@ -262,9 +262,9 @@ module _ (s : List ℕ) (p : Page) (from : Cursor) (b page : List ℕ) (c : Curs
         take_more n r.lines (ahead s p from) ∙ ap (λ ls. take n (ahead s p from) ++ take r.lines ls) left_is
         ∙ ap (λ ls. take n (ahead s p from) ++ ls) (take_at (drop c.line (part_lines s p c)) (rest_lines s p c) r.lines (sym m)) in
         record {
-          stands = N.at;
+          stands = N.at p;
           few = filling-lines;
-          rest = N.lines ∙ sym rest;
+          rest = N.lines p ∙ sym rest;
           part = rw (done, ← w) both;
         }
 

@@ -3,13 +3,13 @@
 
 ghost use Rattle.std.specs.Prelude.{◌≤◌, length};
 ghost use Rattle.rules.specs.Limits.{most_lines};
-ghost use Rattle.display_info.specs.Opened.{Opened};
 ghost use Rattle.parts.specs.Ahead.{At, ahead};
 ghost use Rattle.lines.specs.Walk.{TotalsAre, SoughtIs, LongestIs, FoundIs, WroteIs};
 
 use display_info::Page;
+use parts::cursor;
 use parts::cursor::Cursor;
-use parts::{cursor, lengths, part, sizes};
+use parts::part::PagePart;
 use rules::{Reason, Refusal};
 
 // A page's lines and bytes.
@@ -20,20 +20,19 @@ pub struct Totals {
 }
 
 // A page's lines and bytes, part after part.
-pub fn count(sheet: &[u8], p: &Page) -> Totals
-    requires { Opened sheet.now p.now }
-    ensures { TotalsAre sheet.now p.now result }
+pub fn count(p: &Page<'_>) -> Totals
+    ensures { TotalsAre p.now.sheet.now p.now.info result }
 {
-    let l = lengths::measure(sheet, p);
-    let mut c = cursor::first(p);
+    let mut c = cursor::first(p.info.rows);
     let mut lines: usize = 0;
     let mut bytes: usize = 0;
     while !cursor::is_end(c) {
-        let n = part::lines(sheet, p, c);
-        let more = sizes::bytes(sheet, p, l, c, n);
+        let part = PagePart::at(p, c);
+        let n = part.lines(p);
+        let more = part.bytes(p, n);
         lines += n;
         bytes += more;
-        c = cursor::next(sheet, p, c);
+        c = cursor::next(p.sheet, c);
     }
     Totals { lines, bytes }
 }
@@ -46,20 +45,19 @@ pub struct Sought {
 }
 
 // The cursor at line k, or at the end, where the lines before it are all there are.
-pub fn seek(sheet: &[u8], p: &Page, k: usize) -> Sought
-    requires { Opened sheet.now p.now }
-    ensures { SoughtIs sheet.now p.now k result }
+pub fn seek(p: &Page<'_>, k: usize) -> Sought
+    ensures { SoughtIs p.now.sheet.now p.now.info k result }
 {
-    let mut c = cursor::first(p);
+    let mut c = cursor::first(p.info.rows);
     let mut left = k;
     while !cursor::is_end(c) {
-        let n = part::lines(sheet, p, c);
+        let n = PagePart::at(p, c).lines(p);
         if left < n {
             let cursor = cursor::further(c, left);
             return Sought { cursor, passed: k };
         }
         left -= n;
-        c = cursor::next(sheet, p, c);
+        c = cursor::next(p.sheet, c);
     }
     Sought {
         cursor: c,
@@ -75,11 +73,10 @@ pub struct Found {
 }
 
 // Line k, to be written into some room.
-pub fn find(sheet: &[u8], p: &Page, k: usize, room: usize) -> Result<Found, Refusal>
-    requires { Opened sheet.now p.now }
-    ensures { FoundIs sheet.now p.now k room result }
+pub fn find(p: &Page<'_>, k: usize, room: usize) -> Result<Found, Refusal>
+    ensures { FoundIs p.now.sheet.now p.now.info k room result }
 {
-    let sought = seek(sheet, p, k);
+    let sought = seek(p, k);
     let cursor = sought.cursor;
     if cursor::is_end(cursor) {
         return Err(Refusal {
@@ -87,8 +84,8 @@ pub fn find(sheet: &[u8], p: &Page, k: usize, room: usize) -> Result<Found, Refu
             place: sought.passed,
         });
     }
-    let l = lengths::measure(sheet, p);
-    let size = sizes::line_size(sheet, p, l, cursor);
+    let part = PagePart::at(p, cursor);
+    let size = part.line_size(p, cursor.line);
     if room < size {
         return Err(Refusal {
             reason: Reason::PageOverBuffer,
@@ -99,19 +96,18 @@ pub fn find(sheet: &[u8], p: &Page, k: usize, room: usize) -> Result<Found, Refu
 }
 
 // The longest of a page's lines, in columns: a border is as long as any line, and without borders all lines are equally long.
-pub fn longest_line(sheet: &[u8], p: &Page) -> usize
-    requires { Opened sheet.now p.now }
-    ensures { LongestIs sheet.now p.now result }
+pub fn longest_line(p: &Page<'_>) -> usize
+    ensures { LongestIs p.now.sheet.now p.now.info result }
 {
-    let l = lengths::measure(sheet, p);
-    let styles = p.styles;
-    if styles.has_top {
+    let l = p.info.lengths;
+    let styles = p.info.styles;
+    if styles.top.is_some() {
         return l.border;
     }
-    if styles.has_bottom {
+    if styles.bottom.is_some() {
         return l.border;
     }
-    let first = seek(sheet, p, 0);
+    let first = seek(p, 0);
     if cursor::is_end(first.cursor) {
         return 0;
     }
@@ -127,23 +123,23 @@ pub struct Written {
 }
 
 // Lines from the cursor's on, one after another, as many as there is room for.
-pub fn write(page: &mut [u8], sheet: &[u8], p: &Page, from: Cursor) -> Written
-    requires { Opened sheet.now p.now × (At sheet.now p.now from × (length (ahead sheet.now p.now from) ≤ most_lines)) }
-    ensures { WroteIs sheet.now p.now from page.old page.new result }
+pub fn write(page: &mut [u8], p: &Page<'_>, from: Cursor) -> Written
+    requires { At p.now.sheet.now p.now.info from × (length (ahead p.now.sheet.now p.now.info from) ≤ most_lines) }
+    ensures { WroteIs p.now.sheet.now p.now.info from page.old page.new result }
 {
-    let l = lengths::measure(sheet, p);
     let mut c = from;
     let mut lines: usize = 0;
     let mut bytes: usize = 0;
     while !cursor::is_end(c) {
-        let drawn = part::draw(&mut page[bytes..], sheet, p, l, c);
+        let part = PagePart::at(p, c);
+        let drawn = part.draw(&mut page[bytes..], p, c.line);
         lines += drawn.lines;
         bytes += drawn.bytes;
         if !drawn.whole {
             let next = cursor::further(c, drawn.lines);
             return Written { lines, bytes, next };
         }
-        c = cursor::next(sheet, p, c);
+        c = cursor::next(p.sheet, c);
     }
     Written {
         lines,

@@ -33,7 +33,7 @@ use Rattle.buffer.specs.Put.{over}
 use Rattle.parts.specs.Ahead.{ahead, lines_of, first_cursor}
 use Rattle.display_info.specs.Opened.{Opened}
 use Rattle.lines.specs.Walk.{size_of, TotalsAre, LineFound, LineRefused, past, short, WroteIs}
-use Rattle.display_info.specs.declared.Page.{Page}
+use Rattle.display_info.specs.declared.DisplayInfo.{DisplayInfo}
 use Rattle.parts.specs.declared.cursor.Cursor.{Cursor}
 use Rattle.lines.specs.declared.Totals.{Totals}
 use Rattle.lines.specs.declared.Found.{Found}
@@ -179,7 +179,7 @@ module _ (s : List ℕ) (h : IsAccepted s) where
       (several.put_lines (table_of s) k b) (several.no_lines 21 (line_count (table_of s)) b) (lt-true k (line_count (table_of s)) e)
 
   -- the page is opened over all rows
-  module _ (p : Page) (rows : rows_in s p.rows ≡ (table_of s).rows) where
+  module _ (p : DisplayInfo) (rows : rows_in s p.rows ≡ (table_of s).rows) where
     lines-all : lines_of s p ≡ page_lines (table_of s)
     unfolding lines_of page_lines
     lines-all = rw rows
@@ -192,8 +192,8 @@ module _ (s : List ℕ) (h : IsAccepted s) where
     unfolding line_count
     lines-bound c k e = omega (arith, ap length e, length-drop k (lines_of s p), ap length lines-all, line-count-bound (table_of s) (limits_of s h))
 
-    pub lines-bound-first : Opened s p → length (ahead s p (first_cursor p)) ≤ most_lines
-    lines-bound-first O = lines-bound (first_cursor p) 0 (first-ahead s p O)
+    pub lines-bound-first : Opened s p → length (ahead s p (first_cursor p.rows)) ≤ most_lines
+    lines-bound-first O = lines-bound (first_cursor p.rows) 0 (first-ahead s p O)
 
     pub lines_few : (c : Cursor) (k : ℕ) (r : Written) {b a : List ℕ} → ahead s p c ≡ drop k (lines_of s p) → WroteIs s p c b a r → r.lines ≤ most_lines
     lines_few c k r {b} {a} e W = omega (arith, W.lines, fitting_few (length b) (ahead s p c), lines-bound c k e)
@@ -203,12 +203,12 @@ module _ (s : List ℕ) (h : IsAccepted s) where
     closed-page b = refl
 
     -- the whole page
-    pub page-written : (b a : List ℕ) (r : Written) → ahead s p (first_cursor p) ≡ lines_of s p → WroteIs s p (first_cursor p) b a r → byte_count
+    pub page-written : (b a : List ℕ) (r : Written) → ahead s p (first_cursor p.rows) ≡ lines_of s p → WroteIs s p (first_cursor p.rows) b a r → byte_count
         (table_of s) ≤ length b
         → print_page s b ≡ record { answer = record { number = 0; place = 0; written = r.bytes }; buffer = a }
     page-written b a r e W room =
         let bytes = byte-count-closed (table_of s) in
-        let all : whole_lines (length b) (ahead s p (first_cursor p)) ≡ page_lines (table_of s) =
+        let all : whole_lines (length b) (ahead s p (first_cursor p.rows)) ≡ page_lines (table_of s) =
         ap (whole_lines (length b)) (e ∙ lines-all) ∙ fitting-all (length b) (page_lines (table_of s)) (omega arith) in
         let n : r.bytes ≡ byte_count (table_of s) = W.bytes ∙ ap (λ ls. length (closed ls)) all ∙ sym bytes in
         let text : over (page_of (table_of s)) b ≡ a = sym (W.page ∙ ap (λ ls. over (closed ls) b) all ∙ closed-page b) in

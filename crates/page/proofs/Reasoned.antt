@@ -16,7 +16,7 @@ use Rattle.table.proofs.Held.{held}
 use Rattle.arrangement.specs.Widths.{arranged_widths}
 use Rattle.width_steps.specs.declared.Report.{Report}
 use Rattle.width_steps.specs.Steps.{report_of}
-use Rattle.display_info.specs.declared.Page.{Page}
+use Rattle.display_info.specs.declared.DisplayInfo.{DisplayInfo}
 use Rattle.parts.specs.Ahead.{lines_of}
 use Rattle.lines.specs.Walk.{LongestIs}
 
@@ -26,11 +26,11 @@ unfolding difference
 no_difference t w e z = rw (eq-eqb t.target 0 (sym e ∙ z), difference)
 
 -- the longest line of the whole page
-longest_of : (s : List ℕ) (p : Page) (r : ℕ) → LongestIs s p r → rows_in s p.rows ≡ (table_of s).rows → r ≡ longest_printed (table_of s)
+longest_of : (s : List ℕ) (p : DisplayInfo) (r : ℕ) → LongestIs s p r → rows_in s p.rows ≡ (table_of s).rows → r ≡ longest_printed (table_of s)
 unfolding longest_printed page_lines lines_of
 longest_of s p r L e = L.longest ∙ rw e
 
-pub some-difference : (s : List ℕ) (p : Page) (w r : ℕ) (z : ℤ) → w ≡ (table_of s).target → (w ≡ 0 → ⊥) → LongestIs s p r → rows_in s p.rows ≡ (table_of s).rows
+pub some-difference : (s : List ℕ) (p : DisplayInfo) (w r : ℕ) (z : ℤ) → w ≡ (table_of s).target → (w ≡ 0 → ⊥) → LongestIs s p r → rows_in s p.rows ≡ (table_of s).rows
     → z ≡ pos w -ℤ pos r → z ≡ difference (table_of s)
 unfolding difference
 some-difference s p w r z e n L f q =

@@ -53,7 +53,7 @@ fn difference(sheet: &AcceptedSheet<'_>, plain: bool, widths: Widths, target: u1
         return 0;
     }
     let p = display_info::open_by(sheet, plain, widths);
-    let longest = lines::longest_line(sheet.bytes, &p);
+    let longest = lines::longest_line(&p);
     width_steps::difference(target, longest)
 }
 
@@ -92,7 +92,7 @@ pub fn count(sheet: &[u8]) -> Counted
     };
     let accepted = AcceptedSheet { bytes: sheet };
     let p = display_info::open(&accepted, examined.plain);
-    let totals = lines::count(sheet, &p);
+    let totals = lines::count(&p);
     Counted {
         number: 0,
         place: 0,
@@ -109,14 +109,14 @@ pub fn write_page(sheet: &[u8], page: &mut [u8]) -> Result<usize, Refusal>
     let examined = sheet::examine(sheet)?;
     let accepted = AcceptedSheet { bytes: sheet };
     let p = display_info::open(&accepted, examined.plain);
-    let totals = lines::count(sheet, &p);
+    let totals = lines::count(&p);
     if page.len() < totals.bytes {
         return Err(Refusal {
             reason: Reason::PageOverBuffer,
             place: totals.bytes,
         });
     }
-    let wrote = lines::write(page, sheet, &p, cursor::first(&p));
+    let wrote = lines::write(page, &p, cursor::first(p.info.rows));
     Ok(wrote.bytes)
 }
 
@@ -136,9 +136,9 @@ pub fn write_line(sheet: &[u8], line: usize, page: &mut [u8]) -> Result<usize, R
     let examined = sheet::examine(sheet)?;
     let accepted = AcceptedSheet { bytes: sheet };
     let p = display_info::open(&accepted, examined.plain);
-    let found = lines::find(sheet, &p, line, page.len())?;
+    let found = lines::find(&p, line, page.len())?;
     let needed = found.size;
-    let drawn = lines::write(&mut page[..needed], sheet, &p, found.cursor);
+    let drawn = lines::write(&mut page[..needed], &p, found.cursor);
     Ok(drawn.bytes)
 }
 
@@ -182,8 +182,8 @@ pub fn write_lines(sheet: &[u8], line: usize, page: &mut [u8]) -> Result<Totals,
     let examined = sheet::examine(sheet)?;
     let accepted = AcceptedSheet { bytes: sheet };
     let p = display_info::open(&accepted, examined.plain);
-    let found = lines::find(sheet, &p, line, page.len())?;
-    let wrote = lines::write(page, sheet, &p, found.cursor);
+    let found = lines::find(&p, line, page.len())?;
+    let wrote = lines::write(page, &p, found.cursor);
     Ok(Totals {
         lines: wrote.lines,
         bytes: wrote.bytes,

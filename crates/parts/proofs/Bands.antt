@@ -8,8 +8,11 @@ use native.Mathlib.Nat.{suc-add, suc-mul}
 use lib.ListN.{length, take, drop, get_or, length-append, drop_of_length-le, get_or-append}
 use lib.Seq.{drop-nil, take-nil, get_or_at}
 use lib.Dec.{ltb}
+use mir.Val.{bool_byte}
 use borrow.Author.Tests.{not-true, not-false, ltb-true, ltb-false}
 use borrow.Rule.Slice.PartMut.{put_mid}
+use Rattle.std.specs.Prelude.{Option, Some, None, is_some}
+use Rattle.std.specs.Option.{ForSome}
 use Rattle.rules.specs.Text.{All}
 use Rattle.rules.specs.Sheet.{Row, no_row}
 use Rattle.rules.specs.Style.{top_border, bottom_border}
@@ -39,17 +42,14 @@ use Rattle.formatting.proofs.Parts.{part_none, part-line, part-full, part_join, 
 use Rattle.borders.proofs.Rule.{rule_text_lem}
 use Rattle.display_info.specs.Opened.{widths_in, RowsAt, Opened}
 use Rattle.parts.specs.Ahead.{rule_lines, part_lines, lines_of, At}
-use Rattle.parts.specs.Lengths.{LengthsAre}
-use Rattle.parts.specs.declared.lengths.Lengths.{Lengths}
-use Rattle.parts.specs.Band.{band_lines, band_count, body_style, SizedBand}
-use Rattle.display_info.specs.declared.Page.{Page}
+use Rattle.parts.specs.Band.{rule_by, SizedRule, band_lines, body_style, SizedBand}
+use Rattle.display_info.specs.declared.DisplayInfo.{DisplayInfo}
 use Rattle.display_info.specs.declared.RowStyle.{RowStyle}
 use Rattle.parts.specs.declared.cursor.Cursor.{Cursor}
 use Rattle.parts.specs.declared.cursor.Stage.{Stage}
 use Rattle.parts.specs.declared.cursor.Stage.TheVariants.{Top, Header, Body, Bottom, End}
-use Rattle.display_info.proofs.Opening.{limits_of}
-use Rattle.parts.proofs.Parts.{border_few, border_lengths, border-most, top-drawn, bottom-drawn, header-drawn, body-drawn}
-use Rattle.parts.proofs.Parts.{top_count, header-count, body-count, bottom-count, end-count}
+use Rattle.display_info.proofs.Opening.{limits_of, header_at, rows_at}
+use Rattle.parts.proofs.Parts.{part_top, part_header, part_body, part_bottom, part_end}
 
 pub drop-append : {A : Type 0} (n : ℕ) (xs ys : List A) → n ≤ length xs → drop n (xs ++ ys) ≡ drop n xs ++ ys
 drop-append zero xs ys h = refl
@@ -81,47 +81,50 @@ pub row-lines_are : (s : List ℕ) (view : View) (here : Rows) (r : records.Row)
     → m ≡ limited r.limit n → m ≡ row_height s (first_row s here)
 row-lines_are s view here r n m plain D R e f = f ∙ rw (e, R.limit, R.cells) (limited-height (table_of s) (widths_in s) (first_row s here) view D.views)
 
-pub band-none : (s : List ℕ) (b : Bool) (here : Rows) → here.left ≡ 0 → 0 ≡ band_count s b (rows_in s here)
-unfolding band_count
-band-none s b here e = go (rows_in s here) (rows_number s here)
+pub band-none : (s : List ℕ) (view : View) (y : RowStyle) (here : Rows) → here.left ≡ 0 → 0 ≡ length (band_lines s view y (rows_in s here))
+unfolding band_lines
+band-none s view y here e = go (rows_in s here) (rows_number s here)
   where
-    go : (rs : List Row) → length rs ≡ here.left → 0 ≡ band_count s b rs
+    go : (rs : List Row) → length rs ≡ here.left → 0 ≡ length (band_lines s view y rs)
     go [] f = refl
     go (r ∷ rs) f = absurd (omega arith)
 
-pub band-some : (s : List ℕ) (b : Bool) (here : Rows) (n m : ℕ) → (here.left ≡ 0 → ⊥) → n ≡ row_height s (first_row s here) → m ≡ cond b 1 0 → n + m ≡
-    band_count s b (rows_in s here)
-unfolding band_count
-band-some s b here n m h e f = go (rows_in s here) (rows_number s here) e
+pub rule_few : (view : View) (o : Option RuleStyle) → length (rule_by view o) ≤ 1
+rule_few view None = omega arith
+rule_few view (Some x) = omega arith
+
+pub rule_count : (view : View) (o : Option RuleStyle) → length (rule_by view o) ≡ bool_byte (is_some o)
+rule_count view None = refl
+rule_count view (Some x) = refl
+
+pub band-some : (s : List ℕ) (view : View) (y : RowStyle) (here : Rows) (n m : ℕ) → (here.left ≡ 0 → ⊥) → n ≡ row_height s (first_row s here)
+    → m ≡ bool_byte (is_some y.rule) → n + m ≡ length (band_lines s view y (rows_in s here))
+unfolding band_lines
+band-some s view y here n m h e f = go (rows_in s here) (rows_number s here) e
   where
-    go : (rs : List Row) → length rs ≡ here.left → n ≡ row_height s (get_or rs 0 no_row) → n + m ≡ band_count s b rs
+    go : (rs : List Row) → length rs ≡ here.left → n ≡ row_height s (get_or rs 0 no_row) → n + m ≡ length (band_lines s view y rs)
     go [] g i = absurd (h (omega arith))
-    go (r ∷ rs) g i = rw (i, f)
+    go (r ∷ rs) g i = rw (length-append (row_lines s y.lines r) (rule_by view y.rule), lines-count s y.lines r, rule_count view y.rule, i, f)
 
 -- ---- a border or a rule
 
-module _ (view : View) (y : RuleStyle) (b : List ℕ) where
-  pub rule-none : (visible : Bool) → not visible ≡ true → PartIs (cond visible (rule_text view y ∷ []) []) b b
-      (record { lines = 0; bytes = 0; whole = true })
-  rule-none true e = let z : ◌≡◌ {A = ℕ} 0 1 = cc in absurd (omega arith)
-  rule-none false e = part_none b
+module _ (view : View) (o : Option RuleStyle) (b : List ℕ) where
+  pub rule-none : o ≡ None → PartIs (rule_by view o) b b (record { lines = 0; bytes = 0; whole = true })
+  rule-none e = rw e (part_none b)
 
-  pub rule-full : (visible : Bool) (size : ℕ) → not visible ≡ false → size ≡ length (rule_text view y) + 1 → length b < size
-      → PartIs (cond visible (rule_text view y ∷ []) []) b b (record { lines = 0; bytes = 0; whole = false })
-  rule-full true size e f h = part-full (rule_text view y) [] b (omega arith)
-  rule-full false size e f h = let z : ◌≡◌ {A = ℕ} 0 1 = cc in absurd (omega arith)
+  module _ (y : RuleStyle) (e : o ≡ Some y) (size : ℕ) (f : size ≡ length (rule_text view y) + 1) where
+    pub rule-full : length b < size → PartIs (rule_by view o) b b (record { lines = 0; bytes = 0; whole = false })
+    rule-full h = rw e (part-full (rule_text view y) [] b (omega arith))
 
-  rule_size : length (rule_bytes view y) ≡ length (rule_text view y) + 1
-  rule_size = ap length (rule_text_lem view y) ∙ length-append (rule_text view y) (10 ∷ [])
+    rule_size : length (rule_bytes view y) ≡ length (rule_text view y) + 1
+    rule_size = ap length (rule_text_lem view y) ∙ length-append (rule_text view y) (10 ∷ [])
 
-  pub rule-room : (size : ℕ) → size ≡ length (rule_text view y) + 1 → size ≤ length b → length (rule_bytes view y) ≤ length b
-  rule-room size e h = omega (arith, rule_size)
+    pub rule-room : size ≤ length b → length (rule_bytes view y) ≤ length b
+    rule-room h = omega (arith, rule_size)
 
-  pub rule-one : (visible : Bool) (size n : ℕ) (a : List ℕ) → not visible ≡ false → size ≡ length (rule_text view y) + 1 → size ≤ length b → n ≡ length
-      (rule_bytes view y) → a ≡ over (rule_bytes view y) b
-      → PartIs (cond visible (rule_text view y ∷ []) []) b a (record { lines = 1; bytes = n; whole = true })
-  rule-one true size n a e f h i j = rw (i, rule_size) (part-line (rule_text view y) b a (omega arith) (j ∙ ap (λ l. over l b) (rule_text_lem view y)))
-  rule-one false size n a e f h i j = let z : ◌≡◌ {A = ℕ} 0 1 = cc in absurd (omega arith)
+    pub rule-one : (n : ℕ) (a : List ℕ) → size ≤ length b → n ≡ length (rule_bytes view y) → a ≡ over (rule_bytes view y) b
+        → PartIs (rule_by view o) b a (record { lines = 1; bytes = n; whole = true })
+    rule-one n a h i j = rw (e, i, rule_size) (part-line (rule_text view y) b a (omega arith) (j ∙ ap (λ l. over l b) (rule_text_lem view y)))
 
 -- ---- a row with the rule after it
 
@@ -157,19 +160,19 @@ module _ (s : List ℕ) (view : View) (y : RowStyle) (here : Rows) (plain : Bool
       go [] f = sym no_bytes
       go (r ∷ rs) f = absurd (omega arith)
 
-  rule-each : All (λ l. length l + 1 ≡ size) (cond y.ruled (rule_text view y.rule ∷ []) [])
-  rule-each = go y.ruled
+  rule-each : All (λ l. length l + 1 ≡ size) (rule_by view y.rule)
+  rule-each = go y.rule B.rule
     where
-      go : (b : Bool) → All (λ l. length l + 1 ≡ size) (cond b (rule_text view y.rule ∷ []) [])
-      go true = (sym B.rule, tt)
-      go false = tt
+      go : (o : Option RuleStyle) → SizedRule view o size → All (λ l. length l + 1 ≡ size) (rule_by view o)
+      go (Some x) F = (sym (F x refl), tt)
+      go None F = tt
 
-  rule_bytes_lem : length (closed (cond y.ruled (rule_text view y.rule ∷ []) [])) ≡ cond y.ruled size 0
-  rule_bytes_lem = go y.ruled
+  rule_bytes_lem : length (closed (rule_by view y.rule)) ≡ cond (is_some y.rule) size 0
+  rule_bytes_lem = go y.rule B.rule
     where
-      go : (b : Bool) → length (closed (cond b (rule_text view y.rule ∷ []) [])) ≡ cond b size 0
-      go true = ap length (closed-one (rule_text view y.rule)) ∙ length-append (rule_text view y.rule) (10 ∷ []) ∙ sym B.rule
-      go false = no_bytes
+      go : (o : Option RuleStyle) → SizedRule view o size → length (closed (rule_by view o)) ≡ cond (is_some o) size 0
+      go (Some x) F = ap length (closed-one (rule_text view x)) ∙ length-append (rule_text view x) (10 ∷ []) ∙ sym (F x refl)
+      go None F = no_bytes
 
   -- on a plain page every line takes as many bytes as the rule
   pub bytes-plain : plain ≡ true → (n : ℕ) → n ≡ length (band_lines s view y (rows_in s here)) → n * size ≡ length (closed (band_lines s view y (rows_in s here)))
@@ -180,28 +183,27 @@ module _ (s : List ℕ) (view : View) (y : RowStyle) (here : Rows) (plain : Bool
       go [] Z = tt
       go (r ∷ rs) Z =
           let z = Z (omega arith) in
-          all_append (λ l. length l + 1 ≡ size) (row_lines s y.lines r) (cond y.ruled (rule_text view y.rule ∷ []) [])
+          all_append (λ l. length l + 1 ≡ size) (row_lines s y.lines r) (rule_by view y.rule)
           (all_places (λ l. length l + 1 ≡ size) (row_lines s y.lines r) [] (λ i k. z.each e i (omega (arith, lines-count s y.lines r)))) rule-each
 
   module _ (some : 0 < here.left) where
-    rows_band : band_lines s view y (rows_in s here) ≡ row_lines s y.lines (first_row s here) ++ cond y.ruled (rule_text view y.rule ∷ []) []
+    rows_band : band_lines s view y (rows_in s here) ≡ row_lines s y.lines (first_row s here) ++ rule_by view y.rule
     unfolding band_lines
     rows_band = go (rows_in s here) (rows_number s here)
       where
-        go : (rs : List Row) → length rs ≡ here.left → band_lines s view y rs ≡ row_lines s y.lines (get_or rs 0 no_row) ++ cond y.ruled
-            (rule_text view y.rule ∷ []) []
+        go : (rs : List Row) → length rs ≡ here.left → band_lines s view y rs ≡ row_lines s y.lines (get_or rs 0 no_row) ++ rule_by view y.rule
         go [] e = absurd (omega arith)
         go (r ∷ rs) e = refl
 
     -- else its text lines' bytes and the rule's
-    pub bytes_summed : (a b : ℕ) → a ≡ length (closed (row_lines s y.lines (first_row s here))) → b ≡ cond y.ruled size 0
+    pub bytes_summed : (a b : ℕ) → a ≡ length (closed (row_lines s y.lines (first_row s here))) → b ≡ cond (is_some y.rule) size 0
         → a + b ≡ length (closed (band_lines s view y (rows_in s here)))
     bytes_summed a b e f =
         let ls = row_lines s y.lines (first_row s here) in
-        let r = cond y.ruled (rule_text view y.rule ∷ []) [] in
+        let r = rule_by view y.rule in
         let c = ap (λ l. length (closed l)) rows_band
-        ∙ ap length (closed-append (row_lines s y.lines (first_row s here)) (cond y.ruled (rule_text view y.rule ∷ []) []))
-        ∙ length-append (closed (row_lines s y.lines (first_row s here))) (closed (cond y.ruled (rule_text view y.rule ∷ []) [])) in
+        ∙ ap length (closed-append (row_lines s y.lines (first_row s here)) (rule_by view y.rule))
+        ∙ length-append (closed (row_lines s y.lines (first_row s here))) (closed (rule_by view y.rule)) in
         omega (arith, c, e, f, rule_bytes_lem)
 
     -- as many as plain lines would take, and its text lines' pairs
@@ -209,17 +211,17 @@ module _ (s : List ℕ) (view : View) (y : RowStyle) (here : Rows) (plain : Bool
         → length (closed (row_lines s y.lines (first_row s here))) ≡ row_height s (first_row s here) * size + q
         → n * size + q ≡ length (closed (band_lines s view y (rows_in s here)))
     bytes-and n q f z =
-        let d = ap length rows_band ∙ length-append (row_lines s y.lines (first_row s here)) (cond y.ruled (rule_text view y.rule ∷ []) []) in
+        let d = ap length rows_band ∙ length-append (row_lines s y.lines (first_row s here)) (rule_by view y.rule) in
         omega (
           arith,
-          bytes_summed (length (closed (row_lines s y.lines (first_row s here)))) (cond y.ruled size 0) refl refl,
+          bytes_summed (length (closed (row_lines s y.lines (first_row s here)))) (cond (is_some y.rule) size 0) refl refl,
           z,
-          lines_in y.ruled (row_height s (first_row s here)) n (omega (arith, f, d, lines-count s y.lines (first_row s here))),
+          lines_in y.rule (row_height s (first_row s here)) n (omega (arith, f, d, lines-count s y.lines (first_row s here))),
         )
       where
-        lines_in : (b : Bool) (h n : ℕ) → n ≡ h + length (cond b (rule_text view y.rule ∷ []) []) → n * size ≡ h * size + cond b size 0
-        lines_in true h n e = let k : n ≡ suc h = omega arith in rw k (suc-mul h size ∙ omega arith)
-        lines_in false h n e = let k : n ≡ h = omega arith in rw k (omega arith)
+        lines_in : (o : Option RuleStyle) (h n : ℕ) → n ≡ h + length (rule_by view o) → n * size ≡ h * size + cond (is_some o) size 0
+        lines_in (Some x) h n e = let k : n ≡ suc h = omega arith in rw k (suc-mul h size ∙ omega arith)
+        lines_in None h n e = let k : n ≡ h = omega arith in rw k (omega arith)
 
     -- without a limit those that its cells hold
     pub bytes-held : (first_row s here).limit ≡ 0 → (n q : ℕ) → n ≡ length (band_lines s view y (rows_in s here))
@@ -228,7 +230,7 @@ module _ (s : List ℕ) (view : View) (y : RowStyle) (here : Rows) (plain : Bool
 
     band-height : row_height s (first_row s here) ≤ length (band_lines s view y (rows_in s here))
     band-height =
-        let d = ap length rows_band ∙ length-append (row_lines s y.lines (first_row s here)) (cond y.ruled (rule_text view y.rule ∷ []) []) in
+        let d = ap length rows_band ∙ length-append (row_lines s y.lines (first_row s here)) (rule_by view y.rule) in
         omega (arith, d, lines-count s y.lines (first_row s here))
 
     -- else those that its lines show
@@ -239,12 +241,8 @@ module _ (s : List ℕ) (view : View) (y : RowStyle) (here : Rows) (plain : Bool
 
     pub bytes_few : length (band_lines s view y (rows_in s here)) ≤ most_lines + 1
     bytes_few =
-        let d = ap length rows_band ∙ length-append (row_lines s y.lines (first_row s here)) (cond y.ruled (rule_text view y.rule ∷ []) []) in
-        omega (arith, d, lines-count s y.lines (first_row s here), (B.text (omega (arith, rows_number s here))).bounded.few, one y.ruled)
-      where
-        one : (b : Bool) → length (cond b (rule_text view y.rule ∷ []) []) ≤ 1
-        one true = omega arith
-        one false = omega arith
+        let d = ap length rows_band ∙ length-append (row_lines s y.lines (first_row s here)) (rule_by view y.rule) in
+        omega (arith, d, lines-count s y.lines (first_row s here), (B.text (omega (arith, rows_number s here))).bounded.few, rule_few view y.rule)
 
     -- they aren't too many
     pub text-most : length (closed (row_lines s y.lines (first_row s here))) ≤ most_lines * (longest_line + 1)
@@ -261,7 +259,7 @@ module _ (s : List ℕ) (view : View) (y : RowStyle) (here : Rows) (plain : Bool
         )
 
     pub band-most : length (closed (band_lines s view y (rows_in s here))) ≤ (most_lines + 1) * (longest_line + 1)
-    band-most = omega (arith, bytes_summed _ (cond y.ruled size 0) refl refl, text-most, rule_small y.ruled)
+    band-most = omega (arith, bytes_summed _ (cond (is_some y.rule) size 0) refl refl, text-most, rule_small (is_some y.rule))
       where
         rule_small : (b : Bool) → cond b size 0 ≤ longest_line + 1
         rule_small true = B.small
@@ -272,7 +270,7 @@ module _ (s : List ℕ) (view : View) (y : RowStyle) (here : Rows) (plain : Bool
         → get_or (band_lines s view y (rows_in s here)) n [] ≡ get_or (row_lines s y.lines (first_row s here)) n []
     line_text n h =
         ap (λ l. get_or l n []) rows_band
-        ∙ get_or-append (row_lines s y.lines (first_row s here)) (cond y.ruled (rule_text view y.rule ∷ []) []) [] n
+        ∙ get_or-append (row_lines s y.lines (first_row s here)) (rule_by view y.rule) [] n
         (omega (arith, lines-count s y.lines (first_row s here)))
 
     pub line-shown : (n q : ℕ) → n < row_height s (first_row s here)
@@ -284,32 +282,30 @@ module _ (s : List ℕ) (view : View) (y : RowStyle) (here : Rows) (plain : Bool
         → size ≡ length (get_or (band_lines s view y (rows_in s here)) n []) + 1
     line_rule n h k =
         let ls = row_lines s y.lines (first_row s here) in
-        let c = length-append (row_lines s y.lines (first_row s here)) (cond y.ruled (rule_text view y.rule ∷ []) []) in
+        let c = length-append (row_lines s y.lines (first_row s here)) (rule_by view y.rule) in
         let d = lines-count s y.lines (first_row s here) in
-        go y.ruled refl (rw rows_band at k)
+        go y.rule refl (rw rows_band at k)
       where
-        go : (b : Bool) → y.ruled ≡ b
-            → n < length (row_lines s y.lines (first_row s here) ++ cond y.ruled (rule_text view y.rule ∷ []) [])
+        go : (o : Option RuleStyle) → y.rule ≡ o → n < length (row_lines s y.lines (first_row s here) ++ rule_by view y.rule)
             → size ≡ length (get_or (band_lines s view y (rows_in s here)) n []) + 1
-        go true e q =
+        go (Some x) e q =
             let ls = row_lines s y.lines (first_row s here) in
-            let r : cond y.ruled (rule_text view y.rule ∷ []) [] ≡ rule_text view y.rule ∷ [] = ap (λ b. cond b (rule_text view y.rule ∷ []) []) e in
+            let r : rule_by view y.rule ≡ rule_text view x ∷ [] = ap (rule_by view) e in
             let z : length (row_lines s y.lines (first_row s here)) ≡ n =
             omega (
               arith,
               lines-count s y.lines (first_row s here),
-              length-append (row_lines s y.lines (first_row s here)) (cond y.ruled (rule_text view y.rule ∷ []) []),
+              length-append (row_lines s y.lines (first_row s here)) (rule_by view y.rule),
               ap length r,
             ) in
-            B.rule ∙ sym (ap (λ l. length (get_or l n []) + 1) (rows_band ∙ ap (λ l. row_lines s y.lines (first_row s here) ++ l) r)
-            ∙ ap (λ l. length l + 1) (get_or_at (row_lines s y.lines (first_row s here)) (rule_text view y.rule) [] [] n z))
-        go false e q =
-            let r : cond y.ruled (rule_text view y.rule ∷ []) [] ≡ [] = ap (λ b. cond b (rule_text view y.rule ∷ []) []) e in
+            B.rule x e ∙ sym (ap (λ l. length (get_or l n []) + 1) (rows_band ∙ ap (λ l. row_lines s y.lines (first_row s here) ++ l) r)
+            ∙ ap (λ l. length l + 1) (get_or_at (row_lines s y.lines (first_row s here)) (rule_text view x) [] [] n z))
+        go None e q =
             absurd (omega (
               arith,
               lines-count s y.lines (first_row s here),
-              length-append (row_lines s y.lines (first_row s here)) (cond y.ruled (rule_text view y.rule ∷ []) []),
-              ap length r,
+              length-append (row_lines s y.lines (first_row s here)) (rule_by view y.rule),
+              ap (λ o. length (rule_by view o)) e,
             ))
 
     pub line_plain : plain ≡ true → (n : ℕ) → n < length (band_lines s view y (rows_in s here))
@@ -342,227 +338,100 @@ band_there s view y here n h = go (rows_in s here) (rows_number s here) h
 
 module _ (s : List ℕ) (view : View) (y : RowStyle) (here : Rows) (first : ℕ) (some : 0 < here.left)
     (within : first ≤ length (band_lines s view y (rows_in s here)) - 1) where
-  band_is : band_lines s view y (rows_in s here) ≡ row_lines s y.lines (first_row s here) ++ cond y.ruled (rule_text view y.rule ∷ []) []
+  band_is : band_lines s view y (rows_in s here) ≡ row_lines s y.lines (first_row s here) ++ rule_by view y.rule
   unfolding band_lines
   band_is = go (rows_in s here) (rows_number s here)
     where
-      go : (rs : List Row) → length rs ≡ here.left → band_lines s view y rs ≡ row_lines s y.lines (get_or rs 0 no_row) ++ cond y.ruled
-          (rule_text view y.rule ∷ []) []
+      go : (rs : List Row) → length rs ≡ here.left → band_lines s view y rs ≡ row_lines s y.lines (get_or rs 0 no_row) ++ rule_by view y.rule
       go [] e = absurd (omega arith)
       go (r ∷ rs) e = refl
 
-  few : (b : Bool) → length (cond b (rule_text view y.rule ∷ []) []) ≤ 1
-  few true = omega arith
-  few false = omega arith
-
-  pub band-split : drop first (band_lines s view y (rows_in s here)) ≡ drop first (row_lines s y.lines (first_row s here)) ++ cond y.ruled
-      (rule_text view y.rule ∷ []) []
+  pub band-split : drop first (band_lines s view y (rows_in s here)) ≡ drop first (row_lines s y.lines (first_row s here)) ++ rule_by view y.rule
   band-split =
       let l = row_lines s y.lines (first_row s here) in
-      ap (drop first) band_is ∙ drop-append first (row_lines s y.lines (first_row s here)) (cond y.ruled (rule_text view y.rule ∷ []) [])
+      ap (drop first) band_is ∙ drop-append first (row_lines s y.lines (first_row s here)) (rule_by view y.rule)
       (omega (
         arith,
         within,
         ap length band_is,
         length-append (row_lines s y.lines (first_row s here))
-            (cond y.ruled (rule_text view y.rule ∷ []) []),
-        few y.ruled,
+            (rule_by view y.rule),
+        rule_few view y.rule,
       ))
 
   pub band-cut : (b a : List ℕ) (r : Part) → PartIs (drop first (row_lines s y.lines (first_row s here))) b a r → not r.whole ≡ true → PartIs
       (drop first (band_lines s view y (rows_in s here))) b a r
-  band-cut b a r P e = rw band-split (part_short _ (cond y.ruled (rule_text view y.rule ∷ []) []) b a r P (not-true r.whole e))
+  band-cut b a r P e = rw band-split (part_short _ (rule_by view y.rule) b a r P (not-true r.whole e))
 
   pub band_whole : (b a c ys : List ℕ) (r q : Part) → PartIs (drop first (row_lines s y.lines (first_row s here))) b a r → not r.whole ≡ false
-      → PartIs (cond y.ruled (rule_text view y.rule ∷ []) []) (take (length a - r.bytes) (drop r.bytes a)) ys q → c ≡ put_mid r.bytes
+      → PartIs (rule_by view y.rule) (take (length a - r.bytes) (drop r.bytes a)) ys q → c ≡ put_mid r.bytes
       (length a - r.bytes) a ys
       → PartIs (drop first (band_lines s view y (rows_in s here))) b c
       (record { lines = r.lines + q.lines; bytes = r.bytes + q.bytes; whole = q.whole })
   band_whole b a c ys r q P e Q f = rw band-split (part_join _ _ b a c ys r q P (not-false r.whole e) Q f)
 
--- ---- a part drawn
+-- ---- a border
 
-module _ (s : List ℕ) (p : Page) (O : Opened s p) (c : Cursor) (A : At s p c) where
-  header-part : c.stage ≡ Header → part_lines s p c ≡ band_lines s p.columns.items p.styles.header (rows_in s p.header)
-  unfolding part_lines
-  header-part e = rw e (sym (header-drawn s p O))
+module _ (view : View) where
+  pub border_bytes : (o : Option RuleStyle) (m n : ℕ) → SizedRule view o m → n ≡ length (rule_by view o) → n * m ≡ length (closed (rule_by view o))
+  border_bytes None m n S e = rw e (omega (arith, no_bytes))
+  border_bytes (Some x) m n S e =
+      rw e (omega (arith, S x refl, ap length (closed-one (rule_text view x)), length-append (rule_text view x) (10 ∷ [])))
 
-  body-part : (y : RowStyle) → c.stage ≡ Body → y ≡ body_style p.styles.body c.here.left → part_lines s p c ≡ band_lines s
-      p.columns.items y (rows_in s c.here)
-  unfolding part_lines
-  body-part y e f = rw e (sym (body-drawn s p O c.here y f))
+  pub border_most : (o : Option RuleStyle) (m n : ℕ) → n ≡ length (rule_by view o) → n * m ≤ m
+  border_most None m n e = rw e (omega arith)
+  border_most (Some x) m n e = rw e (omega arith)
 
-  pub header-within : c.stage ≡ Header → c.line ≤ length (band_lines s p.columns.items p.styles.header (rows_in s p.header)) - 1
-  header-within e = rw (← header-part e) A.within
+  pub border_line : (o : Option RuleStyle) (m n : ℕ) → SizedRule view o m → n < length (rule_by view o)
+      → m ≡ length (get_or (rule_by view o) n []) + 1
+  border_line None m n S h = absurd (omega arith)
+  border_line (Some x) m n S h = let z : n ≡ 0 = omega arith in rw z (S x refl)
 
-  pub body-within : (y : RowStyle) → c.stage ≡ Body → y ≡ body_style p.styles.body c.here.left → c.line ≤ length
-      (band_lines s p.columns.items y (rows_in s c.here)) - 1
-  body-within y e f = rw (← body-part y e f) A.within
-
-  -- a border has one line or none, so the cursor is at its start
-  border-start : (k : ℕ) → part_lines s p c ≡ rule_lines s true k → drop c.line (part_lines s p c) ≡ rule_lines s true k
-  border-start k e = let z : c.line ≡ 0 = omega (arith, A.within, ap length e, border_few s k) in ap (λ n. drop n (part_lines s p c)) z ∙ e
-
-  module _ (b a : List ℕ) (r : Part) where
-    pub draw_top : c.stage ≡ Top → PartIs (cond p.styles.has_top (rule_text p.columns.items p.styles.top ∷ []) []) b a r → PartIs
-        (drop c.line (part_lines s p c)) b a r
-    unfolding part_lines
-    draw_top e P = rw (border-start top_border (rw e), ← top-drawn s p O) P
-
-    pub draw_bottom : c.stage ≡ Bottom → PartIs (cond p.styles.has_bottom (rule_text p.columns.items p.styles.bottom ∷ []) []) b a
-        r → PartIs (drop c.line (part_lines s p c)) b a r
-    unfolding part_lines
-    draw_bottom e P = rw (border-start bottom_border (rw e), ← bottom-drawn s p O) P
-
-    pub draw_header : c.stage ≡ Header → PartIs (drop c.line (band_lines s p.columns.items p.styles.header (rows_in s p.header))) b
-        a r → PartIs (drop c.line (part_lines s p c)) b a r
-    draw_header e P = rw (header-part e) P
-
-    pub draw-body : (y : RowStyle) → c.stage ≡ Body → y ≡ body_style p.styles.body c.here.left
-        → PartIs (drop c.line (band_lines s p.columns.items y (rows_in s c.here))) b a r → PartIs (drop c.line (part_lines s p c)) b a
-        r
-    draw-body y e f P = rw (body-part y e f) P
-
-  pub draw_end : (b : List ℕ) → c.stage ≡ End → PartIs (drop c.line (part_lines s p c)) b b (record { lines = 0; bytes = 0; whole = true })
-  unfolding part_lines
-  draw_end b e = rw (e, drop-nil c.line) (part_none b)
-
--- ---- a part's bytes, and those of one of its lines
-
-module _ (s : List ℕ) (p : Page) (O : Opened s p) (c : Cursor) where
-  border_bytes : (k n m : ℕ) → part_lines s p c ≡ rule_lines s true k → n ≡ length (part_lines s p c) → m ≡ border_length (table_of s) (widths_in s) + 1
-      → n * m ≡ length (closed (part_lines s p c))
-  border_bytes k n m e f g =
-      rw (f, g, e) (sym (closed_sized (border_length (table_of s) (widths_in s) + 1) (rule_lines s true k) (border_lengths s k)))
-
-  border-line : (k m : ℕ) → part_lines s p c ≡ rule_lines s true k → m ≡ border_length (table_of s) (widths_in s) + 1 → c.line < length (part_lines s p c)
-      → m ≡ length (get_or (part_lines s p c) c.line []) + 1
-  border-line k m e g h =
-      g ∙ sym (all_get_d (λ l. length l + 1 ≡ border_length (table_of s) (widths_in s) + 1) (part_lines s p c) c.line [] h (rw e (border_lengths s k)))
-
-  part_top : c.stage ≡ Top → part_lines s p c ≡ rule_lines s true top_border
-  unfolding part_lines
-  part_top e = rw e
-
-  part_bottom : c.stage ≡ Bottom → part_lines s p c ≡ rule_lines s true bottom_border
-  unfolding part_lines
-  part_bottom e = rw e
-
-  part_header : c.stage ≡ Header → part_lines s p c ≡ band_lines s p.columns.items p.styles.header (rows_in s p.header)
-  unfolding part_lines
-  part_header e = rw e (sym (header-drawn s p O))
-
-  part_body : (y : RowStyle) → c.stage ≡ Body → y ≡ body_style p.styles.body c.here.left
-      → part_lines s p c ≡ band_lines s p.columns.items y (rows_in s c.here)
-  unfolding part_lines
-  part_body y e f = rw e (sym (body-drawn s p O c.here y f))
-
-  module _ (l : Lengths) (L : LengthsAre s l) (n : ℕ) (h : n ≡ length (part_lines s p c)) where
-    pub top-most : c.stage ≡ Top → n * (l.border + 1) ≤ longest_line + 1
-    top-most e =
-        let z = border_bytes top_border n (l.border + 1) (part_top e) h (rw L.border) ∙ ap (λ ls. length (closed ls)) (part_top e) in
-        omega (arith, z, border-most s top_border, L.border, L.border_small)
-
-    pub bottom-most : c.stage ≡ Bottom → n * (l.border + 1) ≤ longest_line + 1
-    bottom-most e =
-        let z = border_bytes bottom_border n (l.border + 1) (part_bottom e) h (rw L.border) ∙ ap (λ ls. length (closed ls)) (part_bottom e) in
-        omega (arith, z, border-most s bottom_border, L.border, L.border_small)
-
-    pub top_bytes : c.stage ≡ Top → n * (l.border + 1) ≡ length (closed (part_lines s p c))
-    top_bytes e = border_bytes top_border n (l.border + 1) (part_top e) h (rw L.border)
-
-    pub bottom_bytes : c.stage ≡ Bottom → n * (l.border + 1) ≡ length (closed (part_lines s p c))
-    bottom_bytes e = border_bytes bottom_border n (l.border + 1) (part_bottom e) h (rw L.border)
-
-  pub end_bytes : c.stage ≡ End → 0 ≡ length (closed (part_lines s p c))
-  unfolding part_lines
-  end_bytes e = rw e (sym no_bytes)
-
-  pub header-here : c.stage ≡ Header → (n : ℕ) → n ≡ length (part_lines s p c)
-      → n ≡ length (band_lines s p.columns.items p.styles.header (rows_in s p.header))
-  header-here e n h = h ∙ ap length (part_header e)
-
-  pub body-here : (y : RowStyle) → c.stage ≡ Body → y ≡ body_style p.styles.body c.here.left → (n : ℕ) → n ≡ length (part_lines s p c)
-      → n ≡ length (band_lines s p.columns.items y (rows_in s c.here))
-  body-here y e f n h = h ∙ ap length (part_body y e f)
-
-  pub header_bytes : c.stage ≡ Header → (r : ℕ) → r ≡ length (closed (band_lines s p.columns.items p.styles.header (rows_in s p.header)))
-      → r ≡ length (closed (part_lines s p c))
-  header_bytes e r h = h ∙ ap (λ ls. length (closed ls)) (sym (part_header e))
-
-  pub body_bytes : (y : RowStyle) → c.stage ≡ Body → y ≡ body_style p.styles.body c.here.left → (r : ℕ)
-      → r ≡ length (closed (band_lines s p.columns.items y (rows_in s c.here))) → r ≡ length (closed (part_lines s p c))
-  body_bytes y e f r h = h ∙ ap (λ ls. length (closed ls)) (sym (part_body y e f))
-
-  module _ (h : c.line < length (part_lines s p c)) where
-    pub top-line : (l : Lengths) → LengthsAre s l → c.stage ≡ Top → l.border + 1 ≡ length (get_or (part_lines s p c) c.line []) + 1
-    top-line l L e = border-line top_border (l.border + 1) (part_top e) (rw L.border) h
-
-    pub bottom-line : (l : Lengths) → LengthsAre s l → c.stage ≡ Bottom → l.border + 1 ≡ length (get_or (part_lines s p c) c.line []) + 1
-    bottom-line l L e = border-line bottom_border (l.border + 1) (part_bottom e) (rw L.border) h
-
-    pub header_there : c.stage ≡ Header → c.line < length (band_lines s p.columns.items p.styles.header (rows_in s p.header))
-    header_there e = rw (part_header e) at h
-
-    pub body_there : (y : RowStyle) → c.stage ≡ Body → y ≡ body_style p.styles.body c.here.left
-        → c.line < length (band_lines s p.columns.items y (rows_in s c.here))
-    body_there y e f = rw (part_body y e f) at h
-
-    pub end_line : c.stage ≡ End → 1 ≡ length (get_or (part_lines s p c) c.line []) + 1
-    unfolding part_lines
-    end_line e = absurd (omega (arith, rw e at h))
-
-  pub header-line : c.stage ≡ Header → (r : ℕ) → r ≡ length (get_or (band_lines s p.columns.items p.styles.header (rows_in s p.header)) c.line []) + 1
-      → r ≡ length (get_or (part_lines s p c) c.line []) + 1
-  header-line e r h = h ∙ ap (λ ls. length (get_or ls c.line []) + 1) (sym (part_header e))
-
-  pub body-line : (y : RowStyle) → c.stage ≡ Body → y ≡ body_style p.styles.body c.here.left → (r : ℕ)
-      → r ≡ length (get_or (band_lines s p.columns.items y (rows_in s c.here)) c.line []) + 1
-      → r ≡ length (get_or (part_lines s p c) c.line []) + 1
-  body-line y e f r h = h ∙ ap (λ ls. length (get_or ls c.line []) + 1) (sym (part_body y e f))
+  -- it has one line or none, so that it is drawn from its start
+  pub border_start : (o : Option RuleStyle) (n : ℕ) → n ≤ length (rule_by view o) - 1 → drop n (rule_by view o) ≡ rule_by view o
+  border_start o n h = let z : n ≡ 0 = omega (arith, rule_few view o) in rw z
 
 -- ---- how many lines
 
 pub part_few : (ls : List (List ℕ)) (b a : List ℕ) (r : Part) → PartIs ls b a r → r.lines ≤ length ls
 part_few ls b a r P = omega (arith, P.lines, fitting_few (length b) ls)
 
-pub rule_few : (view : View) (y : RuleStyle) (visible : Bool) → length (cond visible (rule_text view y ∷ []) []) ≤ 1
-rule_few view y true = omega arith
-rule_few view y false = omega arith
-
-module _ (s : List ℕ) (p : Page) (O : Opened s p) where
+module _ (s : List ℕ) (p : DisplayInfo) (O : Opened s p) where
   rows_left : length (rows_in s p.rows) ≤ 100
   rows_left = omega (arith, rows_number s p.rows, O.rows_few)
 
   -- a page has at most a million lines, each within the longest
   pub total-lines : length (lines_of s p) ≤ most_lines
   unfolding lines_of
-  total-lines = framed-count (table_of s) (limits_of s O.passes) (widths_in s) (rows_in s p.rows) rows_left O.rows_at.sound
+  total-lines = framed-count (table_of s) (limits_of s O.passes) (widths_in s) (rows_in s p.rows) rows_left (rows_at s p O).sound
 
   pub total_bytes : length (closed (lines_of s p)) ≤ most_lines * (longest_line + 1)
   unfolding lines_of
-  total_bytes = framed-byte-bound (table_of s) (limits_of s O.passes) (rows_in s p.rows) rows_left O.rows_at.sound
+  total_bytes = framed-byte-bound (table_of s) (limits_of s O.passes) (rows_in s p.rows) rows_left (rows_at s p O).sound
 
-  band_few : (b : Bool) (here : Rows) → RowsAt s here → band_count s b (rows_in s here) ≤ 6449
-  unfolding band_count
-  band_few b here A = go b (rows_in s here) A.sound
+  band_few : (y : RowStyle) (here : Rows) → RowsAt s here → length (band_lines s p.columns.items y (rows_in s here)) ≤ 6449
+  unfolding band_lines
+  band_few y here A = go (rows_in s here) A.sound
     where
-      go : (b : Bool) (rs : List Row) → All (RowLimits (length (table_of s).columns)) rs → band_count s b rs ≤ 6449
-      go b [] a = omega arith
-      go true (r ∷ rs) a = omega (arith, height_bound (table_of s) (widths_in s) r a.0.each)
-      go false (r ∷ rs) a = omega (arith, height_bound (table_of s) (widths_in s) r a.0.each)
-
-  one : (b : Bool) → cond b 1 0 ≤ 1
-  one true = omega arith
-  one false = omega arith
+      go : (rs : List Row) → All (RowLimits (length (table_of s).columns)) rs → length (band_lines s p.columns.items y rs) ≤ 6449
+      go [] a = omega arith
+      go (r ∷ rs) a = omega (
+        arith,
+        length-append (row_lines s y.lines r) (rule_by p.columns.items y.rule),
+        lines-count s y.lines r,
+        rule_few p.columns.items y.rule,
+        height_bound (table_of s) (widths_in s) r a.0.each,
+      )
 
   -- a part's lines
   pub lines_few : (c : Cursor) → RowsAt s c.here → length (part_lines s p c) ≤ 6449
   lines_few c A = go c.stage refl
     where
       go : (g : Stage) → c.stage ≡ g → length (part_lines s p c) ≤ 6449
-      go Top e = omega (arith, top_count s p O c _ e refl, one p.styles.has_top)
-      go Header e = omega (arith, header-count s p O c _ e refl, band_few p.styles.header.ruled p.header O.header_at)
-      go Body e = omega (arith, body-count s p O c _ _ e refl refl, band_few (p.styles.body.ruled && ltb 1 c.here.left) c.here A)
-      go Bottom e = omega (arith, bottom-count s p O c _ e refl, one p.styles.has_bottom)
-      go End e = omega (arith, end-count s p O c 0 e refl)
+      go Top e = omega (arith, ap length (part_top s p O c e).lines, rule_few p.columns.items p.styles.top)
+      go Header e = omega (arith, ap length (part_header s p O c e).lines, band_few p.styles.header p.header (header_at s p O))
+      go Body e =
+          let y = body_style p.styles.body c.here.left in
+          omega (arith, ap length (part_body s p O c A y e refl).lines, band_few y c.here A)
+      go Bottom e = omega (arith, ap length (part_bottom s p O c e).lines, rule_few p.columns.items p.styles.bottom)
+      go End e = omega (arith, ap length (part_end s p O c e).lines)

@@ -1,4 +1,4 @@
--- How long a page's lines are. Assumes nothing.
+-- The pairs that a row's lines hold and show. Assumes nothing.
 use Prim.Native.Nat.{ℕ, zero, suc, ◌+◌, ◌-◌, ◌≤◌, ◌<◌}
 use mathlib.Core.Path.{◌≡◌, refl, sym, ap, ◌∙◌}
 use mathlib.Core.List.{List, [], ◌∷◌, ◌++◌, map}
@@ -22,92 +22,10 @@ use Rattle.row.specs.View.{View, visible_at, Views, shown_of, number_of}
 use Rattle.row.specs.Height.{added_up_to, pairs_held}
 use Rattle.formatting.specs.Shown.{shown_in, kept_lines, pairs_shown}
 use Rattle.formatting.proofs.Shown.{shown-one, shown-all}
-use Rattle.borders.specs.Rule.{rule_style_of}
+use Rattle.formatting.specs.Stand.{text_style_of}
 use Rattle.row.specs.declared.VisibleColumn.{VisibleColumn}
 use Rattle.row.proofs.Joined.{map_numbered}
-use Rattle.display_info.specs.Opened.{widths_in, styles_of, Opened}
-use Rattle.parts.specs.Lengths.{width_up_to, LengthsAre}
-use Rattle.display_info.specs.declared.LineStyles.{LineStyles}
-use Rattle.display_info.specs.declared.Page.{Page}
-use Rattle.display_info.proofs.Opening.{limits_of}
-
--- ---- visible widths summed
-
-pub width-none : (view : View) → 0 ≡ width_up_to view 0
-unfolding width_up_to
-width-none view = refl
-
-pub width-on : (view : View) (i n : ℕ) → n ≡ width_up_to view i
-    → n + ((visible_at view i).left + ((visible_at view i).width + (visible_at view i).right)) ≡ width_up_to view (i + 1)
-unfolding width_up_to
-width-on view i n e = rw (add-one i) (omega arith)
-
-sum_snoc : (ns : List ℕ) (n : ℕ) → sum (ns ++ (n ∷ [])) ≡ sum ns + n
-unfolding sum
-sum_snoc [] n = omega arith
-sum_snoc (m ∷ ns) n = omega (arith, sum_snoc ns n)
-
-no-sum : (f : ℕ → ℕ) → sum (map f (up_from 0 0)) ≡ 0
-unfolding sum up_from
-no-sum f = refl
-
-module _ (t : Table) (ws : List ℕ) (view : View) (W : Views t ws view) where
-  here : ℕ → ℕ
-  here i = visible_width t ws (number_of t i)
-
-  shown-here : (i : ℕ) → i < length view → (visible_at view i).left + ((visible_at view i).width + (visible_at view i).right) ≡ here i
-  unfolding here shown_of
-  shown-here i h = rw (W.each i h) (omega arith)
-
-  up_to : (n : ℕ) → n ≤ length view → width_up_to view n ≡ sum (map here (up_from 0 n))
-  unfolding width_up_to
-  up_to zero h = none
-    where
-      none : 0 ≡ sum (map here (up_from 0 0))
-      none = sym (no-sum here)
-  up_to (suc n) h =
-      let z : 0 + n ≡ n = omega arith in
-      let e : map here (up_from 0 (suc n)) ≡ map here (up_from 0 n) ++ (here n ∷ []) = ap (map here)
-      (up_from-last 0 n ∙ ap (λ m. up_from 0 n ++ (m ∷ [])) z) ∙ map-append here (up_from 0 n) (n ∷ []) in
-      omega (arith, up_to n (omega arith), shown-here n (omega arith), ap sum e, sum_snoc (map here (up_from 0 n)) (here n))
-
-  pub width-sum : width_up_to view (length view) ≡ sum (visible_widths t ws)
-  unfolding visible_widths here
-  width-sum = up_to (length view) (omega arith) ∙ sym (ap sum (map_numbered (visible_width t ws) 0 (visible t) ∙ ap (λ n. map here (up_from 0 n))
-      (sym W.count)))
-
--- a character is there where it is drawn
-some-drawn : (b : Bool) (c : ℕ) → is_some (then_some b c) ≡ b
-some-drawn true c = refl
-some-drawn false c = refl
-
--- the lengths from their parts
-pub lengths_are : (s : List ℕ) (p : Page) → Opened s p → (a b i j n : ℕ) → a ≡ cond (is_some p.styles.body.rule.left) 1 0 → b
-    ≡ cond (is_some p.styles.body.rule.right) 1 0
-    → i ≡ length p.columns.items - 1 → j ≡ cond (is_some p.styles.body.rule.junction) i 0 → n ≡ width_up_to p.columns.items (length p.columns.items) → LengthsAre s
-    (record { line = a + b + j + n; border = a + b + i + n })
-unfolding line_length border_length borders borders_of styles_of rule_style_of
-lengths_are s p O a b i j n ea eb ei ej en =
-    let S = (table_of s).style in
-    let L = limits_of s O.passes in
-    let w : n ≡ sum (visible_widths (table_of s) (widths_in s)) = en ∙ width-sum (table_of s) (widths_in s) p.columns.items O.views in
-    let left : is_some p.styles.body.rule.left ≡ any_left S = ap (λ (l : LineStyles). is_some l.body.rule.left) O.styles ∙ some-drawn (any_left S) _ in
-    let right : is_some p.styles.body.rule.right ≡ any_right S = ap (λ (l : LineStyles). is_some l.body.rule.right) O.styles ∙ some-drawn (any_right S) _ in
-    let inner : is_some p.styles.body.rule.junction ≡ any_junction S = ap (λ (l : LineStyles). is_some l.body.rule.junction) O.styles
-    ∙ some-drawn (any_junction S) _ in
-    let x : a ≡ one_if (any_left S) = ea ∙ ap (λ k. cond k 1 0) left ∙ one_if-cond (any_left S) in
-    let y : b ≡ one_if (any_right S) = eb ∙ ap (λ k. cond k 1 0) right ∙ one_if-cond (any_right S) in
-    let v : i ≡ length (visible (table_of s)) - 1 = ei ∙ ap (λ k. k - 1) O.views.count in
-    let u : j ≡ cond (any_junction S) (length (visible (table_of s)) - 1) 0 = ej ∙ ap (λ k. cond k i 0) inner
-    ∙ ap (λ k. cond (any_junction S) k 0) v in
-    let e : a + b + j + n ≡ line_length (table_of s) (widths_in s) = rw (x, y, u, w) in
-    let f : a + b + i + n ≡ border_length (table_of s) (widths_in s) = rw (x, y, v, w) in
-    record {
-      line = e;
-      border = f;
-      line_small = omega (arith, e, line-length-bound (table_of s) L);
-      border_small = omega (arith, f, border-length-bound (table_of s) L);
-    }
+use Rattle.display_info.proofs.Measures.{sum_snoc, no-sum}
 
 -- ---- pairs
 

@@ -33,22 +33,26 @@ use Rattle.formatting.specs.Shown.{pairs_shown}
 use Rattle.parts.proofs.Measures.{held-sum, line-sum, shown-sum}
 use Rattle.formatting.specs.RowText.{styled, row_lines, row_height, most_bytes, Sized, Drawable}
 use Rattle.borders.specs.Rule.{rule_text, rule_style_of}
+use Rattle.borders.specs.declared.RuleStyle.{RuleStyle}
+use Rattle.std.specs.Bool.{then_some}
+use Rattle.std.specs.Option.{ForSome, option_and_then}
+use Rattle.std.specs.Prelude.{Option, Some, None}
 use Rattle.formatting.specs.Stand.{text_style_of}
 use Rattle.formatting.proofs.RowText.{lines-count}
 use Rattle.formatting.proofs.Whole.{styled_text}
 use Rattle.borders.proofs.Rule.{rule-drawn}
-use Rattle.display_info.proofs.Opening.{limits_of}
+use Rattle.display_info.proofs.Opening.{limits_of, header_at, rows_at}
 use Rattle.display_info.specs.Opened.{widths_in, styles_of, RowsAt, Opened}
 use Rattle.parts.specs.Ahead.{rule_lines, text_lines, first_ruled, header_lines_of, row_lines_of, body_lines, part_by, part_lines, rest_by, rest_lines}
 use Rattle.parts.specs.Ahead.{ahead, lines_of, is_end, first_cursor, At, Next, AfterRow}
-use Rattle.parts.specs.Lengths.{LengthsAre}
-use Rattle.parts.specs.Band.{band_lines, band_count, body_style, SizedBand}
+use Rattle.parts.specs.Band.{rule_by, SizedRule, band_lines, body_style, SizedBand}
+use Rattle.parts.specs.Part.{PartAt}
+use Rattle.parts.specs.declared.part.PagePart.TheVariants.{Border, Band}
 use Rattle.display_info.specs.declared.RowStyle.{RowStyle}
-use Rattle.display_info.specs.declared.Page.{Page}
+use Rattle.display_info.specs.declared.DisplayInfo.{DisplayInfo}
 use Rattle.parts.specs.declared.cursor.Cursor.{Cursor}
 use Rattle.parts.specs.declared.cursor.Stage.{Stage}
 use Rattle.parts.specs.declared.cursor.Stage.TheVariants.{Top, Header, Body, Bottom, End}
-use Rattle.parts.specs.declared.lengths.Lengths.{Lengths}
 
 -- ---- rows
 
@@ -96,7 +100,7 @@ cells_known plain (x ∷ xs) a h = (
 pub accepted_short : (s : List ℕ) → IsAccepted s → length s ≤ 32768
 accepted_short s h = let r = held s h in (accepted s (table_of s) r.end r.reads).short
 
-pub drawable : (s : List ℕ) (p : Page) → Opened s p → (c : Rows) → RowsAt s c → 0 < c.left
+pub drawable : (s : List ℕ) (p : DisplayInfo) → Opened s p → (c : Rows) → RowsAt s c → 0 < c.left
     → Drawable s p.columns.items p.plain c
 drawable s p O c A h = record {
   some = h;
@@ -122,22 +126,22 @@ first_then text rule (r ∷ q ∷ rs) = sym (append_assoc (text r) rule (text q 
 -- ---- cursors
 
 -- a cursor before a part's first line
-pub ahead-start : (s : List ℕ) (p : Page) (c : Cursor) → c.line ≡ 0 → ahead s p c ≡ part_lines s p c ++ rest_lines s p c
+pub ahead-start : (s : List ℕ) (p : DisplayInfo) (c : Cursor) → c.line ≡ 0 → ahead s p c ≡ part_lines s p c ++ rest_lines s p c
 unfolding ahead
 ahead-start s p c e = rw e
 
-at-start : (s : List ℕ) (p : Page) (c : Cursor) → RowsAt s c.here → c.line ≡ 0 → At s p c
+at-start : (s : List ℕ) (p : DisplayInfo) (c : Cursor) → RowsAt s c.here → c.line ≡ 0 → At s p c
 at-start s p c A e = record { rows = A; within = omega arith }
 
-pub first-at : (s : List ℕ) (p : Page) → Opened s p → At s p (first_cursor p)
-first-at s p O = at-start s p (first_cursor p) O.rows_at refl
+pub first-at : (s : List ℕ) (p : DisplayInfo) → Opened s p → At s p (first_cursor p.rows)
+first-at s p O = at-start s p (first_cursor p.rows) (rows_at s p O) refl
 
-pub first-ahead : (s : List ℕ) (p : Page) → Opened s p → ahead s p (first_cursor p) ≡ lines_of s p
+pub first-ahead : (s : List ℕ) (p : DisplayInfo) → Opened s p → ahead s p (first_cursor p.rows) ≡ lines_of s p
 unfolding ahead part_lines rest_lines lines_of framed rule_lines header_lines_of row_lines_of
 first-ahead s p O = rw O.header
 
 -- the rows from their first part on
-body-ahead : (s : List ℕ) (p : Page) (here : Rows)
+body-ahead : (s : List ℕ) (p : DisplayInfo) (here : Rows)
     → ahead s p (record { stage = Body; here = here; line = 0 }) ≡ row_lines_of s (rows_in s here) ++ rule_lines s true bottom_border
 unfolding ahead part_lines rest_lines row_lines_of body_lines
 body-ahead s p here =
@@ -147,7 +151,7 @@ body-ahead s p here =
     ∙ append_assoc (first_ruled (text_lines s content_lines) (rule_lines s false row_rule) (rows_in s here))
     (ruled_rows (text_lines s content_lines) (rule_lines s false row_rule) (drop 1 (rows_in s here))) (rule_lines s true bottom_border))
 
-last-ahead : (s : List ℕ) (p : Page) (here : Rows) → ahead s p (record { stage = Bottom; here = here; line = 0 }) ≡ rule_lines s true bottom_border
+last-ahead : (s : List ℕ) (p : DisplayInfo) (here : Rows) → ahead s p (record { stage = Bottom; here = here; line = 0 }) ≡ rule_lines s true bottom_border
 unfolding ahead part_lines rest_lines
 last-ahead s p here = append-nil (rule_lines s true bottom_border)
 
@@ -176,35 +180,45 @@ after_more s here n A N = record {
   fewer = omega (arith, N.left);
 }
 
-module _ (s : List ℕ) (p : Page) (c : Cursor) (A : RowsAt s c.here) where
-  pub next_top : c.stage ≡ Top → Next s p c (record { stage = Header; here = c.here; line = 0 })
+module _ (s : List ℕ) (c : Cursor) (A : RowsAt s c.here) where
+  pub next_top : c.stage ≡ Top → Next s c (record { stage = Header; here = c.here; line = 0 })
   unfolding ahead part_lines rest_lines
-  next_top e = record { lines = rw e; at = at-start s p _ A refl; start = refl; fewer = λ _. rw e (omega arith) }
+  next_top e = record { lines = λ p. rw e; at = λ p. at-start s p _ A refl; start = refl; fewer = λ _. rw e (omega arith) }
 
-  pub next_header : c.stage ≡ Header → Next s p c (record { stage = Body; here = c.here; line = 0 })
+  pub next_header : c.stage ≡ Header → Next s c (record { stage = Body; here = c.here; line = 0 })
   unfolding rest_lines
-  next_header e = record { lines = body-ahead s p c.here ∙ rw e; at = at-start s p _ A refl; start = refl; fewer = λ _. rw e (omega arith) }
+  next_header e = record {
+    lines = λ p. body-ahead s p c.here ∙ rw e;
+    at = λ p. at-start s p _ A refl;
+    start = refl;
+    fewer = λ _. rw e (omega arith);
+  }
 
-  pub next-body : (r : Cursor) → c.stage ≡ Body → AfterRow s c.here r → Next s p c r
+  pub next-body : (r : Cursor) → c.stage ≡ Body → AfterRow s c.here r → Next s c r
   unfolding rest_lines
-  next-body r e N = record { lines = N.lines p ∙ rw e; at = at-start s p r N.at N.start; start = N.start; fewer = λ _. rw e N.fewer }
+  next-body r e N = record {
+    lines = λ p. N.lines p ∙ rw e;
+    at = λ p. at-start s p r N.at N.start;
+    start = N.start;
+    fewer = λ _. rw e N.fewer;
+  }
 
-  pub next_bottom : c.stage ≡ Bottom → Next s p c (record { stage = End; here = c.here; line = 0 })
+  pub next_bottom : c.stage ≡ Bottom → Next s c (record { stage = End; here = c.here; line = 0 })
   unfolding ahead part_lines rest_lines
-  next_bottom e = record { lines = rw e; at = at-start s p _ A refl; start = refl; fewer = λ _. rw e (omega arith) }
+  next_bottom e = record { lines = λ p. rw e; at = λ p. at-start s p _ A refl; start = refl; fewer = λ _. rw e (omega arith) }
 
-  pub next_end : c.stage ≡ End → Next s p c (record { stage = End; here = c.here; line = 0 })
+  pub next_end : c.stage ≡ End → Next s c (record { stage = End; here = c.here; line = 0 })
   unfolding ahead part_lines rest_lines
   next_end e = record {
-    lines = rw e;
-    at = at-start s p _ A refl;
+    lines = λ p. rw e;
+    at = λ p. at-start s p _ A refl;
     start = refl;
     fewer = λ f. let g = sym (ap is_end e) ∙ f in
         let z : ◌≡◌ {A = ℕ} 0 1 = cc in absurd (omega arith);
   }
 
 -- at the end no line is left
-pub end-ahead : (s : List ℕ) (p : Page) (c : Cursor) → is_end c.stage ≡ true → ahead s p c ≡ []
+pub end-ahead : (s : List ℕ) (p : DisplayInfo) (c : Cursor) → is_end c.stage ≡ true → ahead s p c ≡ []
 unfolding ahead part_lines rest_lines
 end-ahead s p c e = go c.stage e
   where
@@ -219,15 +233,6 @@ end-ahead s p c e = go c.stage e
     go Bottom f = cc
     go End f = rw (none c.line)
 
-pub border_few : (s : List ℕ) (k : ℕ) → length (rule_lines s true k) ≤ 1
-unfolding rule_lines shown
-border_few s k = go (is_visible (table_of s).style k)
-  where
-    go : (b : Bool) → length {A = List ℕ} (elim b as (λ x. List (List ℕ))
-        [ true ↦ ruled (table_of s).style true k (visible_widths (table_of s) (widths_in s)) ∷ [] | false ↦ [] ]) ≤ 1
-    go true = omega arith
-    go false = omega arith
-
 -- ---- styles
 
 same_map : {A B : Type 0} (f g : A → B) → ((x : A) → f x ≡ g x) → (xs : List A) → map f xs ≡ map g xs
@@ -239,33 +244,33 @@ unfolding row_lines row_text
 text-styled s k r = same_map (styled (text_style_of (table_of s).style k)) (text_line (table_of s).style k) (styled_text (table_of s).style k)
     (areas (table_of s) (widths_in s) r)
 
-module _ (s : List ℕ) (p : Page) (O : Opened s p) where
-  border-styled : (k : ℕ) → cond (is_visible (table_of s).style k) (rule_text p.columns.items (rule_style_of (table_of s).style true k) ∷ []) []
+module _ (s : List ℕ) (p : DisplayInfo) (O : Opened s p) where
+  border-styled : (k : ℕ) → rule_by p.columns.items (then_some (is_visible (table_of s).style k) (rule_style_of (table_of s).style true k))
       ≡ rule_lines s true k
   unfolding rule_lines shown
   border-styled k = go (is_visible (table_of s).style k)
     where
-      go : (b : Bool) → cond b (rule_text p.columns.items (rule_style_of (table_of s).style true k) ∷ []) []
+      go : (b : Bool) → rule_by p.columns.items (then_some b (rule_style_of (table_of s).style true k))
           ≡ elim b as (λ x. List (List ℕ)) [ true ↦ ruled (table_of s).style true k (visible_widths (table_of s) (widths_in s)) ∷ [] | false ↦ [] ]
       go true = ap (λ l. l ∷ []) (rule-drawn (table_of s) (widths_in s) p.columns.items O.views (table_of s).style true k)
       go false = refl
 
-  rule-styled : (k : ℕ) → cond (is_visible (table_of s).style k) (rule_text p.columns.items
-      (rule_style_of (table_of s).style (any_junction (table_of s).style) k) ∷ []) [] ≡ rule_lines s false k
+  rule-styled : (k : ℕ) → rule_by p.columns.items
+      (then_some (is_visible (table_of s).style k) (rule_style_of (table_of s).style (any_junction (table_of s).style) k)) ≡ rule_lines s false k
   unfolding rule_lines shown
   rule-styled k = go (is_visible (table_of s).style k)
     where
-      go : (b : Bool) → cond b (rule_text p.columns.items (rule_style_of (table_of s).style (any_junction (table_of s).style) k) ∷ []) []
+      go : (b : Bool) → rule_by p.columns.items (then_some b (rule_style_of (table_of s).style (any_junction (table_of s).style) k))
           ≡ elim b as (λ x. List (List ℕ)) [ true ↦ ruled (table_of s).style false k (visible_widths (table_of s) (widths_in s)) ∷ [] | false ↦ [] ]
       go true = ap (λ l. l ∷ []) (rule-drawn (table_of s) (widths_in s) p.columns.items O.views (table_of s).style false k)
       go false = refl
 
   -- the top border and the bottom border
-  pub top-drawn : cond p.styles.has_top (rule_text p.columns.items p.styles.top ∷ []) [] ≡ rule_lines s true top_border
+  pub top-drawn : rule_by p.columns.items p.styles.top ≡ rule_lines s true top_border
   unfolding styles_of
   top-drawn = rw O.styles (border-styled top_border)
 
-  pub bottom-drawn : cond p.styles.has_bottom (rule_text p.columns.items p.styles.bottom ∷ []) [] ≡ rule_lines s true bottom_border
+  pub bottom-drawn : rule_by p.columns.items p.styles.bottom ≡ rule_lines s true bottom_border
   unfolding styles_of
   bottom-drawn = rw O.styles (border-styled bottom_border)
 
@@ -287,206 +292,175 @@ module _ (s : List ℕ) (p : Page) (O : Opened s p) where
       rw (e, O.styles) (ap (λ n. band_lines s p.columns.items (body_style (styles_of (table_of s).style).body n) (rows_in s here))
       (sym (rows_number s here)) ∙ go (rows_in s here))
     where
-      out : (b : Bool) (x : List (List ℕ)) → cond (b && false) x [] ≡ []
-      out true x = refl
-      out false x = refl
+      out : (o : Option RuleStyle) → rule_by p.columns.items (option_and_then (then_some false) o) ≡ []
+      out None = refl
+      out (Some x) = refl
 
-      kept : (b : Bool) → (b && true) ≡ b
-      kept true = refl
-      kept false = refl
+      kept : (o : Option RuleStyle) → option_and_then (then_some true) o ≡ o
+      kept None = refl
+      kept (Some x) = refl
 
       go : (rs : List Row) → band_lines s p.columns.items (body_style (styles_of (table_of s).style).body (length rs)) rs ≡ body_lines s rs
       go [] = refl
       go (r ∷ []) = rw (text-styled s content_lines r, le-ltb 1 1 (omega arith), out, append-nil)
       go (r ∷ q ∷ rs) = rw (text-styled s content_lines r, lt-ltb 1 (suc (suc (length rs))) (omega arith), kept, rule-styled row_rule)
 
-  -- ---- counts
-
-  rule-count : (k : ℕ) (always : Bool) → cond (is_visible (table_of s).style k) 1 0 ≡ length (rule_lines s always k)
-  unfolding rule_lines shown
-  rule-count k always = go (is_visible (table_of s).style k)
-    where
-      go : (b : Bool) → cond b 1 0 ≡ length {A = List ℕ} (elim b as (λ x. List (List ℕ))
-          [ true ↦ ruled (table_of s).style always k (visible_widths (table_of s) (widths_in s)) ∷ [] | false ↦ [] ])
-      go true = refl
-      go false = refl
-
-  module _ (c : Cursor) (n : ℕ) where
-    pub top_count : c.stage ≡ Top → n ≡ cond p.styles.has_top 1 0 → n ≡ length (part_lines s p c)
-    unfolding part_lines styles_of
-    top_count e f = f ∙ rw (e, O.styles) (rule-count top_border true)
-
-    pub bottom-count : c.stage ≡ Bottom → n ≡ cond p.styles.has_bottom 1 0 → n ≡ length (part_lines s p c)
-    unfolding part_lines styles_of
-    bottom-count e f = f ∙ rw (e, O.styles) (rule-count bottom_border true)
-
-    pub end-count : c.stage ≡ End → n ≡ 0 → n ≡ length (part_lines s p c)
-    unfolding part_lines
-    end-count e f = f ∙ rw e
-
-  band-count : (y : RowStyle) (rs : List Row) → band_count s y.ruled rs ≡ length (band_lines s p.columns.items y rs)
-  unfolding band_count band_lines
-  band-count y [] = refl
-  band-count y (r ∷ rs) = sym (length-append (row_lines s y.lines r) (cond y.ruled (rule_text p.columns.items y.rule ∷ []) []) ∙ rw
-      (lines-count s y.lines r, one y.ruled))
-    where
-      one : (b : Bool) → length (cond b (rule_text p.columns.items y.rule ∷ []) []) ≡ cond b 1 0
-      one true = refl
-      one false = refl
-
-  pub header-count : (c : Cursor) (n : ℕ) → c.stage ≡ Header → n ≡ band_count s p.styles.header.ruled (rows_in s p.header) → n ≡ length
-      (part_lines s p c)
-  unfolding part_lines
-  header-count c n e f = f ∙ band-count p.styles.header (rows_in s p.header) ∙ rw (header-drawn, e)
-
-  pub body-count : (c : Cursor) (n : ℕ) (b : Bool) → c.stage ≡ Body → b ≡ (p.styles.body.ruled && ltb 1 c.here.left) → n ≡ band_count s b
-      (rows_in s c.here) → n ≡ length (part_lines s p c)
-  unfolding part_lines
-  body-count c n b e f g =
-      let y = body_style p.styles.body c.here.left in
-      g ∙ ap (λ x. band_count s x (rows_in s c.here)) f ∙ band-count (body_style p.styles.body c.here.left) (rows_in s c.here)
-      ∙ rw (body-drawn c.here (body_style p.styles.body c.here.left) refl, e)
-
   -- ---- sizes
 
-  module _ (l : Lengths) (L : LengthsAre s l) where
-    text_at : (k : ℕ) (r : Row) (j : ℕ) → j < row_height s r
-        → get_or (row_lines s (text_style_of (table_of s).style k) r) j [] ≡ text_line (table_of s).style k (map (area_at (table_of s) (widths_in s) r j) (visible (table_of s)))
-    unfolding row_text
-    text_at k r j i =
-        ap (λ ls. get_or ls j []) (text-styled s k r)
-        ∙ get_d_map (text_line (table_of s).style k) (areas (table_of s) (widths_in s) r) j [] [] (omega (arith, length-areas (table_of s) (widths_in s) r))
-        ∙ ap (text_line (table_of s).style k) (line_at (table_of s) (widths_in s) r j i)
+  text_at : (k : ℕ) (r : Row) (j : ℕ) → j < row_height s r
+      → get_or (row_lines s (text_style_of (table_of s).style k) r) j [] ≡ text_line (table_of s).style k (map (area_at (table_of s) (widths_in s) r j) (visible (table_of s)))
+  unfolding row_text
+  text_at k r j i =
+      ap (λ ls. get_or ls j []) (text-styled s k r)
+      ∙ get_d_map (text_line (table_of s).style k) (areas (table_of s) (widths_in s) r) j [] [] (omega (arith, length-areas (table_of s) (widths_in s) r))
+      ∙ ap (text_line (table_of s).style k) (line_at (table_of s) (widths_in s) r j i)
 
-    plain-each : (k : ℕ) (here : Rows) → RowsAt s here → 0 < here.left → p.plain ≡ true → (j : ℕ) → j < row_height s (first_row s here)
-        → length (get_or (row_lines s (text_style_of (table_of s).style k) (first_row s here)) j []) + 1 ≡ l.line + 1
-    plain-each k here A h e j i =
-        let r = first_row s here in
-        rw (
-          text_at k r j i,
-          plain_row (table_of s) (limits_of s O.passes) r (first_limits s here A h).each (first_has PlainRow s here A h (O.plain e)) k j,
-          L.line,
-        )
+  plain-each : (k : ℕ) (here : Rows) → RowsAt s here → 0 < here.left → p.plain ≡ true → (j : ℕ) → j < row_height s (first_row s here)
+      → length (get_or (row_lines s (text_style_of (table_of s).style k) (first_row s here)) j []) + 1 ≡ p.lengths.line + 1
+  plain-each k here A h e j i =
+      let r = first_row s here in
+      rw (
+        text_at k r j i,
+        plain_row (table_of s) (limits_of s O.passes) r (first_limits s here A h).each (first_has PlainRow s here A h (O.plain e)) k j,
+        O.lengths.line,
+      )
 
-    text_sized : (k : ℕ) (here : Rows) → RowsAt s here → 0 < here.left
-        → Sized s (text_style_of (table_of s).style k) (first_row s here) p.plain p.columns.items (l.line + 1)
-    text_sized k here A h =
-        let T = limits_of s O.passes in
-        let r = first_row s here in
-        let R = (first_limits s here A h).each in
-        record {
-          bounded = record {
-            short = λ j i. rw (text_at k r j i) (text-line-bound (table_of s) T r R k j);
-            few = omega (arith, row-height_few s here A h);
-          };
-          small = omega (arith, L.line_small);
-          each = plain-each k here A h;
-          most = λ j i. most_of p.plain refl j i;
-          shown = λ j i.
-              omega (
-                arith,
-                ap length (text_at k r j i),
-                line_bytes (table_of s) (widths_in s) r k j,
-                line-sum (table_of s) (widths_in s) p.columns.items O.views r j,
-                L.line,
-              );
-        }
-      where
-        most_of : (b : Bool) → p.plain ≡ b → (j : ℕ) → j < row_height s (first_row s here)
-            → length (get_or (row_lines s (text_style_of (table_of s).style k) (first_row s here)) j []) + 1 ≤ most_bytes b (l.line + 1) (length p.columns.items)
-        most_of true e j i = omega (arith, plain-each k here A h e j i)
-        most_of false e j i =
-            let r = first_row s here in
-            let T = limits_of s O.passes in
-            let R = (first_limits s here A h).each in
-            let most = text-line-most (table_of s) T r R k j in
-            let twice = text-line_twice (table_of s) T r R k j in
-            omega (arith, ap length (text_at k r j i), most, twice, L.line, O.views.count)
+  text_sized : (k : ℕ) (here : Rows) → RowsAt s here → 0 < here.left
+      → Sized s (text_style_of (table_of s).style k) (first_row s here) p.plain p.columns.items (p.lengths.line + 1)
+  text_sized k here A h =
+      let T = limits_of s O.passes in
+      let r = first_row s here in
+      let R = (first_limits s here A h).each in
+      record {
+        bounded = record {
+          short = λ j i. rw (text_at k r j i) (text-line-bound (table_of s) T r R k j);
+          few = omega (arith, row-height_few s here A h);
+        };
+        small = omega (arith, O.lengths.line_small);
+        each = plain-each k here A h;
+        most = λ j i. most_of p.plain refl j i;
+        shown = λ j i.
+            omega (
+              arith,
+              ap length (text_at k r j i),
+              line_bytes (table_of s) (widths_in s) r k j,
+              line-sum (table_of s) (widths_in s) p.columns.items O.views r j,
+              O.lengths.line,
+            );
+      }
+    where
+      most_of : (b : Bool) → p.plain ≡ b → (j : ℕ) → j < row_height s (first_row s here)
+          → length (get_or (row_lines s (text_style_of (table_of s).style k) (first_row s here)) j []) + 1 ≤ most_bytes b (p.lengths.line + 1) (length p.columns.items)
+      most_of true e j i = omega (arith, plain-each k here A h e j i)
+      most_of false e j i =
+          let r = first_row s here in
+          let T = limits_of s O.passes in
+          let R = (first_limits s here A h).each in
+          let most = text-line-most (table_of s) T r R k j in
+          let twice = text-line_twice (table_of s) T r R k j in
+          omega (arith, ap length (text_at k r j i), most, twice, O.lengths.line, O.views.count)
 
-    text-pairs : (k : ℕ) (here : Rows) → RowsAt s here → 0 < here.left → (first_row s here).limit ≡ 0
-        → length (closed (row_lines s (text_style_of (table_of s).style k) (first_row s here)))
-        ≡ row_height s (first_row s here) * (l.line + 1) + added_up_to pairs_held (first_row s here).cells p.columns.items (length p.columns.items)
-    text-pairs k here A h u =
-        let t = table_of s in
-        let r = first_row s here in
-        let e = row_bytes t (limits_of s O.passes) (widths_in s) (visible-some t) r (first_limits s here A h).each u k in
-        ap (λ ls. length (closed ls)) (text-styled s k r) ∙ e
-        ∙ rw (← held-sum t (widths_in s) p.columns.items O.views r, ← L.line)
+  text-pairs : (k : ℕ) (here : Rows) → RowsAt s here → 0 < here.left → (first_row s here).limit ≡ 0
+      → length (closed (row_lines s (text_style_of (table_of s).style k) (first_row s here)))
+      ≡ row_height s (first_row s here) * (p.lengths.line + 1) + added_up_to pairs_held (first_row s here).cells p.columns.items (length p.columns.items)
+  text-pairs k here A h u =
+      let t = table_of s in
+      let r = first_row s here in
+      let e = row_bytes t (limits_of s O.passes) (widths_in s) (visible-some t) r (first_limits s here A h).each u k in
+      ap (λ ls. length (closed ls)) (text-styled s k r) ∙ e
+      ∙ rw (← held-sum t (widths_in s) p.columns.items O.views r, ← O.lengths.line)
 
-    text-shown : (k : ℕ) (here : Rows) (n : ℕ) → row_height s (first_row s here) ≤ n
-        → length (closed (row_lines s (text_style_of (table_of s).style k) (first_row s here)))
-        ≡ row_height s (first_row s here) * (l.line + 1)
-        + added_up_to (pairs_shown (table_of s).indicator (first_row s here).limit 0 n) (first_row s here).cells p.columns.items (length p.columns.items)
-    text-shown k here n h =
-        let t = table_of s in
-        let r = first_row s here in
-        ap (λ ls. length (closed ls)) (text-styled s k r) ∙ row-shown t (widths_in s) r k
-        ∙ rw (← shown-sum t (widths_in s) p.columns.items O.views r n h, ← L.line)
+  text-shown : (k : ℕ) (here : Rows) (n : ℕ) → row_height s (first_row s here) ≤ n
+      → length (closed (row_lines s (text_style_of (table_of s).style k) (first_row s here)))
+      ≡ row_height s (first_row s here) * (p.lengths.line + 1)
+      + added_up_to (pairs_shown (table_of s).indicator (first_row s here).limit 0 n) (first_row s here).cells p.columns.items (length p.columns.items)
+  text-shown k here n h =
+      let t = table_of s in
+      let r = first_row s here in
+      ap (λ ls. length (closed ls)) (text-styled s k r) ∙ row-shown t (widths_in s) r k
+      ∙ rw (← shown-sum t (widths_in s) p.columns.items O.views r n h, ← O.lengths.line)
 
-    rule_sized : (k : ℕ) → l.line + 1 ≡ length (rule_text p.columns.items
-        (rule_style_of (table_of s).style (any_junction (table_of s).style) k)) + 1
-    rule_sized k = rw (
-      rule-drawn (table_of s) (widths_in s) p.columns.items O.views (table_of s).style false k,
-      rule-length (table_of s)
-          (widths_in s) k,
-      L.line,
-    )
+  rule_length : (k : ℕ) → p.lengths.line + 1 ≡ length (rule_text p.columns.items
+      (rule_style_of (table_of s).style (any_junction (table_of s).style) k)) + 1
+  rule_length k = rw (
+    rule-drawn (table_of s) (widths_in s) p.columns.items O.views (table_of s).style false k,
+    rule-length (table_of s)
+        (widths_in s) k,
+    O.lengths.line,
+  )
 
-    pub border_sized : (k : ℕ) → l.border + 1 ≡ length (rule_text p.columns.items (rule_style_of (table_of s).style true k)) + 1
-    border_sized k = rw (
-      rule-drawn (table_of s) (widths_in s) p.columns.items O.views (table_of s).style true k,
-      border-length (table_of s)
-          (widths_in s) k,
-      L.border,
-    )
+  -- what holds of a rule holds where it may be left out
+  kept_sized : {P : RuleStyle → Type 0} (b : Bool) (o : Option RuleStyle) → ForSome o P → ForSome (option_and_then (then_some b) o) P
+  kept_sized true None F x e = cc
+  kept_sized false None F x e = cc
+  kept_sized true (Some y) F x e = F x e
+  kept_sized false (Some y) F x e = cc
 
-    pub top_sized : l.border + 1 ≡ length (rule_text p.columns.items p.styles.top) + 1
-    unfolding styles_of
-    top_sized = rw O.styles (border_sized top_border)
+  chosen_sized : (b : Bool) (y : RuleStyle) (n : ℕ) → n ≡ length (rule_text p.columns.items y) + 1
+      → ForSome (then_some b y) (λ x. n ≡ length (rule_text p.columns.items x) + 1)
+  chosen_sized true y n e x f = let g : y ≡ x = cc in rw (← g) e
+  chosen_sized false y n e x f = cc
 
-    pub bottom_sized : l.border + 1 ≡ length (rule_text p.columns.items p.styles.bottom) + 1
-    unfolding styles_of
-    bottom_sized = rw O.styles (border_sized bottom_border)
+  border_sized : (k : ℕ) → p.lengths.border + 1 ≡ length (rule_text p.columns.items (rule_style_of (table_of s).style true k)) + 1
+  border_sized k = rw (
+    rule-drawn (table_of s) (widths_in s) p.columns.items O.views (table_of s).style true k,
+    border-length (table_of s)
+        (widths_in s) k,
+    O.lengths.border,
+  )
 
-    pub header_sized : SizedBand s p.columns.items p.styles.header (rows_in s p.header) p.plain (l.line + 1)
-    unfolding styles_of
-    header_sized = rw O.styles (record {
-      text = λ h. text_sized header_lines p.header O.header_at (omega (arith, rows_number s p.header));
-      held = λ h. text-pairs header_lines p.header O.header_at (omega (arith, rows_number s p.header));
-      shown = λ h. text-shown header_lines p.header;
-      rule = rule_sized header_rule;
-      small = omega (arith, L.line_small);
-    })
+  pub top_sized : SizedRule p.columns.items p.styles.top (p.lengths.border + 1)
+  unfolding styles_of
+  top_sized = rw O.styles (chosen_sized (is_visible (table_of s).style top_border) _ _ (border_sized top_border))
 
-    pub body_sized : (here : Rows) (y : RowStyle) → RowsAt s here → y ≡ body_style p.styles.body here.left → SizedBand s
-        p.columns.items y (rows_in s here) p.plain (l.line + 1)
-    unfolding styles_of
-    body_sized here y A e = rw (e, O.styles) (record {
-      text = λ h. text_sized content_lines here A (omega (arith, rows_number s here));
-      held = λ h. text-pairs content_lines here A (omega (arith, rows_number s here));
-      shown = λ h. text-shown content_lines here;
-      rule = rule_sized row_rule;
-      small = omega (arith, L.line_small);
-    })
+  pub bottom_sized : SizedRule p.columns.items p.styles.bottom (p.lengths.border + 1)
+  unfolding styles_of
+  bottom_sized = rw O.styles (chosen_sized (is_visible (table_of s).style bottom_border) _ _ (border_sized bottom_border))
 
--- each line of a border has its length
-pub border_lengths : (s : List ℕ) (k : ℕ) → All (λ l. length l + 1 ≡ border_length (table_of s) (widths_in s) + 1) (rule_lines s true k)
-unfolding rule_lines shown
-border_lengths s k = go (is_visible (table_of s).style k)
-  where
-    go : (b : Bool) → All {A = List ℕ} (λ l. length l + 1 ≡ border_length (table_of s) (widths_in s) + 1)
-        (elim b as (λ x. List (List ℕ)) [ true ↦ ruled (table_of s).style true k (visible_widths (table_of s) (widths_in s)) ∷ [] | false ↦ [] ])
-    go true = (rw (border-length (table_of s) (widths_in s) k), tt)
-    go false = tt
+  rule_sized : (k : ℕ) → ForSome (then_some (is_visible (table_of s).style k) (rule_style_of (table_of s).style (any_junction (table_of s).style) k))
+      (λ x. p.lengths.line + 1 ≡ length (rule_text p.columns.items x) + 1)
+  rule_sized k = chosen_sized (is_visible (table_of s).style k) _ _ (rule_length k)
 
--- they are one or none
-pub border-most : (s : List ℕ) (k : ℕ) → length (closed (rule_lines s true k)) ≤ border_length (table_of s) (widths_in s) + 1
-unfolding rule_lines shown closed
-border-most s k = go (is_visible (table_of s).style k)
-  where
-    go : (b : Bool) → length (closed (elim b as (λ x. List (List ℕ))
-        [ true ↦ ruled (table_of s).style true k (visible_widths (table_of s) (widths_in s)) ∷ [] | false ↦ [] ])) ≤ border_length (table_of s) (widths_in s) + 1
-    go true =
-        let l = ruled (table_of s).style true k (visible_widths (table_of s) (widths_in s)) in
-        omega (arith, length-append l (10 ∷ []), border-length (table_of s) (widths_in s) k)
-    go false = omega arith
+  pub header_sized : SizedBand s p.columns.items p.styles.header (rows_in s p.header) p.plain (p.lengths.line + 1)
+  unfolding styles_of
+  header_sized = rw O.styles (record {
+    text = λ h. text_sized header_lines p.header (header_at s p O) (omega (arith, rows_number s p.header));
+    held = λ h. text-pairs header_lines p.header (header_at s p O) (omega (arith, rows_number s p.header));
+    shown = λ h. text-shown header_lines p.header;
+    rule = rule_sized header_rule;
+    small = omega (arith, O.lengths.line_small);
+  })
+
+  pub body_sized : (here : Rows) (y : RowStyle) → RowsAt s here → y ≡ body_style p.styles.body here.left → SizedBand s
+      p.columns.items y (rows_in s here) p.plain (p.lengths.line + 1)
+  unfolding styles_of
+  body_sized here y A e = rw (e, O.styles) (record {
+    text = λ h. text_sized content_lines here A (omega (arith, rows_number s here));
+    held = λ h. text-pairs content_lines here A (omega (arith, rows_number s here));
+    shown = λ h. text-shown content_lines here;
+    rule = kept_sized (ltb 1 here.left) _ (rule_sized row_rule);
+    small = omega (arith, O.lengths.line_small);
+  })
+
+-- ---- the part that a cursor stands before
+
+module _ (s : List ℕ) (p : DisplayInfo) (O : Opened s p) (c : Cursor) where
+  pub part_top : c.stage ≡ Top → PartAt s p c (Border p.styles.top)
+  unfolding part_lines
+  part_top e = record { known = top_sized s p O; lines = top-drawn s p O ∙ rw e }
+
+  pub part_header : c.stage ≡ Header → PartAt s p c (Band p.styles.header p.header)
+  unfolding part_lines
+  part_header e = record { known = (header_at s p O, header_sized s p O); lines = header-drawn s p O ∙ rw e }
+
+  pub part_body : RowsAt s c.here → (y : RowStyle) → c.stage ≡ Body → y ≡ body_style p.styles.body c.here.left → PartAt s p c (Band y c.here)
+  unfolding part_lines
+  part_body A y e f = record { known = (A, body_sized s p O c.here y A f); lines = body-drawn s p O c.here y f ∙ rw e }
+
+  pub part_bottom : c.stage ≡ Bottom → PartAt s p c (Border p.styles.bottom)
+  unfolding part_lines
+  part_bottom e = record { known = bottom_sized s p O; lines = bottom-drawn s p O ∙ rw e }
+
+  pub part_end : c.stage ≡ End → PartAt s p c (Border None)
+  unfolding part_lines
+  part_end e = record { known = λ x f. cc; lines = rw e }

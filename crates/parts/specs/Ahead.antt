@@ -7,7 +7,7 @@ use Rattle.table.specs.Held.{table_of}
 use Rattle.table.specs.Walk.{rows_in}
 use Rattle.table.specs.declared.records.Rows.{Rows}
 use Rattle.display_info.specs.Opened.{widths_in, RowsAt}
-use Rattle.display_info.specs.declared.Page.{Page}
+use Rattle.display_info.specs.declared.DisplayInfo.{DisplayInfo}
 use Rattle.parts.specs.declared.cursor.Cursor.{Cursor}
 use Rattle.parts.specs.declared.cursor.Stage.{Stage}
 use Rattle.parts.specs.declared.cursor.Stage.TheVariants.{Top, Header, Body, Bottom, End}
@@ -37,33 +37,33 @@ unfoldable pub body_lines : List ℕ → List Row → List (List ℕ)
 body_lines s rs = first_ruled (text_lines s content_lines) (rule_lines s false row_rule) rs
 
 -- the lines of the part that comes next
-abbrev pub part_by : List ℕ → Page → Rows → Stage → List (List ℕ)
+abbrev pub part_by : List ℕ → DisplayInfo → Rows → Stage → List (List ℕ)
 part_by s p here Top = rule_lines s true top_border
 part_by s p here Header = header_lines_of s (rows_in s p.header)
 part_by s p here Body = body_lines s (rows_in s here)
 part_by s p here Bottom = rule_lines s true bottom_border
 part_by s p here End = []
 
-unfoldable pub part_lines : List ℕ → Page → Cursor → List (List ℕ)
+unfoldable pub part_lines : List ℕ → DisplayInfo → Cursor → List (List ℕ)
 part_lines s p c = part_by s p c.here c.stage
 
 -- the lines after that part
-abbrev pub rest_by : List ℕ → Page → Rows → Stage → List (List ℕ)
+abbrev pub rest_by : List ℕ → DisplayInfo → Rows → Stage → List (List ℕ)
 rest_by s p here Top = header_lines_of s (rows_in s p.header) ++ (row_lines_of s (rows_in s here) ++ rule_lines s true bottom_border)
 rest_by s p here Header = row_lines_of s (rows_in s here) ++ rule_lines s true bottom_border
 rest_by s p here Body = row_lines_of s (drop 1 (rows_in s here)) ++ rule_lines s true bottom_border
 rest_by s p here Bottom = []
 rest_by s p here End = []
 
-unfoldable pub rest_lines : List ℕ → Page → Cursor → List (List ℕ)
+unfoldable pub rest_lines : List ℕ → DisplayInfo → Cursor → List (List ℕ)
 rest_lines s p c = rest_by s p c.here c.stage
 
 -- the lines that a cursor has before it
-unfoldable pub ahead : List ℕ → Page → Cursor → List (List ℕ)
+unfoldable pub ahead : List ℕ → DisplayInfo → Cursor → List (List ℕ)
 ahead s p c = drop c.line (part_lines s p c) ++ rest_lines s p c
 
 -- all lines of a page over some rows
-unfoldable pub lines_of : List ℕ → Page → List (List ℕ)
+unfoldable pub lines_of : List ℕ → DisplayInfo → List (List ℕ)
 lines_of s p = framed (table_of s) (widths_in s) (rows_in s p.rows)
 
 -- no part comes next
@@ -74,15 +74,15 @@ is_end Body = false
 is_end Bottom = false
 is_end End = true
 
-abbrev pub first_cursor : Page → Cursor
-first_cursor p = record { stage = Top; here = p.rows; line = 0 }
+abbrev pub first_cursor : Rows → Cursor
+first_cursor rows = record { stage = Top; here = rows; line = 0 }
 
 -- n lines further in the same part
 abbrev pub further_on : Cursor → ℕ → Cursor
 further_on c n = record { stage = c.stage; here = c.here; line = c.line + n }
 
 -- what holds of a cursor: its rows are the sheet's, and its line is none after the part's last
-pub record At (s : List ℕ) (p : Page) (c : Cursor) : Type 0 where
+pub record At (s : List ℕ) (p : DisplayInfo) (c : Cursor) : Type 0 where
   pub rows : RowsAt s c.here
   pub within : c.line ≤ length (part_lines s p c) - 1
 
@@ -98,15 +98,15 @@ abbrev pub steps_of : Cursor → ℕ
 steps_of c = steps_by c.here.left c.stage
 
 -- r stands before what comes after the part that c stands before
-pub record Next (s : List ℕ) (p : Page) (c r : Cursor) : Type 0 where
-  pub lines : ahead s p r ≡ rest_lines s p c
-  pub at : At s p r
+pub record Next (s : List ℕ) (c r : Cursor) : Type 0 where
+  pub lines : (p : DisplayInfo) → ahead s p r ≡ rest_lines s p c
+  pub at : (p : DisplayInfo) → At s p r
   pub start : r.line ≡ 0
   pub fewer : is_end c.stage ≡ false → steps_of r < steps_of c
 
 -- the same after a row
 pub record AfterRow (s : List ℕ) (here : Rows) (r : Cursor) : Type 0 where
-  pub lines : (p : Page) → ahead s p r ≡ row_lines_of s (drop 1 (rows_in s here)) ++ rule_lines s true bottom_border
+  pub lines : (p : DisplayInfo) → ahead s p r ≡ row_lines_of s (drop 1 (rows_in s here)) ++ rule_lines s true bottom_border
   pub at : RowsAt s r.here
   pub start : r.line ≡ 0
   pub fewer : steps_of r < 2 + here.left

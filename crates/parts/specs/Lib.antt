@@ -1,3 +1,3 @@
 pub mod Ahead
 pub mod Band
-pub mod Lengths
+pub mod Part

@@ -5,7 +5,6 @@ ghost use Rattle.rules.specs.Limits.{most_lines};
 ghost use Rattle.display_info.specs.Opened.{RowsAt};
 ghost use Rattle.parts.specs.Ahead.{is_end, AfterRow, Next, first_cursor, further_on};
 
-use display_info::Page;
 use table::records::Rows;
 use table::walk;
 
@@ -27,11 +26,11 @@ pub struct Cursor {
     pub line: usize,
 }
 
-// Before the page's first part.
-pub fn first(p: &Page) -> Cursor
-    ensures { result ≡ first_cursor p.now }
+// Before the first part of a page over these rows.
+pub fn first(rows: Rows) -> Cursor
+    ensures { result ≡ first_cursor rows }
 {
-    start(Stage::Top, p.rows)
+    start(Stage::Top, rows)
 }
 
 // No part comes next.
@@ -75,9 +74,9 @@ fn after_row(sheet: &[u8], here: Rows) -> Cursor
 }
 
 // Before the next part.
-pub fn next(sheet: &[u8], p: &Page, c: Cursor) -> Cursor
+pub fn next(sheet: &[u8], c: Cursor) -> Cursor
     requires { RowsAt sheet.now c.here }
-    ensures { Next sheet.now p.now c result }
+    ensures { Next sheet.now c result }
 {
     match c.stage {
         Stage::Top => start(Stage::Header, c.here),

@@ -1,26 +1,39 @@
 // A part of a page: how many lines it has, and the part drawn from one of its lines on, for as many lines as there is room for.
-ghost use Rattle.std.specs.Prelude.{◌≡◌, [], ◌∷◌, cond, ◌+◌, ◌-◌, ◌≤◌, ◌<◌, length, drop};
+ghost use Rattle.std.specs.Prelude.{◌≡◌, ◌+◌, ◌-◌, ◌≤◌, ◌<◌, length, drop};
 ghost use Rattle.table.specs.Walk.{rows_in, first_row};
 ghost use Rattle.formatting.specs.Part.{PartIs};
-ghost use Rattle.borders.specs.Rule.{rule_text, NarrowAll};
-ghost use Rattle.display_info.specs.Opened.{RowsAt, Opened};
-ghost use Rattle.parts.specs.Ahead.{At, part_lines};
-ghost use Rattle.parts.specs.Lengths.{LengthsAre};
-ghost use Rattle.parts.specs.Band.{band_lines, band_count, body_style, SizedBand};
+ghost use Rattle.borders.specs.Rule.{NarrowAll};
+ghost use Rattle.display_info.specs.Opened.{RowsAt};
+ghost use Rattle.parts.specs.Band.{rule_by, SizedRule, band_lines, body_style, SizedBand};
+ghost use Rattle.parts.specs.Part.{lines_in, PartKnown, PartAt};
 ghost use Rattle.row.specs.Height.{limited};
 ghost use Rattle.formatting.specs.RowText.{Drawable, row_height};
 
 use crate::cursor::{Cursor, Stage};
-use crate::lengths;
-use crate::lengths::Lengths;
 use borders::RuleStyle;
 use display_info::{Page, RowStyle};
 use formatting::content_format;
 use formatting::content_format::Part;
 use row::VisibleColumn;
-use table::accepted::AcceptedSheet;
 use table::records::Rows;
 use table::walk;
+
+// A part by the styles that it is drawn with: a border, if it is visible, or the first of some rows with the rule after it.
+#[derive(Clone, Copy)]
+pub enum PagePart {
+    Border(Option<RuleStyle>),
+    Band(RowStyle, Rows),
+}
+
+// The rows' style: no rule stands after the last of them.
+fn body_style(style: RowStyle, left: usize) -> RowStyle
+    ensures { result ≡ body_style style left }
+{
+    RowStyle {
+        rule: style.rule.filter(|_| 1 < left),
+        ..style
+    }
+}
 
 // The lines that a row's limit leaves, 0 being none.
 fn within_limit(limit: usize, lines: usize) -> usize
@@ -44,30 +57,15 @@ pub fn row_lines(sheet: &[u8], columns: &[VisibleColumn], here: Rows, plain: boo
 }
 
 // The lines of the first of some rows and of the rule after it.
-fn band_lines(sheet: &[u8], p: &Page, ruled: bool, here: Rows) -> usize
-    requires { Opened sheet.now p.now × RowsAt sheet.now here }
-    ensures { result ≡ band_count sheet.now ruled (rows_in sheet.now here) }
+fn band_lines(p: &Page<'_>, style: RowStyle, here: Rows) -> usize
+    requires { RowsAt p.now.sheet.now here }
+    ensures { result ≡ length (band_lines p.now.sheet.now p.now.info.columns.items style (rows_in p.now.sheet.now here)) }
 {
     if here.left == 0 {
         return 0;
     }
-    let columns = p.columns.as_slice();
-    row_lines(sheet, columns, here, p.plain) + lengths::where_drawn(ruled, 1)
-}
-
-// The lines of the part that the cursor stands before.
-pub fn lines(sheet: &[u8], p: &Page, c: Cursor) -> usize
-    requires { Opened sheet.now p.now × RowsAt sheet.now c.here }
-    ensures { result ≡ length (part_lines sheet.now p.now c) }
-{
-    let styles = p.styles;
-    match c.stage {
-        Stage::Top => lengths::where_drawn(styles.has_top, 1),
-        Stage::Header => band_lines(sheet, p, styles.header.ruled, p.header),
-        Stage::Body => band_lines(sheet, p, styles.body.ruled & (1 < c.here.left), c.here),
-        Stage::Bottom => lengths::where_drawn(styles.has_bottom, 1),
-        Stage::End => 0,
-    }
+    let columns = p.info.columns.as_slice();
+    row_lines(p.sheet, columns, here, p.info.plain) + usize::from(style.rule.is_some())
 }
 
 fn nothing(whole: bool) -> Part
@@ -80,20 +78,20 @@ fn nothing(whole: bool) -> Part
     }
 }
 
-// A border or a rule, where it is visible. It takes `size` bytes, its 0A included.
+// A border or a rule, if there is one. It takes `size` bytes, its 0A included.
 fn draw_rule(
     page: &mut [u8],
     columns: &[VisibleColumn],
-    style: RuleStyle,
-    visible: bool,
+    style: Option<RuleStyle>,
     size: usize,
 ) -> Part
-    requires { NarrowAll columns.now × (size ≡ length (rule_text columns.now style) + 1) }
-    ensures { PartIs (cond visible (rule_text columns.now style ∷ []) []) page.old page.new result }
+    requires { NarrowAll columns.now × SizedRule columns.now style size }
+    ensures { PartIs (rule_by columns.now style) page.old page.new result }
 {
-    if !visible {
-        return nothing(true);
-    }
+    let style = match style {
+        Some(style) => style,
+        None => return nothing(true),
+    };
     if page.len() < size {
         return nothing(false);
     }
@@ -108,40 +106,39 @@ fn draw_rule(
 // The first of some rows with the rule after it, from line `first` on.
 fn draw_band(
     page: &mut [u8],
-    sheet: &[u8],
-    p: &Page,
+    p: &Page<'_>,
     style: RowStyle,
     here: Rows,
     first: usize,
     size: usize,
 ) -> Part
-    requires opened { Opened sheet.now p.now × (RowsAt sheet.now here
-        × SizedBand sheet.now p.now.columns.items style (rows_in sheet.now here) p.now.plain size) }
-    requires first_in_bounds { first ≤ length (band_lines sheet.now p.now.columns.items style (rows_in sheet.now here)) - 1 }
-    ensures { PartIs (drop first (band_lines sheet.now p.now.columns.items style (rows_in sheet.now here)))
+    requires known { RowsAt p.now.sheet.now here
+        × SizedBand p.now.sheet.now p.now.info.columns.items style (rows_in p.now.sheet.now here) p.now.info.plain size }
+    requires first_in_bounds { first ≤ length (band_lines p.now.sheet.now p.now.info.columns.items style (rows_in p.now.sheet.now here)) - 1 }
+    ensures { PartIs (drop first (band_lines p.now.sheet.now p.now.info.columns.items style (rows_in p.now.sheet.now here)))
         page.old page.new result }
 {
     if here.left == 0 {
         return nothing(true);
     }
-    let columns = p.columns.as_slice();
-    let indicator = AcceptedSheet { bytes: sheet }.indicator();
+    let columns = p.info.columns.as_slice();
+    let indicator = p.indicator();
     let text = content_format::draw_row(
         page,
-        sheet,
+        p.sheet,
         columns,
         indicator,
         style.lines,
         here,
         first,
-        p.plain,
+        p.info.plain,
         size,
     );
     if !text.whole {
         return text;
     }
     let at = text.bytes;
-    let drawn = draw_rule(&mut page[at..], columns, style.rule, style.ruled, size);
+    let drawn = draw_rule(&mut page[at..], columns, style.rule, size);
     Part {
         lines: text.lines + drawn.lines,
         bytes: at + drawn.bytes,
@@ -149,32 +146,47 @@ fn draw_band(
     }
 }
 
-// The rows' style, where a rule stands only between two rows.
-pub fn body_style(style: RowStyle, left: usize) -> RowStyle
-    ensures { result ≡ body_style style left }
-{
-    RowStyle {
-        ruled: style.ruled & (1 < left),
-        ..style
-    }
-}
-
-// The part that the cursor stands before, from its line on.
-pub fn draw(page: &mut [u8], sheet: &[u8], p: &Page, l: Lengths, c: Cursor) -> Part
-    requires { Opened sheet.now p.now × (At sheet.now p.now c × LengthsAre sheet.now l) }
-    ensures { PartIs (drop c.line (part_lines sheet.now p.now c)) page.old page.new result }
-{
-    let styles = p.styles;
-    let columns = p.columns.as_slice();
-    let (line, border) = (l.line + 1, l.border + 1);
-    match c.stage {
-        Stage::Top => draw_rule(page, columns, styles.top, styles.has_top, border),
-        Stage::Header => draw_band(page, sheet, p, styles.header, p.header, c.line, line),
-        Stage::Body => {
-            let body = body_style(styles.body, c.here.left);
-            draw_band(page, sheet, p, body, c.here, c.line, line)
+impl PagePart {
+    // The part that the cursor stands before.
+    pub fn at(p: &Page<'_>, c: Cursor) -> PagePart
+        requires { RowsAt p.now.sheet.now c.here }
+        ensures { PartAt p.now.sheet.now p.now.info c result }
+    {
+        let styles = p.info.styles;
+        match c.stage {
+            Stage::Top => PagePart::Border(styles.top),
+            Stage::Header => PagePart::Band(styles.header, p.info.header),
+            Stage::Body => PagePart::Band(body_style(styles.body, c.here.left), c.here),
+            Stage::Bottom => PagePart::Border(styles.bottom),
+            Stage::End => PagePart::Border(None),
         }
-        Stage::Bottom => draw_rule(page, columns, styles.bottom, styles.has_bottom, border),
-        Stage::End => nothing(true),
+    }
+
+    // How many lines it has.
+    pub fn lines(self, p: &Page<'_>) -> usize
+        requires { PartKnown p.now.sheet.now p.now.info self }
+        ensures { result ≡ length (lines_in p.now.sheet.now p.now.info self) }
+    {
+        match self {
+            PagePart::Border(rule) => usize::from(rule.is_some()),
+            PagePart::Band(style, here) => band_lines(p, style, here),
+        }
+    }
+
+    // The part drawn, from line `first` on.
+    pub fn draw(self, page: &mut [u8], p: &Page<'_>, first: usize) -> Part
+        requires known { PartKnown p.now.sheet.now p.now.info self }
+        requires first_in_bounds { first ≤ length (lines_in p.now.sheet.now p.now.info self) - 1 }
+        ensures { PartIs (drop first (lines_in p.now.sheet.now p.now.info self)) page.old page.new result }
+    {
+        let lengths = p.info.lengths;
+        match self {
+            PagePart::Border(rule) => {
+                draw_rule(page, p.info.columns.as_slice(), rule, lengths.border + 1)
+            }
+            PagePart::Band(style, here) => {
+                draw_band(page, p, style, here, first, lengths.line + 1)
+            }
+        }
     }
 }

@@ -2,96 +2,83 @@
 ghost use Rattle.std.specs.Prelude.{◌≡◌, [], ◌+◌, ◌<◌, length, get_or};
 ghost use Rattle.rules.specs.Page.{closed};
 ghost use Rattle.table.specs.Walk.{rows_in};
-ghost use Rattle.display_info.specs.Opened.{RowsAt, Opened};
-ghost use Rattle.parts.specs.Ahead.{At, part_lines};
-ghost use Rattle.parts.specs.Lengths.{LengthsAre};
+ghost use Rattle.display_info.specs.Opened.{RowsAt};
 ghost use Rattle.parts.specs.Band.{band_lines, SizedBand};
+ghost use Rattle.parts.specs.Part.{lines_in, PartKnown};
 
-use crate::cursor::{Cursor, Stage};
-use crate::lengths::Lengths;
 use crate::part;
+use crate::part::PagePart;
 use display_info::{Page, RowStyle};
 use formatting::row_size;
-use table::accepted::AcceptedSheet;
 use table::records::Rows;
 use table::walk;
 
 // The bytes of the first of some rows and of the rule after it, n lines of `size` bytes and the pairs that they show. A row without limit shows
 // each pair of its visible cells once, so that it needn't be wrapped.
-fn band_bytes(sheet: &[u8], p: &Page, style: RowStyle, here: Rows, n: usize, size: usize) -> usize
-    requires opened { Opened sheet.now p.now × (RowsAt sheet.now here
-        × SizedBand sheet.now p.now.columns.items style (rows_in sheet.now here) p.now.plain size) }
-    requires counted { n ≡ length (band_lines sheet.now p.now.columns.items style (rows_in sheet.now here)) }
-    ensures { result ≡ length (closed (band_lines sheet.now p.now.columns.items style (rows_in sheet.now here))) }
+fn band_bytes(p: &Page<'_>, style: RowStyle, here: Rows, n: usize, size: usize) -> usize
+    requires known { RowsAt p.now.sheet.now here
+        × SizedBand p.now.sheet.now p.now.info.columns.items style (rows_in p.now.sheet.now here) p.now.info.plain size }
+    requires counted { n ≡ length (band_lines p.now.sheet.now p.now.info.columns.items style (rows_in p.now.sheet.now here)) }
+    ensures { result ≡ length (closed (band_lines p.now.sheet.now p.now.info.columns.items style (rows_in p.now.sheet.now here))) }
 {
-    if p.plain {
+    if p.info.plain {
         return n * size;
     }
     if here.left == 0 {
         return 0;
     }
-    let r = walk::row(sheet, here);
-    let columns = p.columns.as_slice();
+    let r = walk::row(p.sheet, here);
+    let columns = p.info.columns.as_slice();
     if r.limit == 0 {
-        return n * size + row::row_pairs(sheet, columns, r.cells);
+        return n * size + row::row_pairs(p.sheet, columns, r.cells);
     }
-    let indicator = AcceptedSheet { bytes: sheet }.indicator();
-    n * size + row_size::row_shown(sheet, columns, indicator, here, 0, n, p.plain)
-}
-
-// The bytes of the part that the cursor stands before, which has n lines.
-pub fn bytes(sheet: &[u8], p: &Page, l: Lengths, c: Cursor, n: usize) -> usize
-    requires opened { Opened sheet.now p.now × (RowsAt sheet.now c.here × LengthsAre sheet.now l) }
-    requires counted { n ≡ length (part_lines sheet.now p.now c) }
-    ensures { result ≡ length (closed (part_lines sheet.now p.now c)) }
-{
-    let styles = p.styles;
-    match c.stage {
-        Stage::Top => n * (l.border + 1),
-        Stage::Header => band_bytes(sheet, p, styles.header, p.header, n, l.line + 1),
-        Stage::Body => {
-            let body = part::body_style(styles.body, c.here.left);
-            band_bytes(sheet, p, body, c.here, n, l.line + 1)
-        }
-        Stage::Bottom => n * (l.border + 1),
-        Stage::End => 0,
-    }
+    let indicator = p.indicator();
+    n * size + row_size::row_shown(p.sheet, columns, indicator, here, 0, n, p.info.plain)
 }
 
 // The bytes of line n of the first of some rows and of the rule after it, its 0A included.
-fn band_line(sheet: &[u8], p: &Page, style: RowStyle, here: Rows, n: usize, size: usize) -> usize
-    requires opened { Opened sheet.now p.now × (RowsAt sheet.now here
-        × SizedBand sheet.now p.now.columns.items style (rows_in sheet.now here) p.now.plain size) }
-    requires n_in_bounds { n < length (band_lines sheet.now p.now.columns.items style (rows_in sheet.now here)) }
-    ensures { result ≡ length (get_or (band_lines sheet.now p.now.columns.items style (rows_in sheet.now here)) n []) + 1 }
+fn band_line(p: &Page<'_>, style: RowStyle, here: Rows, n: usize, size: usize) -> usize
+    requires known { RowsAt p.now.sheet.now here
+        × SizedBand p.now.sheet.now p.now.info.columns.items style (rows_in p.now.sheet.now here) p.now.info.plain size }
+    requires n_in_bounds { n < length (band_lines p.now.sheet.now p.now.info.columns.items style (rows_in p.now.sheet.now here)) }
+    ensures { result ≡ length (get_or (band_lines p.now.sheet.now p.now.info.columns.items style (rows_in p.now.sheet.now here)) n []) + 1 }
 {
-    if p.plain {
+    if p.info.plain {
         return size;
     }
-    let columns = p.columns.as_slice();
-    if n < part::row_lines(sheet, columns, here, p.plain) {
-        let indicator = AcceptedSheet { bytes: sheet }.indicator();
-        let pairs = row_size::row_shown(sheet, columns, indicator, here, n, n + 1, p.plain);
+    let columns = p.info.columns.as_slice();
+    if n < part::row_lines(p.sheet, columns, here, p.info.plain) {
+        let indicator = p.indicator();
+        let pairs = row_size::row_shown(p.sheet, columns, indicator, here, n, n + 1, p.info.plain);
         return size + pairs;
     }
     size
 }
 
-// The bytes of the line that the cursor stands before, its 0A included.
-pub fn line_size(sheet: &[u8], p: &Page, l: Lengths, c: Cursor) -> usize
-    requires opened { Opened sheet.now p.now × (At sheet.now p.now c × LengthsAre sheet.now l) }
-    requires line_in_bounds { c.line < length (part_lines sheet.now p.now c) }
-    ensures { result ≡ length (get_or (part_lines sheet.now p.now c) c.line []) + 1 }
-{
-    let styles = p.styles;
-    match c.stage {
-        Stage::Top => l.border + 1,
-        Stage::Header => band_line(sheet, p, styles.header, p.header, c.line, l.line + 1),
-        Stage::Body => {
-            let body = part::body_style(styles.body, c.here.left);
-            band_line(sheet, p, body, c.here, c.line, l.line + 1)
+impl PagePart {
+    // The bytes of its lines, which are n.
+    pub fn bytes(self, p: &Page<'_>, n: usize) -> usize
+        requires known { PartKnown p.now.sheet.now p.now.info self }
+        requires counted { n ≡ length (lines_in p.now.sheet.now p.now.info self) }
+        ensures { result ≡ length (closed (lines_in p.now.sheet.now p.now.info self)) }
+    {
+        let lengths = p.info.lengths;
+        match self {
+            PagePart::Border(_) => n * (lengths.border + 1),
+            PagePart::Band(style, here) => band_bytes(p, style, here, n, lengths.line + 1),
         }
-        Stage::Bottom => l.border + 1,
-        Stage::End => 1,
+    }
+
+    // The bytes of its line n, its 0A included.
+    pub fn line_size(self, p: &Page<'_>, n: usize) -> usize
+        requires known { PartKnown p.now.sheet.now p.now.info self }
+        requires n_in_bounds { n < length (lines_in p.now.sheet.now p.now.info self) }
+        ensures { result ≡ length (get_or (lines_in p.now.sheet.now p.now.info self) n []) + 1 }
+    {
+        let lengths = p.info.lengths;
+        match self {
+            PagePart::Border(_) => lengths.border + 1,
+            PagePart::Band(style, here) => band_line(p, style, here, n, lengths.line + 1),
+        }
     }
 }

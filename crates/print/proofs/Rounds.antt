@@ -17,10 +17,10 @@ use Rattle.display_info.specs.Opened.{Opened}
 use Rattle.parts.specs.Ahead.{is_end, At, ahead, lines_of, first_cursor}
 use Rattle.rules.specs.Limits.{longest_line, most_lines}
 use Rattle.lines.specs.Walk.{WroteIs}
-use Rattle.display_info.specs.declared.Page.{Page}
+use Rattle.display_info.specs.declared.DisplayInfo.{DisplayInfo}
 use Rattle.parts.specs.declared.cursor.Cursor.{Cursor}
 use Rattle.lines.specs.declared.Written.{Written}
-use Rattle.display_info.proofs.Opening.{limits_of}
+use Rattle.display_info.proofs.Opening.{limits_of, rows_at}
 use Rattle.parts.proofs.Parts.{first-at, first-ahead, end-ahead}
 use Rattle.parts.proofs.Bands.{total-lines}
 
@@ -29,22 +29,22 @@ abbrev one_more : Bool → ℕ
 one_more true = 0
 one_more false = 1
 
-unfoldable pub left : List ℕ → Page → Cursor → ℕ
+unfoldable pub left : List ℕ → DisplayInfo → Cursor → ℕ
 left s p c = length (ahead s p c) + one_more (is_end c.stage)
 
 -- the cursor stands before the page's lines from one on
-pub record Standing (s : List ℕ) (p : Page) (c : Cursor) : Type 0 where
+pub record Standing (s : List ℕ) (p : DisplayInfo) (c : Cursor) : Type 0 where
   pub at : At s p c
   pub passed : ℕ
   pub lines : ahead s p c ≡ drop passed (lines_of s p)
 
-pub standing-first : (s : List ℕ) (p : Page) → Opened s p → (c : Cursor) → c ≡ first_cursor p → Standing s p c
+pub standing-first : (s : List ℕ) (p : DisplayInfo) → Opened s p → (c : Cursor) → c ≡ first_cursor p.rows → Standing s p c
 standing-first s p O c e = rw e (record { at = first-at s p O; passed = 0; lines = first-ahead s p O })
 
-pub standing_few : (s : List ℕ) (p : Page) → Opened s p → (c : Cursor) → Standing s p c → length (ahead s p c) ≤ most_lines
+pub standing_few : (s : List ℕ) (p : DisplayInfo) → Opened s p → (c : Cursor) → Standing s p c → length (ahead s p c) ≤ most_lines
 standing_few s p O c S = omega (arith, ap length S.lines, length-drop S.passed (lines_of s p), total-lines s p O)
 
-module _ (s : List ℕ) (p : Page) (O : Opened s p) (c : Cursor) (S : Standing s p c) (b a : List ℕ) (r : Written)
+module _ (s : List ℕ) (p : DisplayInfo) (O : Opened s p) (c : Cursor) (S : Standing s p c) (b a : List ℕ) (r : Written)
     (W : WroteIs s p c b a r) where
   pub round_bytes : r.bytes ≤ length b
   round_bytes = omega (arith, W.bytes, fitted (length b) (ahead s p c))
@@ -61,7 +61,7 @@ module _ (s : List ℕ) (p : Page) (O : Opened s p) (c : Cursor) (S : Standing s
   some : longest_line + 1 ≤ length b → 0 < length (ahead s p c) → 0 < length (whole_lines (length b) (ahead s p c))
   unfolding lines_of
   some h k = go (ahead s p c) k (rw S.lines (all_drop (λ l. length l ≤ longest_line) S.passed (lines_of s p)
-      (framed-line-bound (table_of s) (limits_of s O.passes) (rows_in s p.rows) O.rows_at.sound)))
+      (framed-line-bound (table_of s) (limits_of s O.passes) (rows_in s p.rows) (rows_at s p O).sound)))
     where
       go : (ls : List (List ℕ)) → 0 < length ls → All (λ l. length l ≤ longest_line) ls → 0 < length (whole_lines (length b) ls)
       go [] f g = absurd (omega arith)

@@ -53,9 +53,9 @@ fn print<R: Print + Clock>(rt: &R, sheet: &[u8], space: &mut [u8]) -> Result<(),
         Err(refusal) => return write_refusal(rt, refusal).map_err(Error::Untold),
     };
     let p = display_info::open(&AcceptedSheet { bytes: sheet }, examined.plain);
-    let mut c = cursor::first(&p);
+    let mut c = cursor::first(p.info.rows);
     while !cursor::is_end(c) {
-        let part = lines::write(space, sheet, &p, c);
+        let part = lines::write(space, &p, c);
         let n = part.bytes;
         stream::write_all(rt, &space[..n]).map_err(Error::Cut)?;
         c = part.next;

@@ -1,26 +1,32 @@
 use mathlib.Core.Path.{ap, ◌∙◌}
+use native.Mathlib.Omega.{arith}
 use Rattle.display_info.specs.Opened.{styles_of}
-use Rattle.display_info.proofs.Opening.{header_at, header_one, rows_at, rows_few}
+use Rattle.display_info.proofs.Measures.{lengths_are}
+use Rattle.display_info.proofs.Opening.{limits_of, header_ends, header_one, rows_last, rows_few, body_edges}
 use Rattle.display_info.proofs.open_by.Goals as goal
 
-pub returns : goal.returns
-returns c =
+pub invariant_of-result : goal.invariant_of-result
+invariant_of-result c =
+    let passes = c.args.sheet.now.accepted in
     let v = c.show_columns-columns.ensures in
+    let y = c.styles-styles.ensures ∙ ap styles_of c.style.ensures in
     let h = c.header-header.ensures in
-    let r = c.rows-rows.ensures in (
-      record {
-        passes = c.args.sheet.now.accepted;
+    let r = c.rows-rows.ensures in
+    record {
+      opened = record {
+        passes = passes;
         views = v.0;
         rising = v.1.0;
         usable = v.1.1.0;
         plain = c.requires.plain_table;
         narrow = v.1.1.1;
-        styles = c.styles-styles.ensures ∙ ap styles_of c.style.ensures;
+        styles = y;
+        lengths = rw (c.measure-lengths.ensures, c.as_slice.ensures.value) (lengths_are _ _ _ _ (limits_of _ passes) v.0 (body_edges _ _ y));
         header = h.0;
-        header_at = header_at _ c.args.sheet.now.accepted _ h.0 h.1;
-        header_one = header_one _ c.args.sheet.now.accepted _ h.0;
-        rows_at = rows_at _ c.args.sheet.now.accepted _ r.0 r.1;
-        rows_few = rows_few _ c.args.sheet.now.accepted _ r.0;
-      },
-      r.0,
-    )
+        header_ends = header_ends _ passes _ h.1;
+        header_one = header_one _ passes _ h.0;
+        rows = rows_last _ passes _ r.0;
+        rows_ends = omega (arith, r.1);
+        rows_few = rows_few _ passes _ r.0;
+      };
+    }

@@ -1,40 +1,45 @@
 use native.Mathlib.Omega.{arith}
-use mathlib.Core.Path.{sym, ◌∙◌}
+use mathlib.Core.Path.{sym, ap, ◌∙◌}
+use lib.ListN.{length}
+use Rattle.rules.specs.Page.{closed}
 use Rattle.parts.proofs.Bands.{total-lines, total_bytes}
 use Rattle.lines.proofs.Walks.{counting_begins, counting-room, counting-on, counting_done}
 use Rattle.lines.proofs.count.Goals as goal
 
-pub loop-l-init : goal.loop-l-init
-loop-l-init c =
-    counting_begins c.args.sheet.now c.args.p.now c.requires _
+pub loop-c-init : goal.loop-c-init
+loop-c-init c =
+    counting_begins c.args.p.now.sheet.now c.args.p.now.info c.args.p.now.opened _
     c.first-c.ensures
 
+pub at-part-requires : goal.at-part-requires
+at-part-requires c = c.loop-c.invariant.at.rows
+
 pub lines-n-requires : goal.lines-n-requires
-lines-n-requires c = (c.requires, c.loop-l.invariant.at.rows)
+lines-n-requires c = c.at-part.ensures.known
 
 pub bytes-more-requires : goal.bytes-more-requires
-bytes-more-requires c = record { opened = (c.requires, (c.loop-l.invariant.at.rows, c.measure-l.ensures)); counted = c.lines-n.ensures }
+bytes-more-requires c = record { known = c.at-part.ensures.known; counted = c.lines-n.ensures }
 
 pub overflow_add-lines : goal.overflow_add-lines
 overflow_add-lines c =
-    let r = counting-room c.args.sheet.now c.args.p.now c.loop-l.c _ _ c.loop-l.invariant _ _ c.lines-n.ensures c.bytes-more.ensures in
-    omega (arith, r.0, total-lines c.args.sheet.now c.args.p.now c.requires)
+    let r = counting-room c.args.p.now.sheet.now c.args.p.now.info c.loop-c.c _ _ c.loop-c.invariant _ _ (c.lines-n.ensures ∙ ap length c.at-part.ensures.lines) (c.bytes-more.ensures ∙ ap (λ ls. length (closed ls)) c.at-part.ensures.lines) in
+    omega (arith, r.0, total-lines c.args.p.now.sheet.now c.args.p.now.info c.args.p.now.opened)
 
 pub overflow_add-bytes : goal.overflow_add-bytes
 overflow_add-bytes c =
-    let r = counting-room c.args.sheet.now c.args.p.now c.loop-l.c _ _ c.loop-l.invariant _ _ c.lines-n.ensures c.bytes-more.ensures in
-    omega (arith, r.1, total_bytes c.args.sheet.now c.args.p.now c.requires)
+    let r = counting-room c.args.p.now.sheet.now c.args.p.now.info c.loop-c.c _ _ c.loop-c.invariant _ _ (c.lines-n.ensures ∙ ap length c.at-part.ensures.lines) (c.bytes-more.ensures ∙ ap (λ ls. length (closed ls)) c.at-part.ensures.lines) in
+    omega (arith, r.1, total_bytes c.args.p.now.sheet.now c.args.p.now.info c.args.p.now.opened)
 
 pub next-c-requires : goal.next-c-requires
-next-c-requires c = c.loop-l.invariant.at.rows
+next-c-requires c = c.loop-c.invariant.at.rows
 
-pub loop-l-smaller : goal.loop-l-smaller
-loop-l-smaller c = c.next-c.ensures.fewer (sym c.is_end.ensures ∙ c.loop-l-test.true)
+pub loop-c-smaller : goal.loop-c-smaller
+loop-c-smaller c = c.next-c.ensures.fewer (sym c.is_end.ensures ∙ c.loop-c-test.true)
 
-pub loop-l-preserved : goal.loop-l-preserved
-loop-l-preserved c = counting-on _ _ c.loop-l.c _ _ c.loop-l.invariant _ _ c.lines-n.ensures c.bytes-more.ensures _ c.next-c.ensures
+pub loop-c-preserved : goal.loop-c-preserved
+loop-c-preserved c = counting-on _ _ c.loop-c.c _ _ c.loop-c.invariant _ _ (c.lines-n.ensures ∙ ap length c.at-part.ensures.lines) (c.bytes-more.ensures ∙ ap (λ ls. length (closed ls)) c.at-part.ensures.lines) _ c.next-c.ensures
 
 pub returns : goal.returns
 returns c =
-    counting_done _ _ c.loop-l.c _ _ c.loop-l.invariant
-    (sym c.is_end.ensures ∙ c.loop-l-test.false)
+    counting_done _ _ c.loop-c.c _ _ c.loop-c.invariant
+    (sym c.is_end.ensures ∙ c.loop-c-test.false)

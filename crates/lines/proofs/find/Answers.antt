@@ -4,22 +4,25 @@ use Rattle.lines.proofs.find.Goals as goal
 
 pub returns-then-is_end : goal.returns-then-is_end
 returns-then-is_end c =
-    found_past c.args.sheet.now c.args.p.now c.args.k _ c.seek-sought.ensures (sym c.is_end.ensures ∙ c.if-is_end.true)
+    found_past c.args.p.now.sheet.now c.args.p.now.info c.args.k _ c.seek-sought.ensures (sym c.is_end.ensures ∙ c.if-is_end.true)
     c.args.room
+
+pub at-part-requires : goal.at-part-requires
+at-part-requires c = c.seek-sought.ensures.at.rows
 
 pub line_size-size-requires : goal.line_size-size-requires
 line_size-size-requires c =
-    let k = c.seek-sought.ensures in
-    let e = sym c.is_end.ensures ∙ c.if-is_end.false in record { opened = (c.requires, (k.at, c.measure-l.ensures)); line_in_bounds = k.some e }
+    let A = c.at-part.ensures in
+    record { known = A.known; n_in_bounds = rw A.lines (c.seek-sought.ensures.some (sym c.is_end.ensures ∙ c.if-is_end.false)) }
 
 pub returns-then-room-size : goal.returns-then-room-size
 returns-then-room-size c =
-    found_short c.args.sheet.now c.args.p.now c.args.k _ c.seek-sought.ensures
-    (sym c.is_end.ensures ∙ c.if-is_end.false) _ c.line_size-size.ensures c.args.room
+    found_short c.args.p.now.sheet.now c.args.p.now.info c.args.k _ c.seek-sought.ensures
+    (sym c.is_end.ensures ∙ c.if-is_end.false) _ (rw c.at-part.ensures.lines at c.line_size-size.ensures) c.args.room
     c.if-room-size.true
 
 pub returns : goal.returns
 returns c =
-    found_there c.args.sheet.now c.args.p.now c.args.k _ c.seek-sought.ensures
-    (sym c.is_end.ensures ∙ c.if-is_end.false) _ c.line_size-size.ensures c.args.room
+    found_there c.args.p.now.sheet.now c.args.p.now.info c.args.k _ c.seek-sought.ensures
+    (sym c.is_end.ensures ∙ c.if-is_end.false) _ (rw c.at-part.ensures.lines at c.line_size-size.ensures) c.args.room
     c.if-room-size.false

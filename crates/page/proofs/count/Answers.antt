@@ -10,11 +10,9 @@ returns-in-Err c = rw (c.from.ensures, refused_by _ _ c.in-Err.ensures)
 pub open-p-requires : goal.open-p-requires
 open-p-requires c = let e = c.in-Ok.ensures in plain_table _ _ e
 
-pub count-totals-requires : goal.count-totals-requires
-count-totals-requires c = c.open-p.ensures.0
-
 pub returns : goal.returns
 returns c =
     let h = accepted _ _ c.in-Ok.ensures in
-    let t = count-all _ h _ c.open-p.ensures.1 _ c.count-totals.ensures in
+    let o = c.open-p.ensures in
+    let t = count-all _ h _ o.all_rows _ (rw o.same_sheet at c.count-totals.ensures) in
     count_accepted _ h _ t.0 t.1

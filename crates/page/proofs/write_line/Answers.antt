@@ -19,44 +19,41 @@ returns-in_err-examined c =
 pub open-p-requires : goal.open-p-requires
 open-p-requires c = let e = c.in_ok-examined.ensures in plain_table _ _ e
 
-pub find-requires : goal.find-requires
-find-requires c = c.open-p.ensures.0
-
 pub returns-in_err-found : goal.returns-in_err-found
 returns-in_err-found c =
     let p = err_from_is_err_and c.from_residual-in_err-found.result c.from_residual-in_err-found.ensures.1 in
     let h = accepted _ _ c.in_ok-examined.ensures in
-    let e = line_turned _ h _ c.open-p.ensures.1 c.args.line c.args.page.now _ c.in_err-found.ensures in
+    let e = line_turned _ h _ c.open-p.ensures.all_rows c.args.line c.args.page.now _ (rw c.open-p.ensures.same_sheet at c.in_err-found.ensures) in
     record { value = rw (p.1, p.2) (sym (ap (λ (w : Written). w.answer) e)); page_after = sym (ap (λ (w : Written). w.buffer) e) }
 
 pub slice_bounds-write-end : goal.slice_bounds-write-end
 slice_bounds-write-end c =
     let h = accepted _ _ c.in_ok-examined.ensures in
-    omega (arith, (found_here _ h _ c.open-p.ensures.1 c.args.line c.args.page.now _ c.in_ok-found.ensures).1.1)
+    omega (arith, (found_here _ h _ c.open-p.ensures.all_rows c.args.line c.args.page.now _ (rw c.open-p.ensures.same_sheet at c.in_ok-found.ensures)).1.1)
 
 pub slice_bounds-write-end-2 : goal.slice_bounds-write-end-2
 slice_bounds-write-end-2 c =
     let h = accepted _ _ c.in_ok-examined.ensures in
     let b = c.args.page.now in
-    sym (length-take-le _ b (omega (arith, (found_here _ h _ c.open-p.ensures.1 c.args.line b _ c.in_ok-found.ensures).1.1)))
+    sym (length-take-le _ b (omega (arith, (found_here _ h _ c.open-p.ensures.all_rows c.args.line b _ (rw c.open-p.ensures.same_sheet at c.in_ok-found.ensures)).1.1)))
 
 pub write-drawn-requires : goal.write-drawn-requires
 write-drawn-requires c =
     let h = accepted _ _ c.in_ok-examined.ensures in
     let o = c.open-p.ensures in
-    let f = c.in_ok-found.ensures in
-    (o.0, (f.at, lines-bound _ h _ o.1 _ c.args.line f.lines))
+    let f = rw c.open-p.ensures.same_sheet at c.in_ok-found.ensures in
+    rw o.same_sheet (f.at, lines-bound _ h _ o.all_rows _ c.args.line f.lines)
 
 pub returns : goal.returns
 returns c =
     let h = accepted _ _ c.in_ok-examined.ensures in
-    let o = c.open-p.ensures.1 in
-    let f = c.in_ok-found.ensures in
+    let o = c.open-p.ensures.all_rows in
+    let f = rw c.open-p.ensures.same_sheet at c.in_ok-found.ensures in
     let k = c.args.line in
     let b = c.args.page.now in
     let n = c.in_ok-found.found.size in
     let t = found_here _ h _ o k b _ f in
-    let l = line-written _ h _ o k b _ f (take n b) _ c.write-drawn.result (length-take-le n b t.1.1) c.write-drawn.ensures in
+    let l = line-written _ h _ o k b _ f (take n b) _ c.write-drawn.result (length-take-le n b t.1.1) (rw c.open-p.ensures.same_sheet at c.write-drawn.ensures) in
     let e = line-answer _ h _ o k b _ f c.write-drawn.result.bytes _ l.0
     (prefix_back (line_at (table_of c.args.sheet.now) k) b _ n (sym t.1.0) t.1.1 l.1) in
     record { value = sym (ap (λ (x : Written). x.answer) e); page_after = sym (ap (λ (x : Written). x.buffer) e) }

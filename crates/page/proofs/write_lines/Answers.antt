@@ -15,35 +15,32 @@ returns-in_err-examined c =
 pub open-p-requires : goal.open-p-requires
 open-p-requires c = let e = c.in_ok-examined.ensures in plain_table _ _ e
 
-pub find-requires : goal.find-requires
-find-requires c = c.open-p.ensures.0
-
 pub returns-in_err-found : goal.returns-in_err-found
 returns-in_err-found c =
     let p = err_from_is_err_and c.from_residual-in_err-found.result c.from_residual-in_err-found.ensures.1 in
     let h = accepted _ _ c.in_ok-examined.ensures in
-    let e = lines_turned _ h _ c.open-p.ensures.1 c.args.line c.args.page.now _ c.in_err-found.ensures in
+    let e = lines_turned _ h _ c.open-p.ensures.all_rows c.args.line c.args.page.now _ (rw c.open-p.ensures.same_sheet at c.in_err-found.ensures) in
     record { value = rw (p.1, p.2) (sym (ap (λ (w : Several). w.answer) e)); page_after = sym (ap (λ (w : Several). w.buffer) e); few = rw (p.1) tt }
 
 pub write-wrote-requires : goal.write-wrote-requires
 write-wrote-requires c =
     let h = accepted _ _ c.in_ok-examined.ensures in
     let o = c.open-p.ensures in
-    let f = c.in_ok-found.ensures in
-    (o.0, (f.at, lines-bound _ h _ o.1 _ c.args.line f.lines))
+    let f = rw c.open-p.ensures.same_sheet at c.in_ok-found.ensures in
+    rw o.same_sheet (f.at, lines-bound _ h _ o.all_rows _ c.args.line f.lines)
 
 pub returns : goal.returns
 returns c =
     let h = accepted _ _ c.in_ok-examined.ensures in
     let o = c.open-p.ensures in
-    let f = c.in_ok-found.ensures in
-    let e = lines-answer _ h _ o.1 c.args.line c.args.page.now _ f _ c.write-wrote.result c.write-wrote.ensures in
+    let f = rw c.open-p.ensures.same_sheet at c.in_ok-found.ensures in
+    let e = lines-answer _ h _ o.all_rows c.args.line c.args.page.now _ f _ c.write-wrote.result (rw c.open-p.ensures.same_sheet at c.write-wrote.ensures) in
     record {
       value = sym (ap (λ (w : Several). w.answer) e);
       page_after = sym (ap (λ (w : Several). w.buffer) e);
       few = omega (
         arith,
-        k_small _ h _ o.1 c.args.line c.args.page.now _ f,
-        lines_few _ h _ o.1 _ c.args.line c.write-wrote.result f.lines c.write-wrote.ensures,
+        k_small _ h _ o.all_rows c.args.line c.args.page.now _ f,
+        lines_few _ h _ o.all_rows _ c.args.line c.write-wrote.result f.lines (rw c.open-p.ensures.same_sheet at c.write-wrote.ensures),
       );
     }

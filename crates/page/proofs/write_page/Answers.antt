@@ -16,27 +16,26 @@ returns-in_err-examined c =
 pub open-p-requires : goal.open-p-requires
 open-p-requires c = let e = c.in_ok-examined.ensures in plain_table _ _ e
 
-pub count-totals-requires : goal.count-totals-requires
-count-totals-requires c = c.open-p.ensures.0
-
 pub returns-then-page-totals : goal.returns-then-page-totals
 returns-then-page-totals c =
     let h = accepted _ _ c.in_ok-examined.ensures in
-    let t = count-all _ h _ c.open-p.ensures.1 _ c.count-totals.ensures in
+    let o = c.open-p.ensures in
+    let t = count-all _ h _ o.all_rows _ (rw o.same_sheet at c.count-totals.ensures) in
     let e = page_short _ h c.args.page.now _ t.1 c.if-page-totals.true in
     record { value = sym (ap (λ (w : Written). w.answer) e); page_after = sym (ap (λ (w : Written). w.buffer) e) }
 
 pub write-wrote-requires : goal.write-wrote-requires
 write-wrote-requires c =
-    let O = c.open-p.ensures.0 in
+    let o = c.open-p.ensures in
+    let O = rw o.same_sheet at c.open-p.result.opened in
     let h = accepted _ _ c.in_ok-examined.ensures in
-    rw c.first.ensures (O, (first-at _ _ O, lines-bound-first _ h _ c.open-p.ensures.1 O))
+    rw (o.same_sheet, c.first.ensures) (first-at _ _ O, lines-bound-first _ h _ o.all_rows O)
 
 pub returns : goal.returns
 returns c =
     let o = c.open-p.ensures in
     let h = accepted _ _ c.in_ok-examined.ensures in
-    let t = count-all _ h _ o.1 _ c.count-totals.ensures in
-    let e = page-written _ h _ o.1 c.args.page.now _ c.write-wrote.result (first-ahead _ _ o.0)
-    (rw c.first.ensures at c.write-wrote.ensures) (omega (arith, t.1, c.if-page-totals.false)) in
+    let t = count-all _ h _ o.all_rows _ (rw o.same_sheet at c.count-totals.ensures) in
+    let e = page-written _ h _ o.all_rows c.args.page.now _ c.write-wrote.result (first-ahead _ _ (rw o.same_sheet at c.open-p.result.opened))
+    (rw (o.same_sheet, c.first.ensures) at c.write-wrote.ensures) (omega (arith, t.1, c.if-page-totals.false)) in
     record { value = sym (ap (λ (x : Written). x.answer) e); page_after = sym (ap (λ (x : Written). x.buffer) e) }

@@ -7,29 +7,28 @@ use Rattle.buffer.proofs.Laws.{lent}
 use Rattle.formatting.specs.RowText.{row_lines}
 use Rattle.formatting.proofs.Parts.{part_room, part_length}
 use Rattle.formatting.proofs.RowText.{lines-count}
-use Rattle.display_info.proofs.Opening.{marks_of}
 use Rattle.parts.proofs.Parts.{drawable}
 use Rattle.parts.proofs.Bands.{band-empty, band_sized, band-cut, band_whole, part_few, rule_few}
 use Rattle.parts.proofs.part.draw_band.Goals as goal
 
 pub returns-then-here-eq0 : goal.returns-then-here-eq0
 returns-then-here-eq0 c =
-    rw c.nothing.ensures (band-empty c.args.sheet.now c.args.p.now.columns.items c.args.style
+    rw c.nothing.ensures (band-empty c.args.p.now.sheet.now c.args.p.now.info.columns.items c.args.style
     c.args.here c.args.first c.args.page.now c.if-here-eq0.true)
 
 pub draw_row-text-requires : goal.draw_row-text-requires
 draw_row-text-requires c =
-    let O = c.requires.opened.0 in
-    let B = c.requires.opened.1 in
+    let O = c.args.p.now.opened in
+    let B = c.requires.known in
     let some : 0 < c.args.here.left = omega (arith, c.if-here-eq0.false) in
     rw c.as_slice-columns.ensures.value (record {
-      drawable = (drawable c.args.sheet.now c.args.p.now O c.args.here B.0 some, marks_of _ _ O.passes c.indicator-indicator.ensures);
-      sized = band_sized c.args.sheet.now c.args.p.now.columns.items c.args.style c.args.here _ _ B.1 some;
+      drawable = (drawable c.args.p.now.sheet.now c.args.p.now.info O c.args.here B.0 some, c.indicator-indicator.ensures);
+      sized = band_sized c.args.p.now.sheet.now c.args.p.now.info.columns.items c.args.style c.args.here _ _ B.1 some;
     })
 
 pub returns-then-not-text : goal.returns-then-not-text
 returns-then-not-text c =
-    band-cut c.args.sheet.now c.args.p.now.columns.items c.args.style c.args.here c.args.first
+    band-cut c.args.p.now.sheet.now c.args.p.now.info.columns.items c.args.style c.args.here c.args.first
     (omega (arith, c.if-here-eq0.false)) c.requires.first_in_bounds
     _ _ _ c.draw_row-text.ensures c.if-not-text.true
 
@@ -40,7 +39,7 @@ pub slice_bounds-draw_rule-start : goal.slice_bounds-draw_rule-start
 slice_bounds-draw_rule-start c = part_room _ _ _ _ c.draw_row-text.ensures
 
 pub draw_rule-drawn-requires : goal.draw_rule-drawn-requires
-draw_rule-drawn-requires c = rw c.as_slice-columns.ensures.value (c.requires.opened.0.narrow, c.requires.opened.1.1.rule)
+draw_rule-drawn-requires c = rw c.as_slice-columns.ensures.value (c.args.p.now.opened.narrow, c.requires.known.1.rule)
 
 pub overflow_add-result : goal.overflow_add-result
 overflow_add-result c =
@@ -48,16 +47,16 @@ overflow_add-result c =
       arith,
       c.if-here-eq0.false,
     ) in
-    let Z = band_sized c.args.sheet.now c.args.p.now.columns.items c.args.style c.args.here _ _
-    c.requires.opened.1.1 some in
+    let Z = band_sized c.args.p.now.sheet.now c.args.p.now.info.columns.items c.args.style c.args.here _ _
+    c.requires.known.1 some in
     omega (
       arith,
       part_few _ _ _ _ c.draw_row-text.ensures,
-      length-drop c.args.first (row_lines c.args.sheet.now c.args.style.lines (first_row c.args.sheet.now c.args.here)),
-      lines-count c.args.sheet.now c.args.style.lines (first_row c.args.sheet.now c.args.here),
+      length-drop c.args.first (row_lines c.args.p.now.sheet.now c.args.style.lines (first_row c.args.p.now.sheet.now c.args.here)),
+      lines-count c.args.p.now.sheet.now c.args.style.lines (first_row c.args.p.now.sheet.now c.args.here),
       Z.bounded.few,
       part_few _ _ _ _ (rw c.as_slice-columns.ensures.value at c.draw_rule-drawn.ensures),
-      rule_few c.args.p.now.columns.items c.args.style.rule c.args.style.ruled,
+      rule_few c.args.p.now.info.columns.items c.args.style.rule,
     )
 
 pub overflow_add-result-2 : goal.overflow_add-result-2
@@ -79,7 +78,7 @@ returns c =
       arith,
       c.if-here-eq0.false,
     ) in
-    band_whole c.args.sheet.now c.args.p.now.columns.items c.args.style c.args.here c.args.first some
+    band_whole c.args.p.now.sheet.now c.args.p.now.info.columns.items c.args.style c.args.here c.args.first some
     c.requires.first_in_bounds
     _ _ _ _ c.draw_row-text.result c.draw_rule-drawn.result c.draw_row-text.ensures
     c.if-not-text.false (rw c.as_slice-columns.ensures.value at c.draw_rule-drawn.ensures)

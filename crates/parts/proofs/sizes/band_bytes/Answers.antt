@@ -2,7 +2,6 @@ use native.Mathlib.Omega.{arith}
 use Prim.Native.Nat.{◌-◌, ◌<◌}
 use mathlib.Core.Path.{◌≡◌, refl, sym, ◌∙◌}
 use Rattle.table.proofs.Walks.{cells_inside}
-use Rattle.display_info.proofs.Opening.{marks_of}
 use Rattle.parts.proofs.Parts.{accepted_short, drawable}
 use Rattle.parts.proofs.Bands.{bytes-none, bytes-plain, bytes-held, bytes-shown, bytes_few, bytes_most}
 use Rattle.parts.proofs.sizes.band_bytes.Goals as goal
@@ -11,21 +10,21 @@ pub overflow_mul-result : goal.overflow_mul-result
 overflow_mul-result c =
     omega (
       arith,
-      bytes-plain c.args.sheet.now c.args.p.now.columns.items c.args.style c.args.here c.args.p.now.plain c.args.size c.requires.opened.1.1
+      bytes-plain c.args.p.now.sheet.now c.args.p.now.info.columns.items c.args.style c.args.here c.args.p.now.info.plain c.args.size c.requires.known.1
           c.if-p.true c.args.n c.requires.counted,
-      bytes_most c.args.sheet.now c.args.p.now.columns.items c.args.style c.args.here c.args.p.now.plain c.args.size c.requires.opened.1.1,
+      bytes_most c.args.p.now.sheet.now c.args.p.now.info.columns.items c.args.style c.args.here c.args.p.now.info.plain c.args.size c.requires.known.1,
     )
 
 pub returns-then-p : goal.returns-then-p
-returns-then-p c = bytes-plain c.args.sheet.now c.args.p.now.columns.items c.args.style c.args.here c.args.p.now.plain c.args.size c.requires.opened.1.1 c.if-p.true c.args.n c.requires.counted
+returns-then-p c = bytes-plain c.args.p.now.sheet.now c.args.p.now.info.columns.items c.args.style c.args.here c.args.p.now.info.plain c.args.size c.requires.known.1 c.if-p.true c.args.n c.requires.counted
 
 pub returns-then-here-eq0 : goal.returns-then-here-eq0
-returns-then-here-eq0 c = bytes-none c.args.sheet.now c.args.p.now.columns.items c.args.style c.args.here c.args.p.now.plain c.args.size c.requires.opened.1.1 c.if-here-eq0.true
+returns-then-here-eq0 c = bytes-none c.args.p.now.sheet.now c.args.p.now.info.columns.items c.args.style c.args.here c.args.p.now.info.plain c.args.size c.requires.known.1 c.if-here-eq0.true
 
 pub row-r-requires : goal.row-r-requires
 row-r-requires c =
     let some : 0 < c.args.here.left = omega (arith, c.if-here-eq0.false) in
-    (some, c.requires.opened.1.0.ends)
+    (some, c.requires.known.0.ends)
 
 pub overflow_mul-result-then-r-eq0 : goal.overflow_mul-result-then-r-eq0
 overflow_mul-result-then-r-eq0 c =
@@ -33,18 +32,18 @@ overflow_mul-result-then-r-eq0 c =
     let r = c.row-r.ensures in
     omega (
       arith,
-      bytes-held c.args.sheet.now c.args.p.now.columns.items c.args.style c.args.here c.args.p.now.plain c.args.size c.requires.opened.1.1 some
+      bytes-held c.args.p.now.sheet.now c.args.p.now.info.columns.items c.args.style c.args.here c.args.p.now.info.plain c.args.size c.requires.known.1 some
           (sym r.limit ∙ c.if-r-eq0.true) c.args.n _ c.requires.counted refl,
-      bytes_most c.args.sheet.now c.args.p.now.columns.items c.args.style c.args.here c.args.p.now.plain c.args.size c.requires.opened.1.1,
+      bytes_most c.args.p.now.sheet.now c.args.p.now.info.columns.items c.args.style c.args.here c.args.p.now.info.plain c.args.size c.requires.known.1,
     )
 
 pub row_pairs-requires : goal.row_pairs-requires
 row_pairs-requires c =
     let some : 0 < c.args.here.left = omega (arith, c.if-here-eq0.false) in rw c.as_slice-columns.ensures.value (
-      c.requires.opened.0.rising,
+      c.args.p.now.opened.rising,
       (
-        cells_inside c.args.sheet.now c.args.here c.row-r.result some c.requires.opened.1.0.ends c.row-r.ensures,
-        accepted_short c.args.sheet.now c.requires.opened.0.passes,
+        cells_inside c.args.p.now.sheet.now c.args.here c.row-r.result some c.requires.known.0.ends c.row-r.ensures,
+        accepted_short c.args.p.now.sheet.now c.args.p.now.opened.passes,
       ),
     )
 
@@ -54,16 +53,16 @@ overflow_add-result c =
     let r = c.row-r.ensures in
     omega (
       arith,
-      bytes-held c.args.sheet.now c.args.p.now.columns.items c.args.style c.args.here c.args.p.now.plain c.args.size c.requires.opened.1.1 some
+      bytes-held c.args.p.now.sheet.now c.args.p.now.info.columns.items c.args.style c.args.here c.args.p.now.info.plain c.args.size c.requires.known.1 some
           (sym r.limit ∙ c.if-r-eq0.true) c.args.n _ c.requires.counted (rw (r.cells, c.as_slice-columns.ensures.value) at c.row_pairs.ensures.0),
-      bytes_most c.args.sheet.now c.args.p.now.columns.items c.args.style c.args.here c.args.p.now.plain c.args.size c.requires.opened.1.1,
+      bytes_most c.args.p.now.sheet.now c.args.p.now.info.columns.items c.args.style c.args.here c.args.p.now.info.plain c.args.size c.requires.known.1,
     )
 
 pub returns-then-r-eq0 : goal.returns-then-r-eq0
 returns-then-r-eq0 c =
     let some : 0 < c.args.here.left = omega (arith, c.if-here-eq0.false) in
     let r = c.row-r.ensures in
-    bytes-held c.args.sheet.now c.args.p.now.columns.items c.args.style c.args.here c.args.p.now.plain c.args.size c.requires.opened.1.1 some
+    bytes-held c.args.p.now.sheet.now c.args.p.now.info.columns.items c.args.style c.args.here c.args.p.now.info.plain c.args.size c.requires.known.1 some
     (sym r.limit ∙ c.if-r-eq0.true) c.args.n _ c.requires.counted (rw (r.cells, c.as_slice-columns.ensures.value) at c.row_pairs.ensures.0)
 
 pub overflow_mul-result-2 : goal.overflow_mul-result-2
@@ -71,8 +70,8 @@ overflow_mul-result-2 c =
     let some : 0 < c.args.here.left = omega (arith, c.if-here-eq0.false) in
     omega (
       arith,
-      bytes-shown c.args.sheet.now c.args.p.now.columns.items c.args.style c.args.here c.args.p.now.plain c.args.size c.requires.opened.1.1 some c.args.n _ c.requires.counted refl,
-      bytes_most c.args.sheet.now c.args.p.now.columns.items c.args.style c.args.here c.args.p.now.plain c.args.size c.requires.opened.1.1,
+      bytes-shown c.args.p.now.sheet.now c.args.p.now.info.columns.items c.args.style c.args.here c.args.p.now.info.plain c.args.size c.requires.known.1 some c.args.n _ c.requires.counted refl,
+      bytes_most c.args.p.now.sheet.now c.args.p.now.info.columns.items c.args.style c.args.here c.args.p.now.info.plain c.args.size c.requires.known.1,
     )
 
 pub row_shown-requires : goal.row_shown-requires
@@ -80,16 +79,16 @@ row_shown-requires c =
     let some : 0 < c.args.here.left = omega (arith, c.if-here-eq0.false) in
     rw c.as_slice-columns.ensures.value (record {
       drawable = (
-        drawable c.args.sheet.now c.args.p.now c.requires.opened.0 c.args.here c.requires.opened.1.0 some,
-        ((marks_of _ _ c.requires.opened.0.passes c.indicator-indicator.ensures).plain, accepted_short c.args.sheet.now c.requires.opened.0.passes),
+        drawable c.args.p.now.sheet.now c.args.p.now.info c.args.p.now.opened c.args.here c.requires.known.0 some,
+        (c.indicator-indicator.ensures.plain, accepted_short c.args.p.now.sheet.now c.args.p.now.opened.passes),
       );
       first_le_end = (
         omega arith,
         omega (
           arith,
           c.requires.counted,
-          bytes_few c.args.sheet.now c.args.p.now.columns.items c.args.style c.args.here c.args.p.now.plain
-              c.args.size c.requires.opened.1.1 some,
+          bytes_few c.args.p.now.sheet.now c.args.p.now.info.columns.items c.args.style c.args.here c.args.p.now.info.plain
+              c.args.size c.requires.known.1 some,
         ),
       );
     })
@@ -100,14 +99,14 @@ overflow_add-result-2 c =
     let z : c.args.n - 0 ≡ c.args.n = omega arith in
     omega (
       arith,
-      bytes-shown c.args.sheet.now c.args.p.now.columns.items c.args.style c.args.here c.args.p.now.plain c.args.size c.requires.opened.1.1 some
-          c.args.n _ c.requires.counted (rw (c.indicator-indicator.ensures, z, c.as_slice-columns.ensures.value) at c.row_shown.ensures.0),
-      bytes_most c.args.sheet.now c.args.p.now.columns.items c.args.style c.args.here c.args.p.now.plain c.args.size c.requires.opened.1.1,
+      bytes-shown c.args.p.now.sheet.now c.args.p.now.info.columns.items c.args.style c.args.here c.args.p.now.info.plain c.args.size c.requires.known.1 some
+          c.args.n _ c.requires.counted (rw (c.indicator-indicator.ensures.are, z, c.as_slice-columns.ensures.value) at c.row_shown.ensures.0),
+      bytes_most c.args.p.now.sheet.now c.args.p.now.info.columns.items c.args.style c.args.here c.args.p.now.info.plain c.args.size c.requires.known.1,
     )
 
 pub returns : goal.returns
 returns c =
     let some : 0 < c.args.here.left = omega (arith, c.if-here-eq0.false) in
     let z : c.args.n - 0 ≡ c.args.n = omega arith in
-    bytes-shown c.args.sheet.now c.args.p.now.columns.items c.args.style c.args.here c.args.p.now.plain c.args.size c.requires.opened.1.1 some c.args.n
-    _ c.requires.counted (rw (c.indicator-indicator.ensures, z, c.as_slice-columns.ensures.value) at c.row_shown.ensures.0)
+    bytes-shown c.args.p.now.sheet.now c.args.p.now.info.columns.items c.args.style c.args.here c.args.p.now.info.plain c.args.size c.requires.known.1 some c.args.n
+    _ c.requires.counted (rw (c.indicator-indicator.ensures.are, z, c.as_slice-columns.ensures.value) at c.row_shown.ensures.0)

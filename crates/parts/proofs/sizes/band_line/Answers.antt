@@ -1,60 +1,59 @@
 use native.Mathlib.Omega.{arith}
 use mathlib.Core.Path.{◌≡◌}
 use Prim.Native.Nat.{◌+◌, ◌-◌}
-use Rattle.display_info.proofs.Opening.{marks_of}
 use Rattle.parts.proofs.Parts.{accepted_short, drawable}
 use Rattle.parts.proofs.Bands.{bytes_few, band_there, line-shown, line_rule, line_plain}
 use Rattle.parts.proofs.sizes.band_line.Goals as goal
 
 pub returns-then-p : goal.returns-then-p
 returns-then-p c =
-    let some = band_there c.args.sheet.now c.args.p.now.columns.items c.args.style c.args.here c.args.n c.requires.n_in_bounds in
-    line_plain c.args.sheet.now c.args.p.now.columns.items c.args.style c.args.here c.args.p.now.plain c.args.size c.requires.opened.1.1 some c.if-p.true c.args.n c.requires.n_in_bounds
+    let some = band_there c.args.p.now.sheet.now c.args.p.now.info.columns.items c.args.style c.args.here c.args.n c.requires.n_in_bounds in
+    line_plain c.args.p.now.sheet.now c.args.p.now.info.columns.items c.args.style c.args.here c.args.p.now.info.plain c.args.size c.requires.known.1 some c.if-p.true c.args.n c.requires.n_in_bounds
 
 pub row_lines-requires : goal.row_lines-requires
 row_lines-requires c =
-    let some = band_there c.args.sheet.now c.args.p.now.columns.items c.args.style c.args.here c.args.n c.requires.n_in_bounds in
-    rw c.as_slice-columns.ensures.value (drawable c.args.sheet.now c.args.p.now c.requires.opened.0 c.args.here c.requires.opened.1.0 some)
+    let some = band_there c.args.p.now.sheet.now c.args.p.now.info.columns.items c.args.style c.args.here c.args.n c.requires.n_in_bounds in
+    rw c.as_slice-columns.ensures.value (drawable c.args.p.now.sheet.now c.args.p.now.info c.args.p.now.opened c.args.here c.requires.known.0 some)
 
 pub overflow_add-n : goal.overflow_add-n
 overflow_add-n c =
-    let some = band_there c.args.sheet.now c.args.p.now.columns.items c.args.style c.args.here c.args.n c.requires.n_in_bounds in
-    omega (arith, c.requires.n_in_bounds, bytes_few c.args.sheet.now c.args.p.now.columns.items c.args.style c.args.here c.args.p.now.plain c.args.size c.requires.opened.1.1 some)
+    let some = band_there c.args.p.now.sheet.now c.args.p.now.info.columns.items c.args.style c.args.here c.args.n c.requires.n_in_bounds in
+    omega (arith, c.requires.n_in_bounds, bytes_few c.args.p.now.sheet.now c.args.p.now.info.columns.items c.args.style c.args.here c.args.p.now.info.plain c.args.size c.requires.known.1 some)
 
 pub row_shown-pairs-requires : goal.row_shown-pairs-requires
 row_shown-pairs-requires c =
-    let some = band_there c.args.sheet.now c.args.p.now.columns.items c.args.style c.args.here c.args.n c.requires.n_in_bounds in
+    let some = band_there c.args.p.now.sheet.now c.args.p.now.info.columns.items c.args.style c.args.here c.args.n c.requires.n_in_bounds in
     rw c.as_slice-columns.ensures.value (record {
       drawable = (
-        drawable c.args.sheet.now c.args.p.now c.requires.opened.0 c.args.here c.requires.opened.1.0 some,
-        ((marks_of _ _ c.requires.opened.0.passes c.indicator-indicator.ensures).plain, accepted_short c.args.sheet.now c.requires.opened.0.passes),
+        drawable c.args.p.now.sheet.now c.args.p.now.info c.args.p.now.opened c.args.here c.requires.known.0 some,
+        (c.indicator-indicator.ensures.plain, accepted_short c.args.p.now.sheet.now c.args.p.now.opened.passes),
       );
       first_le_end = (
         omega arith,
         omega (
           arith,
           c.requires.n_in_bounds,
-          bytes_few c.args.sheet.now c.args.p.now.columns.items c.args.style c.args.here c.args.p.now.plain
-              c.args.size c.requires.opened.1.1 some,
+          bytes_few c.args.p.now.sheet.now c.args.p.now.info.columns.items c.args.style c.args.here c.args.p.now.info.plain
+              c.args.size c.requires.known.1 some,
         ),
       );
     })
 
 pub overflow_add-result : goal.overflow_add-result
 overflow_add-result c =
-    let some = band_there c.args.sheet.now c.args.p.now.columns.items c.args.style c.args.here c.args.n c.requires.n_in_bounds in
-    omega (arith, c.requires.opened.1.1.small, rw c.as_slice-columns.ensures.value at c.row_shown-pairs.ensures.1, c.requires.opened.0.views.most)
+    let some = band_there c.args.p.now.sheet.now c.args.p.now.info.columns.items c.args.style c.args.here c.args.n c.requires.n_in_bounds in
+    omega (arith, c.requires.known.1.small, rw c.as_slice-columns.ensures.value at c.row_shown-pairs.ensures.1, c.args.p.now.opened.views.most)
 
 pub returns-then-n-row_lines : goal.returns-then-n-row_lines
 returns-then-n-row_lines c =
-    let some = band_there c.args.sheet.now c.args.p.now.columns.items c.args.style c.args.here c.args.n c.requires.n_in_bounds in
+    let some = band_there c.args.p.now.sheet.now c.args.p.now.info.columns.items c.args.style c.args.here c.args.n c.requires.n_in_bounds in
     let z : c.args.n + 1 - c.args.n ≡ 1 = omega arith in
-    line-shown c.args.sheet.now c.args.p.now.columns.items c.args.style c.args.here c.args.p.now.plain c.args.size c.requires.opened.1.1 some c.args.n _
+    line-shown c.args.p.now.sheet.now c.args.p.now.info.columns.items c.args.style c.args.here c.args.p.now.info.plain c.args.size c.requires.known.1 some c.args.n _
     (omega (arith, c.row_lines.ensures, c.if-n-row_lines.true))
-    (rw (c.indicator-indicator.ensures, z, c.as_slice-columns.ensures.value) at c.row_shown-pairs.ensures.0)
+    (rw (c.indicator-indicator.ensures.are, z, c.as_slice-columns.ensures.value) at c.row_shown-pairs.ensures.0)
 
 pub returns : goal.returns
 returns c =
-    let some = band_there c.args.sheet.now c.args.p.now.columns.items c.args.style c.args.here c.args.n c.requires.n_in_bounds in
-    line_rule c.args.sheet.now c.args.p.now.columns.items c.args.style c.args.here c.args.p.now.plain c.args.size c.requires.opened.1.1 some c.args.n
+    let some = band_there c.args.p.now.sheet.now c.args.p.now.info.columns.items c.args.style c.args.here c.args.n c.requires.n_in_bounds in
+    line_rule c.args.p.now.sheet.now c.args.p.now.info.columns.items c.args.style c.args.here c.args.p.now.info.plain c.args.size c.requires.known.1 some c.args.n
     (omega (arith, c.row_lines.ensures, c.if-n-row_lines.false)) c.requires.n_in_bounds

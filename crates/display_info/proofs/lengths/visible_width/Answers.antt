@@ -1,6 +1,6 @@
 use native.Mathlib.Omega.{arith}
-use Rattle.parts.proofs.Measures.{width-none, width-on}
-use Rattle.parts.proofs.lengths.visible_width.Goals as goal
+use Rattle.display_info.proofs.Measures.{width-none, width-on}
+use Rattle.display_info.proofs.lengths.visible_width.Goals as goal
 
 pub loop-v-init : goal.loop-v-init
 loop-v-init c = record { so = width-none c.args.columns.now; small = omega arith }

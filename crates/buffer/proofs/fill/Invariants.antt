@@ -1,7 +1,0 @@
-use mathlib.Core.Path.{◌≡◌}
-use lib.ListN.{replicate}
-use Rattle.buffer.specs.Put.{put_at}
-use Rattle.buffer.proofs.fill.Given as goal
-
-abbrev pub invariant-loop-i : goal.invariant-loop-i
-invariant-loop-i l = l.dst ≡ put_at l.initial.dst l.at (replicate l.i l.b)
