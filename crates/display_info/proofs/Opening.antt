@@ -197,30 +197,17 @@ module _ (t : Table) (view : View) (T : TableLimits t) (W : Views t (contents t)
 -- ---- header and rows
 
 module _ (s : List ℕ) (passes : IsAccepted s) (c : Rows) where
+  pub header_at : rows_in s c ≡ (table_of s).header → rows_end s c ≡ rows_place s → RowsAt s c
+  header_at e f =
+      let m = room s passes in
+      record { ends = omega (arith, f); sound = rw e (limits_of s passes).header_row; among = ∣ (0, inl e) ∣₁ }
+
   -- at most one header row
   pub header_one : rows_in s c ≡ (table_of s).header → c.left ≤ 1
   header_one e = omega (arith, (limits_of s passes).header, ap length e, rows_number s c)
 
-  pub header_ends : rows_end s c ≡ rows_place s → rows_end s c ≤ length s
-  header_ends f = let m = room s passes in omega (arith, f)
-
   pub rows_few : rows_in s c ≡ (table_of s).rows → c.left ≤ 100
   rows_few e = omega (arith, (limits_of s passes).rows, ap length e, rows_number s c)
 
-  -- all rows are the last ones
-  pub rows_last : rows_in s c ≡ (table_of s).rows → rows_in s c ≡ drop (length (table_of s).rows - c.left) (table_of s).rows
-  rows_last e =
-      let z : length (table_of s).rows - c.left ≡ 0 = omega (arith, ap length e, rows_number s c) in
-      e ∙ ap (λ n. drop n (table_of s).rows) (sym z)
-
-module _ (s : List ℕ) (p : DisplayInfo) (O : Opened s p) where
-  pub header_at : RowsAt s p.header
-  header_at = record { ends = O.header_ends; sound = rw O.header (limits_of s O.passes).header_row; skipped = 0; among = inl O.header }
-
-  pub rows_at : RowsAt s p.rows
-  rows_at = record {
-    ends = O.rows_ends;
-    sound = rw O.rows (all_drop _ (length (table_of s).rows - p.rows.left) (table_of s).rows (limits_of s O.passes).each_row);
-    skipped = length (table_of s).rows - p.rows.left;
-    among = inr O.rows;
-  }
+  pub rows_at : rows_in s c ≡ (table_of s).rows → rows_end s c ≡ length s → RowsAt s c
+  rows_at e f = record { ends = omega (arith, f); sound = rw e (limits_of s passes).each_row; among = ∣ (0, inr e) ∣₁ }

@@ -1,5 +1,5 @@
 -- What a page is drawn from. Assumes nothing.
-use Rattle.std.specs.Prelude.{ℕ, ◌-◌, ◌≤◌, ◌≡◌, ◌⊎◌, List, true, length, drop}
+use Rattle.std.specs.Prelude.{ℕ, ◌≤◌, ◌≡◌, ◌⊎◌, List, true, length, drop}
 use Rattle.std.specs.Bool.{then_some}
 use Rattle.rules.specs.Text.{All}
 use Rattle.rules.specs.Limits.{RowLimits, PlainTable}
@@ -39,10 +39,9 @@ styles_of S = record {
 pub record RowsAt (s : List ℕ) (c : Rows) : Type 0 where
   pub ends : rows_end s c ≤ length s
   pub sound : All (RowLimits (length (table_of s).columns)) (rows_in s c)
-  pub skipped : ℕ
-  pub among : (rows_in s c ≡ drop skipped (table_of s).header) ⊎ (rows_in s c ≡ drop skipped (table_of s).rows)
+  pub among : ∥ ((n : ℕ) × ((rows_in s c ≡ drop n (table_of s).header) ⊎ (rows_in s c ≡ drop n (table_of s).rows))) ∥₁
 
--- a page over the last few rows of the sheet is drawn from its columns, style and header
+-- a page over some rows is drawn from the sheet's columns, style and header
 pub record Opened (s : List ℕ) (p : DisplayInfo) : Type 0 where
   pub passes : IsAccepted s
   pub views : Views (table_of s) (widths_in s) p.columns.items
@@ -53,8 +52,7 @@ pub record Opened (s : List ℕ) (p : DisplayInfo) : Type 0 where
   pub styles : p.styles ≡ styles_of (table_of s).style
   pub lengths : LengthsAre s p.lengths
   pub header : rows_in s p.header ≡ (table_of s).header
-  pub header_ends : rows_end s p.header ≤ length s
+  pub header_at : RowsAt s p.header
   pub header_one : p.header.left ≤ 1
-  pub rows : rows_in s p.rows ≡ drop (length (table_of s).rows - p.rows.left) (table_of s).rows
-  pub rows_ends : rows_end s p.rows ≤ length s
+  pub rows_at : RowsAt s p.rows
   pub rows_few : p.rows.left ≤ 100

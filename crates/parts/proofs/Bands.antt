@@ -48,7 +48,7 @@ use Rattle.display_info.specs.declared.RowStyle.{RowStyle}
 use Rattle.parts.specs.declared.cursor.Cursor.{Cursor}
 use Rattle.parts.specs.declared.cursor.Stage.{Stage}
 use Rattle.parts.specs.declared.cursor.Stage.TheVariants.{Top, Header, Body, Bottom, End}
-use Rattle.display_info.proofs.Opening.{limits_of, header_at, rows_at}
+use Rattle.display_info.proofs.Opening.{limits_of}
 use Rattle.parts.proofs.Parts.{part_top, part_header, part_body, part_bottom, part_end}
 
 pub drop-append : {A : Type 0} (n : ℕ) (xs ys : List A) → n ≤ length xs → drop n (xs ++ ys) ≡ drop n xs ++ ys
@@ -403,11 +403,11 @@ module _ (s : List ℕ) (p : DisplayInfo) (O : Opened s p) where
   -- a page has at most a million lines, each within the longest
   pub total-lines : length (lines_of s p) ≤ most_lines
   unfolding lines_of
-  total-lines = framed-count (table_of s) (limits_of s O.passes) (widths_in s) (rows_in s p.rows) rows_left (rows_at s p O).sound
+  total-lines = framed-count (table_of s) (limits_of s O.passes) (widths_in s) (rows_in s p.rows) rows_left O.rows_at.sound
 
   pub total_bytes : length (closed (lines_of s p)) ≤ most_lines * (longest_line + 1)
   unfolding lines_of
-  total_bytes = framed-byte-bound (table_of s) (limits_of s O.passes) (rows_in s p.rows) rows_left (rows_at s p O).sound
+  total_bytes = framed-byte-bound (table_of s) (limits_of s O.passes) (rows_in s p.rows) rows_left O.rows_at.sound
 
   band_few : (y : RowStyle) (here : Rows) → RowsAt s here → length (band_lines s p.columns.items y (rows_in s here)) ≤ 6449
   unfolding band_lines
@@ -429,7 +429,7 @@ module _ (s : List ℕ) (p : DisplayInfo) (O : Opened s p) where
     where
       go : (g : Stage) → c.stage ≡ g → length (part_lines s p c) ≤ 6449
       go Top e = omega (arith, ap length (part_top s p O c e).lines, rule_few p.columns.items p.styles.top)
-      go Header e = omega (arith, ap length (part_header s p O c e).lines, band_few p.styles.header p.header (header_at s p O))
+      go Header e = omega (arith, ap length (part_header s p O c e).lines, band_few p.styles.header p.header O.header_at)
       go Body e =
           let y = body_style p.styles.body c.here.left in
           omega (arith, ap length (part_body s p O c A y e refl).lines, band_few y c.here A)

@@ -2,7 +2,7 @@
 use Prim.Native.Nat.{ℕ, zero, suc, ◌+◌, ◌*◌, ◌≤◌, ◌<◌}
 use mathlib.Core.Path.{◌≡◌, refl, sym, ap, ◌∙◌}
 use mathlib.Core.List.{List, [], ◌∷◌, ◌++◌, map, append_assoc, append-nil}
-use mathlib.Core.Logic.{inl, inr, ⊎_elim}
+use mathlib.Core.Logic.{∥∥₁_map, ∥∥₁_elim, inl, inr, ⊎_elim}
 use mathlib.Core.Bool.{Bool, true, false, cond, ◌&&◌}
 use native.Mathlib.Omega.{arith}
 use lib.ListN.{length, drop, get_or, length-append}
@@ -41,8 +41,9 @@ use Rattle.formatting.specs.Stand.{text_style_of}
 use Rattle.formatting.proofs.RowText.{lines-count}
 use Rattle.formatting.proofs.Whole.{styled_text}
 use Rattle.borders.proofs.Rule.{rule-drawn}
-use Rattle.display_info.proofs.Opening.{limits_of, header_at, rows_at}
+use Rattle.display_info.proofs.Opening.{limits_of}
 use Rattle.display_info.specs.Opened.{widths_in, styles_of, RowsAt, Opened}
+use Rattle.display_info.specs.Props.{props}
 use Rattle.parts.specs.Ahead.{rule_lines, text_lines, first_ruled, header_lines_of, row_lines_of, body_lines, part_by, part_lines, rest_by, rest_lines}
 use Rattle.parts.specs.Ahead.{ahead, lines_of, is_end, first_cursor, At, Next, AfterRow}
 use Rattle.parts.specs.Band.{rule_by, SizedRule, band_lines, body_style, SizedBand}
@@ -61,23 +62,27 @@ pub rows_next : (s : List ℕ) (c n : Rows) → RowsAt s c → RowsNext s c n �
 rows_next s c n A N = record {
   ends = omega (arith, N.ends, A.ends);
   sound = rw N.rows (all_drop _ 1 (rows_in s c) A.sound);
-  skipped = A.skipped + 1;
-  among = ⊎_elim
-      (λ (e : rows_in s c ≡ drop A.skipped (table_of s).header). inl (N.rows ∙ ap (drop 1) e ∙ drop-drop 1 A.skipped (table_of s).header))
-      (λ (e : rows_in s c ≡ drop A.skipped (table_of s).rows). inr (N.rows ∙ ap (drop 1) e ∙ drop-drop 1 A.skipped (table_of s).rows))
-      A.among;
+  among = ∥∥₁_map A.among
+      (λ w.
+      (w.0 + 1,
+        ⊎_elim
+        (λ (e : rows_in s c ≡ drop w.0 (table_of s).header). inl (N.rows ∙ ap (drop 1) e ∙ drop-drop 1 w.0 (table_of s).header))
+        (λ (e : rows_in s c ≡ drop w.0 (table_of s).rows). inr (N.rows ∙ ap (drop 1) e ∙ drop-drop 1 w.0 (table_of s).rows))
+        w.1));
 }
 
--- what holds of all rows of the table holds of the first of these
-pub first_has : (P : Row → Type 0) (s : List ℕ) (c : Rows) → RowsAt s c → 0 < c.left → All P (all_rows (table_of s)) → P (first_row s c)
-first_has P s c A h a =
-    let header = all_left P (table_of s).header (table_of s).rows a in
-    let rows = all_right P (table_of s).header (table_of s).rows a in
-    all_get_d P (rows_in s c) 0 no_row (omega (arith, rows_number s c))
-    (⊎_elim
-    (λ (e : rows_in s c ≡ drop A.skipped (table_of s).header). rw e (all_drop P A.skipped (table_of s).header header))
-    (λ (e : rows_in s c ≡ drop A.skipped (table_of s).rows). rw e (all_drop P A.skipped (table_of s).rows rows))
-    A.among)
+-- where the table is plain, the first of these rows is
+pub first_plain : (s : List ℕ) (c : Rows) → RowsAt s c → 0 < c.left → All PlainRow (all_rows (table_of s)) → PlainRow (first_row s c)
+first_plain s c A h a =
+    let header = all_left PlainRow (table_of s).header (table_of s).rows a in
+    let rows = all_right PlainRow (table_of s).header (table_of s).rows a in
+    all_get_d PlainRow (rows_in s c) 0 no_row (omega (arith, rows_number s c))
+    (∥∥₁_elim A.among (Prim.hlevel props)
+    (λ w.
+    ⊎_elim
+    (λ (e : rows_in s c ≡ drop w.0 (table_of s).header). rw e (all_drop PlainRow w.0 (table_of s).header header))
+    (λ (e : rows_in s c ≡ drop w.0 (table_of s).rows). rw e (all_drop PlainRow w.0 (table_of s).rows rows))
+    w.1))
 
 -- a first row keeps the limits
 pub first_limits : (s : List ℕ) (c : Rows) → RowsAt s c → 0 < c.left → RowLimits (length (table_of s).columns) (first_row s c)
@@ -108,7 +113,7 @@ drawable s p O c A h = record {
   views = O.views;
   rising = O.rising;
   usable = O.usable;
-  known = cells_known p.plain (first_row s c).cells (first_limits s c A h).each (λ e. first_has PlainRow s c A h (O.plain e));
+  known = cells_known p.plain (first_row s c).cells (first_limits s c A h).each (λ e. first_plain s c A h (O.plain e));
   short = accepted_short s O.passes;
 }
 
@@ -134,7 +139,7 @@ at-start : (s : List ℕ) (p : DisplayInfo) (c : Cursor) → RowsAt s c.here →
 at-start s p c A e = record { rows = A; within = omega arith }
 
 pub first-at : (s : List ℕ) (p : DisplayInfo) → Opened s p → At s p (first_cursor p.rows)
-first-at s p O = at-start s p (first_cursor p.rows) (rows_at s p O) refl
+first-at s p O = at-start s p (first_cursor p.rows) O.rows_at refl
 
 pub first-ahead : (s : List ℕ) (p : DisplayInfo) → Opened s p → ahead s p (first_cursor p.rows) ≡ lines_of s p
 unfolding ahead part_lines rest_lines lines_of framed rule_lines header_lines_of row_lines_of
@@ -321,7 +326,7 @@ module _ (s : List ℕ) (p : DisplayInfo) (O : Opened s p) where
       let r = first_row s here in
       rw (
         text_at k r j i,
-        plain_row (table_of s) (limits_of s O.passes) r (first_limits s here A h).each (first_has PlainRow s here A h (O.plain e)) k j,
+        plain_row (table_of s) (limits_of s O.passes) r (first_limits s here A h).each (first_plain s here A h (O.plain e)) k j,
         O.lengths.line,
       )
 
@@ -424,8 +429,8 @@ module _ (s : List ℕ) (p : DisplayInfo) (O : Opened s p) where
   pub header_sized : SizedBand s p.columns.items p.styles.header (rows_in s p.header) p.plain (p.lengths.line + 1)
   unfolding styles_of
   header_sized = rw O.styles (record {
-    text = λ h. text_sized header_lines p.header (header_at s p O) (omega (arith, rows_number s p.header));
-    held = λ h. text-pairs header_lines p.header (header_at s p O) (omega (arith, rows_number s p.header));
+    text = λ h. text_sized header_lines p.header O.header_at (omega (arith, rows_number s p.header));
+    held = λ h. text-pairs header_lines p.header O.header_at (omega (arith, rows_number s p.header));
     shown = λ h. text-shown header_lines p.header;
     rule = rule_sized header_rule;
     small = omega (arith, O.lengths.line_small);
@@ -451,7 +456,7 @@ module _ (s : List ℕ) (p : DisplayInfo) (O : Opened s p) (c : Cursor) where
 
   pub part_header : c.stage ≡ Header → PartAt s p c (Band p.styles.header p.header)
   unfolding part_lines
-  part_header e = record { known = (header_at s p O, header_sized s p O); lines = header-drawn s p O ∙ rw e }
+  part_header e = record { known = (O.header_at, header_sized s p O); lines = header-drawn s p O ∙ rw e }
 
   pub part_body : RowsAt s c.here → (y : RowStyle) → c.stage ≡ Body → y ≡ body_style p.styles.body c.here.left → PartAt s p c (Band y c.here)
   unfolding part_lines

@@ -20,7 +20,7 @@ use Rattle.lines.specs.Walk.{WroteIs}
 use Rattle.display_info.specs.declared.DisplayInfo.{DisplayInfo}
 use Rattle.parts.specs.declared.cursor.Cursor.{Cursor}
 use Rattle.lines.specs.declared.Written.{Written}
-use Rattle.display_info.proofs.Opening.{limits_of, rows_at}
+use Rattle.display_info.proofs.Opening.{limits_of}
 use Rattle.parts.proofs.Parts.{first-at, first-ahead, end-ahead}
 use Rattle.parts.proofs.Bands.{total-lines}
 
@@ -61,7 +61,7 @@ module _ (s : List ℕ) (p : DisplayInfo) (O : Opened s p) (c : Cursor) (S : Sta
   some : longest_line + 1 ≤ length b → 0 < length (ahead s p c) → 0 < length (whole_lines (length b) (ahead s p c))
   unfolding lines_of
   some h k = go (ahead s p c) k (rw S.lines (all_drop (λ l. length l ≤ longest_line) S.passed (lines_of s p)
-      (framed-line-bound (table_of s) (limits_of s O.passes) (rows_in s p.rows) (rows_at s p O).sound)))
+      (framed-line-bound (table_of s) (limits_of s O.passes) (rows_in s p.rows) O.rows_at.sound)))
     where
       go : (ls : List (List ℕ)) → 0 < length ls → All (λ l. length l ≤ longest_line) ls → 0 < length (whole_lines (length b) ls)
       go [] f g = absurd (omega arith)

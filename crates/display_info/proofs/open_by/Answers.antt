@@ -1,8 +1,7 @@
 use mathlib.Core.Path.{ap, ◌∙◌}
-use native.Mathlib.Omega.{arith}
 use Rattle.display_info.specs.Opened.{styles_of}
 use Rattle.display_info.proofs.Measures.{lengths_are}
-use Rattle.display_info.proofs.Opening.{limits_of, header_ends, header_one, rows_last, rows_few, body_edges}
+use Rattle.display_info.proofs.Opening.{limits_of, header_at, header_one, rows_at, rows_few, body_edges}
 use Rattle.display_info.proofs.open_by.Goals as goal
 
 pub invariant_of-result : goal.invariant_of-result
@@ -23,10 +22,9 @@ invariant_of-result c =
         styles = y;
         lengths = rw (c.measure-lengths.ensures, c.as_slice.ensures.value) (lengths_are _ _ _ _ (limits_of _ passes) v.0 (body_edges _ _ y));
         header = h.0;
-        header_ends = header_ends _ passes _ h.1;
+        header_at = header_at _ passes _ h.0 h.1;
         header_one = header_one _ passes _ h.0;
-        rows = rows_last _ passes _ r.0;
-        rows_ends = omega (arith, r.1);
+        rows_at = rows_at _ passes _ r.0 r.1;
         rows_few = rows_few _ passes _ r.0;
       };
     }
