@@ -1,9 +1,6 @@
 use Rattle.arrangement.proofs.Layouts.{widths-at}
 use Rattle.display_info.proofs.content_widths.Goals as goal
 
-pub widths_of-requires : goal.widths_of-requires
-widths_of-requires c = c.arrange_sheet-found.ensures.describes.few
-
 pub returns : goal.returns
 returns c =
     let f = c.arrange_sheet-found.ensures in
