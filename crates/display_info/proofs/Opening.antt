@@ -1,5 +1,5 @@
 -- What a page is opened with is the sheet's. Assumes nothing.
-use Prim.Native.Nat.{ℕ, zero, suc, ◌+◌, ◌-◌, ◌≤◌, ◌<◌}
+use Prim.Native.Nat.{ℕ, suc, ◌+◌, ◌-◌, ◌≤◌, ◌<◌}
 use mathlib.Core.Path.{◌≡◌, refl, sym, ap, ◌∙◌}
 use mathlib.Core.Logic.{inl, inr}
 use mathlib.Core.List.{List, [], ◌∷◌, map}
@@ -7,13 +7,11 @@ use mathlib.Core.Bool.{Bool, true, false}
 use native.Mathlib.Numerals.{add-one}
 use native.Mathlib.Omega.{arith}
 use lib.ListN.{length, drop, get_or, replicate, length-append, length-map, get_or-append}
-use Rattle.std.specs.Prelude.{Option}
-use Rattle.std.specs.Bool.{then_some}
 use Rattle.rules.specs.declared.Column.{Column}
 use Rattle.rules.specs.Text.{or_else}
 use Rattle.rules.specs.Sheet.{Table, most_columns, no_column, column_at, is_hidden}
 use Rattle.rules.specs.Limits.{Printable, TableLimits, ColumnLimits}
-use Rattle.rules.specs.Style.{top_border, header_lines, header_rule, content_lines, row_rule, bottom_border, glyph_at, glyph, any_left, any_right, any_junction, is_visible}
+use Rattle.rules.specs.Style.{content_lines}
 use Rattle.rules.specs.Calls.{as_array}
 use Rattle.rules.specs.Widths.{visible, contents}
 use Rattle.laws.proofs.Accepted.{accepted_limits, checked-reading}
@@ -24,8 +22,6 @@ use Rattle.laws.proofs.Counts.{visible_to, visible-to-none, visible-to-shown, vi
 use Rattle.laws.proofs.Lists.{all_drop, all_get_d, get_d_map}
 use Rattle.laws.proofs.Texts.{plain-all}
 use Rattle.rules.specs.Places.{rows_place}
-use Rattle.style.specs.Bytes.{bytes_of}
-use Rattle.style.specs.declared.table_style.TableStyle.{TableStyle}
 use Rattle.table.specs.Held.{IsAccepted, table_of, settings_of, columns_of}
 use Rattle.table.specs.Walk.{rows_in, rows_end}
 use Rattle.table.specs.declared.records.Rows.{Rows}
@@ -34,7 +30,7 @@ use Rattle.arrayvec.specs.ArrayVec.{ArrayVec}
 use Rattle.table.proofs.Held.{room}
 use Rattle.table.proofs.Walks.{rows_number}
 use Rattle.arrangement.specs.declared.Widths.{Widths}
-use Rattle.arrangement.specs.Widths.{style_from, arranged_widths}
+use Rattle.arrangement.specs.Widths.{arranged_widths}
 use Rattle.row.specs.Alignment.{aligned}
 use Rattle.row.specs.View.{View, no_column as noVisible, visible_at, shown_of, number_of, Views}
 use Rattle.row.specs.Open.{Rising, UsableAll}
@@ -42,12 +38,11 @@ use Rattle.formatting.specs.RowText.{Marks}
 use Rattle.row.proofs.Alignment.{aligned_left}
 use Rattle.row.proofs.Joined.{map_snoc}
 use Rattle.row.proofs.Open.{or-printable}
-use Rattle.borders.specs.Rule.{NarrowAll, rule_style_of}
+use Rattle.borders.specs.Rule.{NarrowAll}
 use Rattle.formatting.specs.Stand.{text_style_of}
 use Rattle.row.specs.declared.CellAlignment.{CellAlignment}
 use Rattle.row.specs.declared.CellAlignment.TheVariants.{Left}
 use Rattle.row.specs.declared.VisibleColumn.{VisibleColumn}
-use Rattle.borders.specs.declared.RuleStyle.{RuleStyle}
 use Rattle.display_info.specs.declared.LineStyles.{LineStyles}
 use Rattle.display_info.specs.Opened.{styles_of, RowsAt, Opened}
 use Rattle.display_info.specs.declared.DisplayInfo.{DisplayInfo}
@@ -58,18 +53,7 @@ pub limits_of : (s : List ℕ) → IsAccepted s → TableLimits (table_of s)
 unfolding table_of
 limits_of s h = let r = checked-reading s h in let e = r.reads in rw e (accepted_limits s r.table r.end e)
 
--- an unset character prints as a space
-pub glyph_is : (c r : ℕ) → r ≡ or_else c 32 → r ≡ glyph c
-glyph_is zero r e = e
-glyph_is (suc c) r e = e
-
 -- ---- the look of a style
-
--- which edges the style record says are drawn
-pub edges_are : (S : List ℕ) (y : TableStyle) (opens joined closes : Bool) → y ≡ style_from S → opens ≡ any_left (bytes_of y) → joined ≡ any_junction
-    (bytes_of y) → closes ≡ any_right (bytes_of y)
-    → (opens ≡ any_left S) × ((joined ≡ any_junction S) × (closes ≡ any_right S))
-edges_are S y opens joined closes e a b c = (a ∙ rw e, (b ∙ rw e, c ∙ rw e))
 
 -- the edges of the body's text lines
 pub body_edges : (S : List ℕ) (l : LineStyles) → l ≡ styles_of S → l.body.lines ≡ text_style_of S content_lines

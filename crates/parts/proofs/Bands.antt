@@ -2,25 +2,23 @@
 use Prim.Native.Nat.{ℕ, zero, suc, ◌+◌, ◌-◌, ◌*◌, ◌≤◌, ◌<◌, min}
 use mathlib.Core.Path.{◌≡◌, refl, sym, ap, ◌∙◌}
 use mathlib.Core.List.{List, [], ◌∷◌, ◌++◌}
-use mathlib.Core.Bool.{Bool, true, false, cond, not, ◌&&◌}
+use mathlib.Core.Bool.{Bool, true, false, cond, not}
 use native.Mathlib.Omega.{arith}
 use native.Mathlib.Nat.{suc-add, suc-mul}
 use lib.ListN.{length, take, drop, get_or, length-append, drop_of_length-le, get_or-append}
-use lib.Seq.{drop-nil, take-nil, get_or_at}
+use lib.Seq.{take-nil, get_or_at}
 use lib.Dec.{ltb}
 use mir.Val.{bool_byte}
 use borrow.Author.Tests.{not-true, not-false, ltb-true, ltb-false}
 use borrow.Rule.Slice.PartMut.{put_mid}
 use Rattle.std.specs.Prelude.{Option, Some, None, is_some}
-use Rattle.std.specs.Option.{ForSome}
 use Rattle.rules.specs.Text.{All}
 use Rattle.rules.specs.Sheet.{Row, no_row}
-use Rattle.rules.specs.Style.{top_border, bottom_border}
-use Rattle.rules.specs.Page.{closed, border_length}
+use Rattle.rules.specs.Page.{closed}
 use Rattle.rules.specs.Limits.{longest_line, RowLimits, most_lines}
 use Rattle.laws.proofs.Counts.{height_bound, framed-count, framed-byte-bound}
 use Rattle.laws.proofs.Fitting.{fitting_few}
-use Rattle.laws.proofs.Lists.{all_append, all_get_d, all_places}
+use Rattle.laws.proofs.Lists.{all_append, all_places}
 use Rattle.laws.proofs.Sizes.{closed-one, closed-append, closed_sized, closed-most}
 use Rattle.table.specs.Held.{table_of}
 use Rattle.table.specs.Walk.{rows_in, cells_in, first_row, RowIs}
@@ -41,7 +39,7 @@ use Rattle.formatting.proofs.RowText.{lines-count}
 use Rattle.formatting.proofs.Parts.{part_none, part-line, part-full, part_join, part_short}
 use Rattle.borders.proofs.Rule.{rule_text_lem}
 use Rattle.display_info.specs.Opened.{widths_in, RowsAt, Opened}
-use Rattle.parts.specs.Ahead.{rule_lines, part_lines, lines_of, At}
+use Rattle.parts.specs.Ahead.{part_lines, lines_of}
 use Rattle.parts.specs.Band.{rule_by, SizedRule, band_lines, body_style, SizedBand}
 use Rattle.display_info.specs.declared.DisplayInfo.{DisplayInfo}
 use Rattle.display_info.specs.declared.RowStyle.{RowStyle}

@@ -1,28 +1,19 @@
 -- The pairs that a row's lines hold and show. Assumes nothing.
-use Prim.Native.Nat.{ℕ, zero, suc, ◌+◌, ◌-◌, ◌≤◌, ◌<◌}
-use mathlib.Core.Path.{◌≡◌, refl, sym, ap, ◌∙◌}
+use Prim.Native.Nat.{ℕ, zero, suc, ◌+◌, ◌≤◌, ◌<◌}
+use mathlib.Core.Path.{◌≡◌, sym, ap, ◌∙◌}
 use mathlib.Core.List.{List, [], ◌∷◌, ◌++◌, map}
-use mathlib.Core.Bool.{Bool, true, false, cond}
 use native.Mathlib.Omega.{arith}
-use native.Mathlib.Numerals.{add-one}
 use lib.ListN.{length, get_or}
-use Rattle.std.specs.Prelude.{is_some}
-use Rattle.std.specs.Bool.{then_some}
-use Rattle.rules.specs.Text.{sum, greatest, up_from, one_if}
+use Rattle.rules.specs.Text.{sum, greatest, up_from}
 use Rattle.rules.specs.Sheet.{Cell, Row, Table, cell_at, no_cell}
-use Rattle.rules.specs.Style.{any_left, any_right, any_junction, borders_of}
-use Rattle.rules.specs.Widths.{visible, borders}
-use Rattle.rules.specs.Page.{visible_width, visible_widths, wrapped, cell_lines, height, line_length, border_length}
-use Rattle.laws.proofs.Cases.{one_if-cond}
-use Rattle.laws.proofs.Counts.{line-length-bound, border-length-bound}
+use Rattle.rules.specs.Widths.{visible}
+use Rattle.rules.specs.Page.{wrapped, cell_lines, height}
 use Rattle.laws.proofs.Lists.{all_get_d, up_from-last, map-append}
 use Rattle.laws.proofs.RowBytes.{pairs_of, pairs_at, all-greatest}
-use Rattle.table.specs.Held.{table_of}
 use Rattle.row.specs.View.{View, visible_at, Views, shown_of, number_of}
 use Rattle.row.specs.Height.{added_up_to, pairs_held}
 use Rattle.formatting.specs.Shown.{shown_in, kept_lines, pairs_shown}
 use Rattle.formatting.proofs.Shown.{shown-one, shown-all}
-use Rattle.formatting.specs.Stand.{text_style_of}
 use Rattle.row.specs.declared.VisibleColumn.{VisibleColumn}
 use Rattle.row.proofs.Joined.{map_numbered}
 use Rattle.display_info.proofs.Measures.{sum_snoc, no-sum}

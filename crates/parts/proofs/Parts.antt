@@ -3,9 +3,9 @@ use Prim.Native.Nat.{ℕ, zero, suc, ◌+◌, ◌*◌, ◌≤◌, ◌<◌}
 use mathlib.Core.Path.{◌≡◌, refl, sym, ap, ◌∙◌}
 use mathlib.Core.List.{List, [], ◌∷◌, ◌++◌, map, append_assoc, append-nil}
 use mathlib.Core.Logic.{∥∥₁_map, ∥∥₁_elim, inl, inr, ⊎_elim}
-use mathlib.Core.Bool.{Bool, true, false, cond, ◌&&◌}
+use mathlib.Core.Bool.{Bool, true, false}
 use native.Mathlib.Omega.{arith}
-use lib.ListN.{length, drop, get_or, length-append}
+use lib.ListN.{length, drop, get_or}
 use lib.Seq.{drop-drop}
 use lib.Dec.{ltb}
 use borrow.Author.Tests.{lt-ltb, le-ltb}
@@ -14,7 +14,7 @@ use Rattle.rules.specs.Sheet.{Cell, Row, no_row, all_rows}
 use Rattle.rules.specs.Limits.{LineLimits, CellLimits, RowLimits, Plain, PlainCell, PlainRow}
 use Rattle.rules.specs.Style.{top_border, header_lines, header_rule, content_lines, row_rule, bottom_border, any_junction, is_visible}
 use Rattle.rules.specs.Widths.{visible}
-use Rattle.rules.specs.Page.{areas, area_at, text_line, row_text, visible_widths, border_length, closed, ruled, shown, headed, ruled_rows, ruled_more, framed}
+use Rattle.rules.specs.Page.{areas, area_at, text_line, row_text, visible_widths, closed, ruled, shown, headed, ruled_rows, ruled_more, framed}
 use Rattle.laws.proofs.Areas.{length-areas, line_at, visible-some}
 use Rattle.laws.proofs.RowBytes.{line_bytes, row-shown, row_bytes}
 use Rattle.laws.proofs.Counts.{height_bound, text-line-bound, text-line-most, text-line_twice}
@@ -38,7 +38,6 @@ use Rattle.std.specs.Bool.{then_some}
 use Rattle.std.specs.Option.{ForSome, option_and_then}
 use Rattle.std.specs.Prelude.{Option, Some, None}
 use Rattle.formatting.specs.Stand.{text_style_of}
-use Rattle.formatting.proofs.RowText.{lines-count}
 use Rattle.formatting.proofs.Whole.{styled_text}
 use Rattle.borders.proofs.Rule.{rule-drawn}
 use Rattle.display_info.proofs.Opening.{limits_of}

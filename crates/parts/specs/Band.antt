@@ -1,5 +1,5 @@
 -- The first of some rows and the rule after it, by the styles that they are drawn with. Assumes nothing.
-use Rattle.std.specs.Prelude.{ℕ, ◌+◌, ◌*◌, ◌≤◌, ◌<◌, ◌≡◌, List, [], ◌∷◌, ◌++◌, Bool, Option, Some, None, cond, length, get_or, ltb}
+use Rattle.std.specs.Prelude.{ℕ, ◌+◌, ◌*◌, ◌≤◌, ◌<◌, ◌≡◌, List, [], ◌∷◌, ◌++◌, Bool, Option, Some, None, length, get_or, ltb}
 use Rattle.std.specs.Bool.{then_some}
 use Rattle.std.specs.Option.{ForSome, option_and_then}
 use Rattle.rules.specs.Sheet.{Row, no_row}

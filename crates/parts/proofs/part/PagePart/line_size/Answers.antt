@@ -1,4 +1,3 @@
-use native.Mathlib.Omega.{arith}
 use Rattle.parts.proofs.Bands.{border_line}
 use Rattle.parts.proofs.part.PagePart.line_size.Goals as goal
 
