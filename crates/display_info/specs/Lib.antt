@@ -1,4 +1,3 @@
 pub mod Lengths
 pub mod Opened
 pub mod Opening
-pub mod Props

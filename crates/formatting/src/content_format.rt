@@ -11,6 +11,7 @@ ghost use Rattle.formatting.specs.Area.{area_in, marks_shown, LineIn, ShownIs, s
 ghost use Rattle.row.specs.Alignment.{code_of};
 ghost use Rattle.row.specs.Height.{added_up_to};
 ghost use Rattle.row.specs.Open.{WalkedAll};
+ghost use Rattle.row.specs.Props.{props};
 ghost use Rattle.row.specs.Pending.{InSheet, Ready, any_found};
 ghost use Rattle.formatting.specs.Line.{line_bytes, ReadyAll, AfterAll};
 ghost use Rattle.formatting.specs.Stand.{in_limit, last_of};
@@ -18,7 +19,6 @@ ghost use Rattle.formatting.specs.Part.{PartIs};
 ghost use Rattle.formatting.specs.RowText.{Drawable, row_lines, EnteredIs, most_bytes, Sized, Marks};
 ghost use Rattle.formatting.specs.Shown.{pairs_shown};
 
-use crate::row_size;
 use buffer::Edges;
 use cells::{CellCursor, Next, Wrapping};
 use row::{CellAlignment, Pending, VisibleColumn};
@@ -288,26 +288,14 @@ pub struct Entered {
     pub more: bool,
 }
 
-// The first of some rows, at its line n.
-pub fn enter_row(
-    sheet: &[u8],
-    columns: &[VisibleColumn],
-    here: Rows,
-    n: usize,
-    plain: bool,
-    state: &mut [Pending; MOST_COLUMNS],
-) -> Entered
-    requires { Drawable sheet.now columns.now plain here × (length state.old ≡ most_columns) }
-    ensures entered { EnteredIs sheet.now columns.now (first_row sheet.now here) n result state.new }
-    ensures walked { WalkedAll plain columns.now state.new }
-{
-    let r = walk::row(sheet, here);
-    let cells = r.cells;
-    let found = row::format_row(sheet, columns, cells, n, plain, state);
-    Entered {
-        limit: r.limit,
-        more: has_line(r.limit, n, found),
-    }
+// The first of some rows, with what its lines are drawn from.
+#[derive(Clone, Copy)]
+pub struct DrawableRow<'a> {
+    pub sheet: &'a [u8],
+    pub columns: &'a [VisibleColumn],
+    pub here: Rows,
+    pub plain: bool,
+    pub ghost drawable: { Drawable sheet.now columns.now plain here } by { Prim.hlevel props },
 }
 
 // Lines that were written, their bytes, and whether they were all that were asked for.
@@ -331,82 +319,87 @@ fn most_bytes(plain: bool, size: usize, count: usize) -> usize
     size + pairs
 }
 
-// Whether line `line` of the first of some rows fits, where the most that a line takes wouldn't.
-fn fits_after_all(
-    sheet: &[u8],
-    columns: &[VisibleColumn],
-    indicator: &[u8],
-    here: Rows,
-    line: usize,
-    plain: bool,
-    size: usize,
-    room: usize,
-) -> bool
-    requires { Drawable sheet.now columns.now plain here × (Plain indicator.now × ((line ≤ most_lines) × (size ≤ longest_line + 1))) }
-    ensures { result ≡ (not plain && leb (size + added_up_to
-        (pairs_shown indicator.now (first_row sheet.now here).limit line 1)
-        (first_row sheet.now here).cells columns.now (length columns.now)) room) }
-{
-    if plain {
-        return false;
-    }
-    let pairs = row_size::row_shown(sheet, columns, indicator, here, line, line + 1, plain);
-    size + pairs <= room
-}
-
-// The text lines of the first of some rows from its line `first` on, as many as the page has room for. On a plain page each takes `size` bytes, its
-// 0A included.
-pub fn draw_row(
-    page: &mut [u8],
-    sheet: &[u8],
-    columns: &[VisibleColumn],
-    indicator: &[u8],
-    style: Edges,
-    here: Rows,
-    first: usize,
-    plain: bool,
-    size: usize,
-) -> Part
-    requires drawable { Drawable sheet.now columns.now plain here × Marks sheet.now indicator.now }
-    requires sized { Sized sheet.now style (first_row sheet.now here) plain columns.now size }
-    ensures { PartIs (drop first (row_lines sheet.now style (first_row sheet.now here))) page.old page.new result }
-{
-    let mut state = [Pending::default(); MOST_COLUMNS];
-    let entered = enter_row(sheet, columns, here, first, plain, &mut state);
-    let limit = entered.limit;
-    let most = most_bytes(plain, size, columns.len());
-    let mut more = entered.more;
-    let mut at: usize = 0;
-    let mut line = first;
-    while more {
-        let last = is_last(limit, line);
-        let room = page.len() - at;
-        if room < most {
-            let fits = fits_after_all(sheet, columns, indicator, here, line, plain, size, room);
-            if !fits {
-                return Part {
-                    lines: line - first,
-                    bytes: at,
-                    whole: false,
-                };
-            }
+impl<'a> DrawableRow<'a> {
+    // The row's cells at its line n.
+    pub fn enter(&self, n: usize, state: &mut [Pending; MOST_COLUMNS]) -> Entered
+        requires { length state.old ≡ most_columns }
+        ensures entered { EnteredIs self.now.sheet.now self.now.columns.now (first_row self.now.sheet.now self.now.here) n result state.new }
+        ensures walked { WalkedAll self.now.plain self.now.columns.now state.new }
+    {
+        let r = walk::row(self.sheet, self.here);
+        let cells = r.cells;
+        let found = row::format_row(self.sheet, self.columns, cells, n, self.plain, state);
+        Entered {
+            limit: r.limit,
+            more: has_line(r.limit, n, found),
         }
-        let l = write_line(
-            &mut page[at..],
-            sheet,
-            columns,
-            indicator,
-            style,
-            last,
-            &mut state,
-        );
-        at += l.written;
-        line += 1;
-        more = has_line(limit, line, l.more);
     }
-    Part {
-        lines: line - first,
-        bytes: at,
-        whole: true,
+
+    // Whether line `line` fits, where the most that a line takes wouldn't.
+    fn fits_after_all(&self, indicator: &[u8], line: usize, size: usize, room: usize) -> bool
+        requires { Plain indicator.now × ((line ≤ most_lines) × (size ≤ longest_line + 1)) }
+        ensures { result ≡ (not self.now.plain && leb (size + added_up_to
+            (pairs_shown indicator.now (first_row self.now.sheet.now self.now.here).limit line 1)
+            (first_row self.now.sheet.now self.now.here).cells self.now.columns.now (length self.now.columns.now)) room) }
+    {
+        if self.plain {
+            return false;
+        }
+        let pairs = self.shown(indicator, line, line + 1);
+        size + pairs <= room
+    }
+
+    // The text lines from line `first` on, as many as the page has room for. On a plain page each takes `size` bytes, its 0A included.
+    pub fn draw(
+        &self,
+        page: &mut [u8],
+        indicator: &[u8],
+        style: Edges,
+        first: usize,
+        size: usize,
+    ) -> Part
+        requires marks { Marks self.now.sheet.now indicator.now }
+        requires sized { Sized self.now.sheet.now style (first_row self.now.sheet.now self.now.here) self.now.plain self.now.columns.now size }
+        ensures { PartIs (drop first (row_lines self.now.sheet.now style (first_row self.now.sheet.now self.now.here))) page.old page.new result }
+    {
+        let mut state = [Pending::default(); MOST_COLUMNS];
+        let entered = self.enter(first, &mut state);
+        let limit = entered.limit;
+        let most = most_bytes(self.plain, size, self.columns.len());
+        let mut more = entered.more;
+        let mut at: usize = 0;
+        let mut line = first;
+        while more {
+            let last = is_last(limit, line);
+            let room = page.len() - at;
+            if room < most {
+                let fits = self.fits_after_all(indicator, line, size, room);
+                if !fits {
+                    return Part {
+                        lines: line - first,
+                        bytes: at,
+                        whole: false,
+                    };
+                }
+            }
+            let (sheet, columns) = (self.sheet, self.columns);
+            let l = write_line(
+                &mut page[at..],
+                sheet,
+                columns,
+                indicator,
+                style,
+                last,
+                &mut state,
+            );
+            at += l.written;
+            line += 1;
+            more = has_line(limit, line, l.more);
+        }
+        Part {
+            lines: line - first,
+            bytes: at,
+            whole: true,
+        }
     }
 }

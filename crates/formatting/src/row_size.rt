@@ -8,13 +8,13 @@ ghost use Rattle.row.specs.Height.{added_up_to};
 ghost use Rattle.row.specs.Open.{CellKnown};
 ghost use Rattle.row.specs.Pending.{Ready};
 ghost use Rattle.formatting.specs.Area.{shown_text};
-ghost use Rattle.formatting.specs.RowText.{Drawable};
 ghost use Rattle.formatting.specs.Shown.{pairs_shown};
 
 use crate::content_format;
+use crate::content_format::DrawableRow;
 use row::visible::VisibleCells;
 use row::{Pending, VisibleColumn};
-use table::records::{Cells, Rows};
+use table::records::Cells;
 use table::walk;
 
 // The pairs of a cell's line as it is shown.
@@ -65,27 +65,23 @@ fn cell_shown(
     n
 }
 
-// The pairs that the first of some rows shows from line `first` up to line `end`.
-pub fn row_shown(
-    sheet: &[u8],
-    columns: &[VisibleColumn],
-    indicator: &[u8],
-    here: Rows,
-    first: usize,
-    end: usize,
-    plain: bool,
-) -> usize
-    requires drawable { Drawable sheet.now columns.now plain here × (Plain indicator.now × (length sheet.now ≤ 32768)) }
-    requires first_le_end { (first ≤ end) × (end ≤ most_lines + 1) }
-    ensures { (result ≡ added_up_to (pairs_shown indicator.now (first_row sheet.now here).limit first (end - first))
-        (first_row sheet.now here).cells columns.now (length columns.now)) × (result ≤ (32768 * (most_lines + 1)) * length columns.now) }
-{
-    let r = walk::row(sheet, here);
-    let limit = r.limit;
-    let cells = r.cells;
-    let mut sum: usize = 0;
-    for (v, here) in VisibleCells::new(sheet, columns, cells) {
-        sum += cell_shown(sheet, here, v, indicator, limit, first, end, plain);
+impl<'a> DrawableRow<'a> {
+    // The pairs that the row shows from line `first` up to line `end`.
+    pub fn shown(&self, indicator: &[u8], first: usize, end: usize) -> usize
+        requires { Plain indicator.now × ((first ≤ end) × (end ≤ most_lines + 1)) }
+        ensures { (result ≡ added_up_to
+            (pairs_shown indicator.now (first_row self.now.sheet.now self.now.here).limit first (end - first))
+            (first_row self.now.sheet.now self.now.here).cells self.now.columns.now (length self.now.columns.now))
+            × (result ≤ (32768 * (most_lines + 1)) * length self.now.columns.now) }
+    {
+        let (sheet, columns, plain) = (self.sheet, self.columns, self.plain);
+        let r = walk::row(sheet, self.here);
+        let limit = r.limit;
+        let cells = r.cells;
+        let mut sum: usize = 0;
+        for (v, here) in VisibleCells::new(sheet, columns, cells) {
+            sum += cell_shown(sheet, here, v, indicator, limit, first, end, plain);
+        }
+        sum
     }
-    sum
 }

@@ -42,7 +42,7 @@ use Rattle.formatting.proofs.Whole.{styled_text}
 use Rattle.borders.proofs.Rule.{rule-drawn}
 use Rattle.display_info.proofs.Opening.{limits_of}
 use Rattle.display_info.specs.Opened.{widths_in, styles_of, RowsAt, Opened}
-use Rattle.display_info.specs.Props.{props}
+use Rattle.row.specs.Props.{props}
 use Rattle.parts.specs.Ahead.{rule_lines, text_lines, first_ruled, header_lines_of, row_lines_of, body_lines, part_by, part_lines, rest_by, rest_lines}
 use Rattle.parts.specs.Ahead.{ahead, lines_of, is_end, first_cursor, At, Next, AfterRow}
 use Rattle.parts.specs.Band.{rule_by, SizedRule, band_lines, body_style, SizedBand}
@@ -62,12 +62,13 @@ rows_next s c n A N = record {
   ends = omega (arith, N.ends, A.ends);
   sound = rw N.rows (all_drop _ 1 (rows_in s c) A.sound);
   among = ∥∥₁_map A.among
-      (λ w.
-      (w.0 + 1,
+      (λ w. (
+        w.0 + 1,
         ⊎_elim
-        (λ (e : rows_in s c ≡ drop w.0 (table_of s).header). inl (N.rows ∙ ap (drop 1) e ∙ drop-drop 1 w.0 (table_of s).header))
-        (λ (e : rows_in s c ≡ drop w.0 (table_of s).rows). inr (N.rows ∙ ap (drop 1) e ∙ drop-drop 1 w.0 (table_of s).rows))
-        w.1));
+            (λ (e : rows_in s c ≡ drop w.0 (table_of s).header). inl (N.rows ∙ ap (drop 1) e ∙ drop-drop 1 w.0 (table_of s).header))
+            (λ (e : rows_in s c ≡ drop w.0 (table_of s).rows). inr (N.rows ∙ ap (drop 1) e ∙ drop-drop 1 w.0 (table_of s).rows))
+            w.1,
+      ));
 }
 
 -- where the table is plain, the first of these rows is

@@ -1,6 +1,8 @@
--- A part of a page, by the styles that it is drawn with. Assumes nothing.
+-- A row and a part of a page, by the styles that it is drawn with. Assumes nothing.
 use Rattle.std.specs.Prelude.{ℕ, ◌+◌, ◌≡◌, List}
 use Rattle.table.specs.Walk.{rows_in}
+use Rattle.table.specs.declared.records.Rows.{Rows}
+use Rattle.formatting.specs.declared.content_format.DrawableRow.{DrawableRow}
 use Rattle.display_info.specs.Opened.{RowsAt}
 use Rattle.display_info.specs.declared.DisplayInfo.{DisplayInfo}
 use Rattle.parts.specs.Ahead.{part_lines}
@@ -8,6 +10,13 @@ use Rattle.parts.specs.Band.{rule_by, SizedRule, band_lines, SizedBand}
 use Rattle.parts.specs.declared.cursor.Cursor.{Cursor}
 use Rattle.parts.specs.declared.part.PagePart.{PagePart}
 use Rattle.parts.specs.declared.part.PagePart.TheVariants.{Border, Band}
+
+-- the first of some rows, drawn from what the page is
+pub record RowOf (s : List ℕ) (p : DisplayInfo) (here : Rows) (r : DrawableRow) : Type 0 where
+  pub sheet : r.sheet.now ≡ s
+  pub columns : r.columns.now ≡ p.columns.items
+  pub rows : r.here ≡ here
+  pub plain : r.plain ≡ p.plain
 
 -- its lines
 abbrev pub lines_in : List ℕ → DisplayInfo → PagePart → List (List ℕ)

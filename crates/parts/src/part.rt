@@ -5,15 +5,14 @@ ghost use Rattle.formatting.specs.Part.{PartIs};
 ghost use Rattle.borders.specs.Rule.{NarrowAll};
 ghost use Rattle.display_info.specs.Opened.{RowsAt};
 ghost use Rattle.parts.specs.Band.{rule_by, SizedRule, band_lines, body_style, SizedBand};
-ghost use Rattle.parts.specs.Part.{lines_in, PartKnown, PartAt};
+ghost use Rattle.parts.specs.Part.{RowOf, lines_in, PartKnown, PartAt};
 ghost use Rattle.row.specs.Height.{limited};
-ghost use Rattle.formatting.specs.RowText.{Drawable, row_height};
+ghost use Rattle.formatting.specs.RowText.{row_height};
 
 use crate::cursor::{Cursor, Stage};
 use borders::RuleStyle;
 use display_info::{Page, RowStyle};
-use formatting::content_format;
-use formatting::content_format::Part;
+use formatting::content_format::{DrawableRow, Part};
 use row::VisibleColumn;
 use table::records::Rows;
 use table::walk;
@@ -45,15 +44,27 @@ fn within_limit(limit: usize, lines: usize) -> usize
     limit.min(lines)
 }
 
-// The text lines of the first of some rows.
-pub fn row_lines(sheet: &[u8], columns: &[VisibleColumn], here: Rows, plain: bool) -> usize
-    requires { Drawable sheet.now columns.now plain here }
-    ensures { result ≡ row_height sheet.now (first_row sheet.now here) }
+// The text lines of a row.
+pub fn row_lines(row: &DrawableRow<'_>) -> usize
+    ensures { result ≡ row_height row.now.sheet.now (first_row row.now.sheet.now row.now.here) }
 {
-    let r = walk::row(sheet, here);
+    let r = walk::row(row.sheet, row.here);
     let cells = r.cells;
-    let most = row::row_height(sheet, columns, cells, plain);
+    let most = row::row_height(row.sheet, row.columns, cells, row.plain);
     within_limit(r.limit, most)
+}
+
+// The first of some rows of the page.
+pub fn row_of<'a>(p: &'a Page<'_>, here: Rows) -> DrawableRow<'a>
+    requires { RowsAt p.now.sheet.now here × (0 < here.left) }
+    ensures { RowOf p.now.sheet.now p.now.info here result }
+{
+    DrawableRow {
+        sheet: p.sheet,
+        columns: p.info.columns.as_slice(),
+        here,
+        plain: p.info.plain,
+    }
 }
 
 // The lines of the first of some rows and of the rule after it.
@@ -64,8 +75,7 @@ fn band_lines(p: &Page<'_>, style: RowStyle, here: Rows) -> usize
     if here.left == 0 {
         return 0;
     }
-    let columns = p.info.columns.as_slice();
-    row_lines(p.sheet, columns, here, p.info.plain) + usize::from(style.rule.is_some())
+    row_lines(&row_of(p, here)) + usize::from(style.rule.is_some())
 }
 
 fn nothing(whole: bool) -> Part
@@ -121,24 +131,13 @@ fn draw_band(
     if here.left == 0 {
         return nothing(true);
     }
-    let columns = p.info.columns.as_slice();
-    let indicator = p.indicator();
-    let text = content_format::draw_row(
-        page,
-        p.sheet,
-        columns,
-        indicator,
-        style.lines,
-        here,
-        first,
-        p.info.plain,
-        size,
-    );
+    let row = row_of(p, here);
+    let text = row.draw(page, p.indicator(), style.lines, first, size);
     if !text.whole {
         return text;
     }
     let at = text.bytes;
-    let drawn = draw_rule(&mut page[at..], columns, style.rule, size);
+    let drawn = draw_rule(&mut page[at..], row.columns, style.rule, size);
     Part {
         lines: text.lines + drawn.lines,
         bytes: at + drawn.bytes,

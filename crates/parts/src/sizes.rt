@@ -9,7 +9,6 @@ ghost use Rattle.parts.specs.Part.{lines_in, PartKnown};
 use crate::part;
 use crate::part::PagePart;
 use display_info::{Page, RowStyle};
-use formatting::row_size;
 use table::records::Rows;
 use table::walk;
 
@@ -27,13 +26,12 @@ fn band_bytes(p: &Page<'_>, style: RowStyle, here: Rows, n: usize, size: usize) 
     if here.left == 0 {
         return 0;
     }
-    let r = walk::row(p.sheet, here);
-    let columns = p.info.columns.as_slice();
+    let row = part::row_of(p, here);
+    let r = walk::row(row.sheet, here);
     if r.limit == 0 {
-        return n * size + row::row_pairs(p.sheet, columns, r.cells);
+        return n * size + row::row_pairs(row.sheet, row.columns, r.cells);
     }
-    let indicator = p.indicator();
-    n * size + row_size::row_shown(p.sheet, columns, indicator, here, 0, n, p.info.plain)
+    n * size + row.shown(p.indicator(), 0, n)
 }
 
 // The bytes of line n of the first of some rows and of the rule after it, its 0A included.
@@ -46,11 +44,9 @@ fn band_line(p: &Page<'_>, style: RowStyle, here: Rows, n: usize, size: usize) -
     if p.info.plain {
         return size;
     }
-    let columns = p.info.columns.as_slice();
-    if n < part::row_lines(p.sheet, columns, here, p.info.plain) {
-        let indicator = p.indicator();
-        let pairs = row_size::row_shown(p.sheet, columns, indicator, here, n, n + 1, p.info.plain);
-        return size + pairs;
+    let row = part::row_of(p, here);
+    if n < part::row_lines(&row) {
+        return size + row.shown(p.indicator(), n, n + 1);
     }
     size
 }

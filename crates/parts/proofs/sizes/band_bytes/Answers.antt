@@ -2,7 +2,7 @@ use native.Mathlib.Omega.{arith}
 use Prim.Native.Nat.{◌-◌, ◌<◌}
 use mathlib.Core.Path.{◌≡◌, refl, sym, ◌∙◌}
 use Rattle.table.proofs.Walks.{cells_inside}
-use Rattle.parts.proofs.Parts.{accepted_short, drawable}
+use Rattle.parts.proofs.Parts.{accepted_short}
 use Rattle.parts.proofs.Bands.{bytes-none, bytes-plain, bytes-held, bytes-shown, bytes_few, bytes_most}
 use Rattle.parts.proofs.sizes.band_bytes.Goals as goal
 
@@ -21,15 +21,18 @@ returns-then-p c = bytes-plain c.args.p.now.sheet.now c.args.p.now.info.columns.
 pub returns-then-here-eq0 : goal.returns-then-here-eq0
 returns-then-here-eq0 c = bytes-none c.args.p.now.sheet.now c.args.p.now.info.columns.items c.args.style c.args.here c.args.p.now.info.plain c.args.size c.requires.known.1 c.if-here-eq0.true
 
+pub row_of-row-requires : goal.row_of-row-requires
+row_of-row-requires c = (c.requires.known.0, omega (arith, c.if-here-eq0.false))
+
 pub row-r-requires : goal.row-r-requires
 row-r-requires c =
     let some : 0 < c.args.here.left = omega (arith, c.if-here-eq0.false) in
-    (some, c.requires.known.0.ends)
+    rw c.row_of-row.ensures.sheet (some, c.requires.known.0.ends)
 
 pub overflow_mul-result-then-r-eq0 : goal.overflow_mul-result-then-r-eq0
 overflow_mul-result-then-r-eq0 c =
     let some : 0 < c.args.here.left = omega (arith, c.if-here-eq0.false) in
-    let r = c.row-r.ensures in
+    let r = rw c.row_of-row.ensures.sheet at c.row-r.ensures in
     omega (
       arith,
       bytes-held c.args.p.now.sheet.now c.args.p.now.info.columns.items c.args.style c.args.here c.args.p.now.info.plain c.args.size c.requires.known.1 some
@@ -39,10 +42,10 @@ overflow_mul-result-then-r-eq0 c =
 
 pub row_pairs-requires : goal.row_pairs-requires
 row_pairs-requires c =
-    let some : 0 < c.args.here.left = omega (arith, c.if-here-eq0.false) in rw c.as_slice-columns.ensures.value (
+    let some : 0 < c.args.here.left = omega (arith, c.if-here-eq0.false) in rw (c.row_of-row.ensures.sheet, c.row_of-row.ensures.columns) (
       c.args.p.now.opened.rising,
       (
-        cells_inside c.args.p.now.sheet.now c.args.here c.row-r.result some c.requires.known.0.ends c.row-r.ensures,
+        cells_inside c.args.p.now.sheet.now c.args.here c.row-r.result some c.requires.known.0.ends (rw c.row_of-row.ensures.sheet at c.row-r.ensures),
         accepted_short c.args.p.now.sheet.now c.args.p.now.opened.passes,
       ),
     )
@@ -50,20 +53,20 @@ row_pairs-requires c =
 pub overflow_add-result : goal.overflow_add-result
 overflow_add-result c =
     let some : 0 < c.args.here.left = omega (arith, c.if-here-eq0.false) in
-    let r = c.row-r.ensures in
+    let r = rw c.row_of-row.ensures.sheet at c.row-r.ensures in
     omega (
       arith,
       bytes-held c.args.p.now.sheet.now c.args.p.now.info.columns.items c.args.style c.args.here c.args.p.now.info.plain c.args.size c.requires.known.1 some
-          (sym r.limit ∙ c.if-r-eq0.true) c.args.n _ c.requires.counted (rw (r.cells, c.as_slice-columns.ensures.value) at c.row_pairs.ensures.0),
+          (sym r.limit ∙ c.if-r-eq0.true) c.args.n _ c.requires.counted (rw (c.row_of-row.ensures.sheet, r.cells, c.row_of-row.ensures.columns) at c.row_pairs.ensures.0),
       bytes_most c.args.p.now.sheet.now c.args.p.now.info.columns.items c.args.style c.args.here c.args.p.now.info.plain c.args.size c.requires.known.1,
     )
 
 pub returns-then-r-eq0 : goal.returns-then-r-eq0
 returns-then-r-eq0 c =
     let some : 0 < c.args.here.left = omega (arith, c.if-here-eq0.false) in
-    let r = c.row-r.ensures in
+    let r = rw c.row_of-row.ensures.sheet at c.row-r.ensures in
     bytes-held c.args.p.now.sheet.now c.args.p.now.info.columns.items c.args.style c.args.here c.args.p.now.info.plain c.args.size c.requires.known.1 some
-    (sym r.limit ∙ c.if-r-eq0.true) c.args.n _ c.requires.counted (rw (r.cells, c.as_slice-columns.ensures.value) at c.row_pairs.ensures.0)
+    (sym r.limit ∙ c.if-r-eq0.true) c.args.n _ c.requires.counted (rw (c.row_of-row.ensures.sheet, r.cells, c.row_of-row.ensures.columns) at c.row_pairs.ensures.0)
 
 pub overflow_mul-result-2 : goal.overflow_mul-result-2
 overflow_mul-result-2 c =
@@ -74,15 +77,11 @@ overflow_mul-result-2 c =
       bytes_most c.args.p.now.sheet.now c.args.p.now.info.columns.items c.args.style c.args.here c.args.p.now.info.plain c.args.size c.requires.known.1,
     )
 
-pub row_shown-requires : goal.row_shown-requires
-row_shown-requires c =
-    let some : 0 < c.args.here.left = omega (arith, c.if-here-eq0.false) in
-    rw c.as_slice-columns.ensures.value (record {
-      drawable = (
-        drawable c.args.p.now.sheet.now c.args.p.now.info c.args.p.now.opened c.args.here c.requires.known.0 some,
-        (c.indicator-indicator.ensures.plain, accepted_short c.args.p.now.sheet.now c.args.p.now.opened.passes),
-      );
-      first_le_end = (
+pub shown-requires : goal.shown-requires
+shown-requires c =
+    let some : 0 < c.args.here.left = omega (arith, c.if-here-eq0.false) in (
+      c.indicator.ensures.plain,
+      (
         omega arith,
         omega (
           arith,
@@ -90,8 +89,8 @@ row_shown-requires c =
           bytes_few c.args.p.now.sheet.now c.args.p.now.info.columns.items c.args.style c.args.here c.args.p.now.info.plain
               c.args.size c.requires.known.1 some,
         ),
-      );
-    })
+      ),
+    )
 
 pub overflow_add-result-2 : goal.overflow_add-result-2
 overflow_add-result-2 c =
@@ -100,7 +99,7 @@ overflow_add-result-2 c =
     omega (
       arith,
       bytes-shown c.args.p.now.sheet.now c.args.p.now.info.columns.items c.args.style c.args.here c.args.p.now.info.plain c.args.size c.requires.known.1 some
-          c.args.n _ c.requires.counted (rw (c.indicator-indicator.ensures.are, z, c.as_slice-columns.ensures.value) at c.row_shown.ensures.0),
+          c.args.n _ c.requires.counted (rw (c.indicator.ensures.are, z, c.row_of-row.ensures.sheet, c.row_of-row.ensures.columns, c.row_of-row.ensures.rows) at c.shown.ensures.0),
       bytes_most c.args.p.now.sheet.now c.args.p.now.info.columns.items c.args.style c.args.here c.args.p.now.info.plain c.args.size c.requires.known.1,
     )
 
@@ -109,4 +108,4 @@ returns c =
     let some : 0 < c.args.here.left = omega (arith, c.if-here-eq0.false) in
     let z : c.args.n - 0 ≡ c.args.n = omega arith in
     bytes-shown c.args.p.now.sheet.now c.args.p.now.info.columns.items c.args.style c.args.here c.args.p.now.info.plain c.args.size c.requires.known.1 some c.args.n
-    _ c.requires.counted (rw (c.indicator-indicator.ensures.are, z, c.as_slice-columns.ensures.value) at c.row_shown.ensures.0)
+    _ c.requires.counted (rw (c.indicator.ensures.are, z, c.row_of-row.ensures.sheet, c.row_of-row.ensures.columns, c.row_of-row.ensures.rows) at c.shown.ensures.0)

@@ -1,4 +1,4 @@
--- What a page's ghost field says can be known in one way alone. Assumes nothing.
+-- Facts that ghost fields say can be known in one way alone. Assumes nothing.
 use Rattle.std.specs.Prelude.{ℕ, List, [], ◌∷◌, ◌≡◌, ◌⊎◌, refl}
 use Rattle.std.specs.Coded.{×_prop, Unit-prop}
 use Rattle.std.proofs.Props as std
