@@ -29,10 +29,11 @@ in_order f (suc n) x = f n (in_order f n x)
 abbrev pub column : Layout → ℕ → Column
 column t i = get_or t.columns.items i no_column
 
--- a closure may be called with a column and its number; and what its calls may give is f of that number
+-- a closure may be called with each column's number and the column
 abbrev pub Asks : Layout → (ℕ → Bor Column → Type 0) → Type 0
 Asks t takes = (i : ℕ) (c : Bor Column) → i < most_columns → c.now ≡ column t i → takes i c
 
+-- what such a closure's calls give is f of the number
 abbrev pub Tells : {A : Type 0} → Layout → (ℕ → Bor Column → A → Type 0) → (ℕ → A) → Type 0
 Tells {A} t gives f = (i : ℕ) (c : Bor Column) (r : A) → i < most_columns → c.now ≡ column t i → gives i c r → r ≡ f i
 
@@ -40,6 +41,7 @@ Tells {A} t gives f = (i : ℕ) (c : Bor Column) (r : A) → i < most_columns �
 abbrev pub by_column : {A : Type 0} → Layout → A → (ℕ → A) → List A
 by_column t a f = in_order (λ i xs. set xs i (f i)) (length t.columns.items) (replicate most_columns a)
 
+-- the longest line of column i
 abbrev pub longest : Layout → ℕ → ℕ
 longest t i = get_or t.longest i 0
 
