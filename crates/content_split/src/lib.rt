@@ -73,6 +73,7 @@ fn last_before(text: &[u8], from: usize, to: usize, delimiter: u8) -> usize
 
 impl<'a> SplitText<'a> {
     // Whether the piece from `from` on has more columns than the width.
+    #[inline(always)]
     fn long_piece(&self, from: usize) -> bool
         requires { from ≤ length self.now.text.bytes.now }
         ensures { Long self.now.width self.now.delimiter self.now.text.bytes.now from result }
@@ -92,6 +93,7 @@ impl<'a> SplitText<'a> {
 
     // The line from `start` on, where a piece goes on past `stop`, at which the width is reached: the line ends before that piece, or is
     // filled with it.
+    #[inline(always)]
     fn straddled(&self, start: usize, stop: usize) -> Part
         requires { Straddle self.now.width self.now.delimiter self.now.text.bytes.now start stop × Sound self.now.delimiter self.now.text.bytes.now start }
         ensures { LineIs self.now.width self.now.delimiter self.now.text.bytes.now start result.start result.end result.next }
@@ -120,6 +122,7 @@ impl<'a> SplitText<'a> {
     }
 
     // The line from `start` on, where the width is reached at `stop`: it ends there if a piece does, on either side.
+    #[inline(always)]
     fn at_width(&self, start: usize, stop: usize) -> Part
         requires { AtWidth self.now.width self.now.delimiter self.now.text.bytes.now start stop × Sound self.now.delimiter self.now.text.bytes.now start }
         ensures { LineIs self.now.width self.now.delimiter self.now.text.bytes.now start result.start result.end result.next }
@@ -149,61 +152,20 @@ impl<'a> SplitText<'a> {
         self.straddled(start, stop)
     }
 
-    // The next line, from `from` on. It is looked for backwards from the place where the width is reached: most bytes of a plain text aren't
-    // read. Each kind of text is compiled by itself, its kind a constant.
-    fn split_line<const PLAIN: bool>(&self, from: usize) -> Option<Part>
-        requires { (from ≤ length self.now.text.bytes.now) × (Sound self.now.delimiter self.now.text.bytes.now from × IsPlain PLAIN self.now.text.bytes.now) }
-        ensures { PartIs self.now.width self.now.delimiter self.now.text.bytes.now from result }
-    {
-        let text = self.text.bytes;
-        let start = line_start(text, from, self.delimiter);
-        if text.len() <= start {
-            return None;
-        }
-        let rest = Part {
-            start,
-            end: text.len(),
-            next: text.len(),
-        };
-        if text.len() - start < self.width {
-            return Some(rest);
-        }
-        let known = SplitText {
-            text: Text {
-                bytes: text,
-                plain: PLAIN,
-            },
-            width: self.width,
-            delimiter: self.delimiter,
-        };
-        let place = known.text.reach(start, self.width);
-        if 0 < place.left {
-            return Some(rest);
-        }
-        Some(known.at_width(start, place.at))
-    }
-
-    // The same of a text that may have pairs. It stands apart, so that what is done for plain texts is short enough to go into its callers.
-    #[inline(never)]
-    fn split_paired(&self, from: usize) -> Option<Part>
-        requires { (from ≤ length self.now.text.bytes.now) × Sound self.now.delimiter self.now.text.bytes.now from }
-        ensures { PartIs self.now.width self.now.delimiter self.now.text.bytes.now from result }
-    {
-        self.split_line::<false>(from)
-    }
-
     // The next line that the text is split into, from `from` on.
+    #[inline(always)]
     pub fn next_part(&self, from: usize) -> Option<Part>
         requires { (from ≤ length self.now.text.bytes.now) × Sound self.now.delimiter self.now.text.bytes.now from }
         ensures { PartIs self.now.width self.now.delimiter self.now.text.bytes.now from result }
     {
         if self.text.plain {
-            return self.split_line::<true>(from);
+            return split_line::<true>(self.text.bytes, from, self.width, self.delimiter);
         }
-        self.split_paired(from)
+        split_paired(self.text.bytes, from, self.width, self.delimiter)
     }
 
     // All lines that the text is split into.
+    #[inline]
     pub fn parts(&self) -> Parts<'a>
         requires { Sound self.now.delimiter self.now.text.bytes.now 0 }
         ensures { (result.split ≡ self.now) × (result.from ≡ 0) }
@@ -215,6 +177,7 @@ impl<'a> SplitText<'a> {
     }
 
     // How many these are.
+    #[inline]
     pub fn count_parts(&self) -> usize
         requires { Sound self.now.delimiter self.now.text.bytes.now 0 }
         ensures { result ≡ length (split self.now.width self.now.delimiter self.now.text.bytes.now) }
@@ -223,6 +186,7 @@ impl<'a> SplitText<'a> {
     }
 
     // The columns of the longest of them, or 0.
+    #[inline]
     pub fn longest_part(&self) -> usize
         requires { Sound self.now.delimiter self.now.text.bytes.now 0 }
         ensures { result ≡ greatest (map text_width (split self.now.width self.now.delimiter self.now.text.bytes.now)) }
@@ -233,6 +197,55 @@ impl<'a> SplitText<'a> {
         }
         longest
     }
+}
+
+// The next line that a text is split into, from `from` on. It is looked for backwards from the place where the width is reached: most bytes
+// of a plain text aren't read. Each kind of text is compiled by itself. What is handed on from here to `next_part`'s callers goes by itself, since a
+// struct would go through memory, and pages of short lines take a tenth longer.
+fn split_line<const PLAIN: bool>(
+    bytes: &[u8],
+    from: usize,
+    width: usize,
+    delimiter: u8,
+) -> Option<Part>
+    requires { (from ≤ length bytes.now) × ((0 < width) × (Sound delimiter bytes.now from × IsPlain PLAIN bytes.now)) }
+    ensures { PartIs width delimiter bytes.now from result }
+{
+    let start = line_start(bytes, from, delimiter);
+    if bytes.len() <= start {
+        return None;
+    }
+    let rest = Part {
+        start,
+        end: bytes.len(),
+        next: bytes.len(),
+    };
+    if bytes.len() - start < width {
+        return Some(rest);
+    }
+    let text = Text {
+        bytes,
+        plain: PLAIN,
+    };
+    let place = text.reach(start, width);
+    if 0 < place.left {
+        return Some(rest);
+    }
+    let split = SplitText {
+        text,
+        width,
+        delimiter,
+    };
+    Some(split.at_width(start, place.at))
+}
+
+// The same of a text that may have pairs. It stands apart, so that what is done for plain texts is short enough to go into its callers.
+#[inline(never)]
+fn split_paired(bytes: &[u8], from: usize, width: usize, delimiter: u8) -> Option<Part>
+    requires { (from ≤ length bytes.now) × ((0 < width) × Sound delimiter bytes.now from) }
+    ensures { PartIs width delimiter bytes.now from result }
+{
+    split_line::<false>(bytes, from, width, delimiter)
 }
 
 // The lines that a text is split into from `from` on.
