@@ -15,7 +15,8 @@ use table::walk;
 use text_width::Text;
 
 // Where the next wrapped line of a cell is looked for: in the first of its cell lines from byte `from` on, and then in those that follow.
-// Plain lines have no pair: their columns are their bytes and needn't be counted.
+// Plain lines have no pair: their columns are their bytes and needn't be counted. `plain` is kept here, since the line after this one is looked
+// for where nothing else is known of the cell.
 #[derive(Clone, Copy, Default)]
 pub struct CellCursor {
     pub lines: Lines,

@@ -28,6 +28,7 @@ pub struct Part {
     pub next: usize,
 }
 
+// This and the next two look for a delimiter, and need no width: they stay functions of bytes, and ask for none.
 // The first delimiter of `text` at or after `from`, or the text's length. A piece is followed no further than just past `most` bytes, so
 // that a long word isn't gone through again for each of its lines.
 pub fn piece_end(text: &[u8], from: usize, delimiter: u8, most: usize) -> usize
@@ -71,6 +72,7 @@ fn last_before(text: &[u8], from: usize, to: usize, delimiter: u8) -> usize
     from
 }
 
+// What `split_line` calls is always put into it, so that `plain` is a constant there; without, pages of short lines took half as long again.
 impl<'a> SplitText<'a> {
     // Whether the piece from `from` on has more columns than the width.
     #[inline(always)]
@@ -152,7 +154,7 @@ impl<'a> SplitText<'a> {
         self.straddled(start, stop)
     }
 
-    // The next line that the text is split into, from `from` on.
+    // The next line that the text is split into, from `from` on. Always put into its callers, for the same reason.
     #[inline(always)]
     pub fn next_part(&self, from: usize) -> Option<Part>
         requires { (from ≤ length self.now.text.bytes.now) × Sound self.now.delimiter self.now.text.bytes.now from }
@@ -200,8 +202,8 @@ impl<'a> SplitText<'a> {
 }
 
 // The next line that a text is split into, from `from` on. It is looked for backwards from the place where the width is reached: most bytes
-// of a plain text aren't read. Each kind of text is compiled by itself. What is handed on from here to `next_part`'s callers goes by itself, since a
-// struct would go through memory, and pages of short lines take a tenth longer.
+// of a plain text aren't read. Each kind of text is compiled by itself. Kept: four parameters, since a struct goes through memory, and pages of
+// short lines took a sixth longer.
 fn split_line<const PLAIN: bool>(
     bytes: &[u8],
     from: usize,
