@@ -4,7 +4,7 @@ use mathlib.Core.Path.{◌≡◌, refl, sym, ap, ◌∙◌}
 use mathlib.Core.List.{List, [], ◌∷◌}
 use mathlib.Core.Bool.{Bool, true, false}
 use native.Mathlib.Omega.{arith}
-use lib.ListN.{length, drop, length-append}
+use lib.ListN.{length, length-append}
 use lib.Seq.{slice, take_all}
 use lib.Dec.{ltb, leb, eqb}
 use borrow.Author.Tests.{ltb-true, leb-true, leb-false}
@@ -16,10 +16,10 @@ use Rattle.laws.proofs.Split.{wrap_short, wrap_long}
 use Rattle.laws.proofs.RowBytes.{pairs_of}
 use Rattle.rules.specs.Places.{past, parts, byte_at, text_at, line_stop}
 use Rattle.laws.proofs.Stands.{past-onward, lines-onward, text-length}
-use Rattle.table.specs.Walk.{lines_in, lines_end, first_line, LinesNext}
+use Rattle.table.specs.Walk.{lines_in, lines_end}
 use Rattle.table.specs.declared.records.Lines.{Lines}
 use Rattle.cells.specs.Cell.{TextIs}
-use Rattle.cells.proofs.Laws.{texts_next, wrap_more, wrap-none, lines_none, lines-some}
+use Rattle.cells.proofs.Laws.{wrap_more, wrap-none}
 
 -- ---- a line wraps into no more lines than it has bytes, its length included
 
@@ -123,10 +123,6 @@ module _ (w d : ℕ) (plain : Bool) (size : ℕ) (all : List (List ℕ)) where
   counting_begins h k = record { count = omega arith; few = omega (arith, h); texts = k }
 
   module _ (n : ℕ) (t : List ℕ) (ls : List (List ℕ)) (C : Counting w d plain size all n (t ∷ ls)) where
-    pub counting-room : (m : ℕ) → m ≤ length t + 1 → n + m ≤ size
-    unfolding span
-    counting-room m l = omega (arith, C.few)
-
     pub counting-on : (m : ℕ) → m ≡ length (wrap_line w d t) → m ≤ length t + 1 → Counting w d plain size all (n + m) ls
     unfolding span
     counting-on m e l =
@@ -154,10 +150,6 @@ module _ (size : ℕ) (all : List (List ℕ)) where
 
     pub pairing_less : m ≤ length t
     pairing_less = omega (arith, width, width-le t)
-
-    pub pairing-room : n + (length t - m) ≤ size
-    unfolding span
-    pairing-room = omega (arith, P.few)
 
     pub pairing-on : Pairing size all (n + (length t - m)) ls
     unfolding span pairs_of

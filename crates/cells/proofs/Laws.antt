@@ -21,7 +21,7 @@ use Rattle.content_split.specs.Parts.{PartIs}
 use Rattle.content_split.specs.declared.Part.{Part}
 use Rattle.std.specs.Prelude.{Option, Some, None}
 use Rattle.content_split.proofs.Steps.{none-at_end}
-use Rattle.cells.specs.Cell.{rest, TextIs, Inside, Head, HeadIs, PartIn, no_line, taken, FirstOf, Further}
+use Rattle.cells.specs.Cell.{rest, TextIs, Inside, Head, HeadIs, no_line, taken, FirstOf, Further}
 use Rattle.cells.specs.declared.CellCursor.{CellCursor}
 use Rattle.cells.specs.declared.Next.{Next}
 
@@ -29,9 +29,6 @@ use Rattle.cells.specs.declared.Next.{Next}
 
 pub fits_short : (w : ℕ) (t : List ℕ) → length t ≤ w → true ≡ leb (text_width t) w
 fits_short w t h = sym (le-leb (text_width t) w (omega (arith, width-le t)))
-
-pub fits-counted : (w : ℕ) (t : List ℕ) (n : ℕ) → n ≡ text_width (slice 0 (length t) t) → leb n w ≡ leb (text_width t) w
-fits-counted w t n e = ap (λ m. leb m w) (e ∙ ap text_width (take_all (length t) t (omega arith)))
 
 -- ---- the first line of a text
 
@@ -69,14 +66,6 @@ module _ (w d : ℕ) (pos : 0 < w) (t : List ℕ) where
   -- a wider one is split
   pub long-head : leb (text_width t) w ≡ false → (p : Option Part) → PartIs w d t 0 p → HeadIs w d t (wrap_line w d t) p
   long-head f p q = rw (wrap_long w d t (leb-false (text_width t) w f)) (split-head 0 p q)
-
--- what is found lies in the text
-pub head_in : (w d : ℕ) (t : List ℕ) (ls : List (List ℕ)) (p : Option Part) → HeadIs w d t ls p → PartIn t p
-head_in w d t ls (Some p) l =
-    let o = l.onward in
-    let i = l.within in
-    (l.order, omega arith)
-head_in w d t ls None l = tt
 
 -- ---- some cell lines
 
@@ -176,9 +165,6 @@ pub record Seeking (s : List ℕ) (w d : ℕ) (plain : Bool) (all c : Lines) : T
   pub texts : All (TextIs plain) (lines_in s c)
 
 module _ (s : List ℕ) (w d : ℕ) (plain : Bool) (pos : 0 < w) (all : Lines) where
-  pub seeking_begins : lines_end s all ≤ length s → All (TextIs plain) (lines_in s all) → Seeking s w d plain all all
-  seeking_begins h k = record { same = refl; ends = h; texts = k }
-
   module _ (c : Lines) (S : Seeking s w d plain all c) where
     pub seeking-here : 0 < c.left → wrap_lines w d (lines_in s all) ≡ wrap_line w d (first_line s c) ++ wrap_lines w d (drop 1 (lines_in s c))
     seeking-here h = S.same ∙ ap (wrap_lines w d) (lines-some s c h) ∙ wrap_more w d (first_line s c) (drop 1 (lines_in s c))
@@ -250,9 +236,6 @@ pub record Moving (s : List ℕ) (w d n : ℕ) (t : Next) (j : ℕ) (r : Next) :
   pub lines : Further s w d j t r
 
 module _ (s : List ℕ) (w d n : ℕ) (t : Next) where
-  pub moving_begins : Inside s t.cursor → Moving s w d n t 0 t
-  moving_begins I = record { within = omega arith; inside = I; lines = λ plain ls F. F }
-
   module _ (j : ℕ) (r : Next) (M : Moving s w d n t j r) where
     pub moving-on : j < n → (q : Next) → FirstOf s w d r.cursor.plain (rest s w d r.cursor) q → Moving s w d n t (j + 1) q
     moving-on h q N = record {

@@ -15,7 +15,8 @@ use table::walk;
 use text_width::Text;
 
 // Where the next wrapped line of a cell is looked for: in the first of its cell lines from byte `from` on, and then in those that follow.
-// Plain lines have no pair: their columns are their bytes and needn't be counted.
+// Plain lines have no pair: their columns are their bytes and needn't be counted. `plain` is kept here, since the line after this one is looked
+// for where nothing else is known of the cell.
 #[derive(Clone, Copy, Default)]
 pub struct CellCursor {
     pub lines: Lines,
@@ -63,6 +64,7 @@ fn no_line(lines: Lines, plain: bool) -> Next
 }
 
 // What was found in the first of some cell lines, which is `text`.
+#[inline]
 fn take_part(text: Text<'_>, part: Option<Part>, lines: Lines) -> Next
     requires { PartIn text.bytes.now part }
     ensures { result ≡ taken text.entry.bytes.now lines text.entry.plain part }
@@ -84,6 +86,7 @@ fn take_part(text: Text<'_>, part: Option<Part>, lines: Lines) -> Next
 }
 
 // A text with no more bytes than the content has columns fits, whatever stands in it.
+#[inline]
 fn line_fits(text: Text<'_>, width: usize) -> bool
     ensures { result ≡ leb (text_width text.entry.bytes.now) width }
 {
@@ -131,6 +134,7 @@ pub struct Wrapping<'a> {
 }
 
 impl<'a> Wrapping<'a> {
+    #[inline]
     fn split(&self, text: Text<'a>) -> SplitText<'a>
         ensures { (result.text ≡ text.entry) × ((result.width ≡ self.now.width) × (result.delimiter ≡ self.now.delimiter)) }
     {
@@ -142,6 +146,7 @@ impl<'a> Wrapping<'a> {
     }
 
     // The first line that a cell line wraps into: all of it, where it is no wider than the content.
+    #[inline]
     fn first_part(&self, text: Text<'a>) -> Option<Part>
         requires { IsText text.bytes.now }
         ensures { HeadIs self.now.width self.now.delimiter text.entry.bytes.now (wrap_line self.now.width self.now.delimiter text.entry.bytes.now) result }
@@ -217,6 +222,7 @@ impl<'a> Wrapping<'a> {
     }
 
     // How many lines a cell line wraps into: no more than it has bytes, its length byte included.
+    #[inline]
     fn line_height(&self, text: Text<'a>) -> usize
         requires { IsText text.bytes.now }
         ensures { (result ≡ length (wrap_line self.now.width self.now.delimiter text.entry.bytes.now)) × (result ≤ length text.entry.bytes.now + 1) }

@@ -157,10 +157,6 @@ module _ (w d : ℕ) (T : List ℕ) {s z : ℕ} (g : AtWidth w d T s z) where
         pub ends_at : get_or T z 0 ≡ d → LineIs w d T s s z (z + 1)
         ends_at e = rw (add-one z) (ends-full w d g.some T sound (up_to (λ y. e)) goes-past (omega (arith, g.reach.columns)))
 
-        -- no piece ends there
-        pub straddles : (get_or T z 0 ≡ d → ⊥) → Straddle w d T s z
-        straddles e = record { width = g; more = goes-past; last = f; past = e }
-
 -- a piece goes on past the width, and the last delimiter before that is at r, or none is
 module _ (w d : ℕ) (T : List ℕ) {s z r : ℕ} (sound : Sound d T s) (g : Straddle w d T s z) (b : Back d T s z r) where
   begun : Start d T s s

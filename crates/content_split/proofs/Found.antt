@@ -5,7 +5,7 @@ use mathlib.Core.List.{List, [], ◌∷◌, map}
 use native.Mathlib.Omega.{arith}
 use lib.ListN.{length}
 use lib.Seq.{slice}
-use Rattle.std.specs.Prelude.{Some, None}
+use Rattle.std.specs.Prelude.{Some}
 use Rattle.std.specs.Iterator.{Yields, Drains}
 use Rattle.rules.specs.Text.{text_width, greatest}
 use Rattle.content_split.specs.Steps.{lines_left, GivesPart}

@@ -28,6 +28,7 @@ pub struct Part {
     pub next: usize,
 }
 
+// This and the next two look for a delimiter, and need no width: they stay functions of bytes, and ask for none.
 // The first delimiter of `text` at or after `from`, or the text's length. A piece is followed no further than just past `most` bytes, so
 // that a long word isn't gone through again for each of its lines.
 pub fn piece_end(text: &[u8], from: usize, delimiter: u8, most: usize) -> usize
@@ -71,8 +72,10 @@ fn last_before(text: &[u8], from: usize, to: usize, delimiter: u8) -> usize
     from
 }
 
+// What `split_line` calls is always put into it, so that `plain` is a constant there; without, pages of short lines took half as long again.
 impl<'a> SplitText<'a> {
     // Whether the piece from `from` on has more columns than the width.
+    #[inline(always)]
     fn long_piece(&self, from: usize) -> bool
         requires { from ≤ length self.now.text.bytes.now }
         ensures { Long self.now.width self.now.delimiter self.now.text.bytes.now from result }
@@ -92,6 +95,7 @@ impl<'a> SplitText<'a> {
 
     // The line from `start` on, where a piece goes on past `stop`, at which the width is reached: the line ends before that piece, or is
     // filled with it.
+    #[inline(always)]
     fn straddled(&self, start: usize, stop: usize) -> Part
         requires { Straddle self.now.width self.now.delimiter self.now.text.bytes.now start stop × Sound self.now.delimiter self.now.text.bytes.now start }
         ensures { LineIs self.now.width self.now.delimiter self.now.text.bytes.now start result.start result.end result.next }
@@ -120,6 +124,7 @@ impl<'a> SplitText<'a> {
     }
 
     // The line from `start` on, where the width is reached at `stop`: it ends there if a piece does, on either side.
+    #[inline(always)]
     fn at_width(&self, start: usize, stop: usize) -> Part
         requires { AtWidth self.now.width self.now.delimiter self.now.text.bytes.now start stop × Sound self.now.delimiter self.now.text.bytes.now start }
         ensures { LineIs self.now.width self.now.delimiter self.now.text.bytes.now start result.start result.end result.next }
@@ -149,61 +154,20 @@ impl<'a> SplitText<'a> {
         self.straddled(start, stop)
     }
 
-    // The next line, from `from` on. It is looked for backwards from the place where the width is reached: most bytes of a plain text aren't
-    // read. Each kind of text is compiled by itself, its kind a constant.
-    fn split_line<const PLAIN: bool>(&self, from: usize) -> Option<Part>
-        requires { (from ≤ length self.now.text.bytes.now) × (Sound self.now.delimiter self.now.text.bytes.now from × IsPlain PLAIN self.now.text.bytes.now) }
-        ensures { PartIs self.now.width self.now.delimiter self.now.text.bytes.now from result }
-    {
-        let text = self.text.bytes;
-        let start = line_start(text, from, self.delimiter);
-        if text.len() <= start {
-            return None;
-        }
-        let rest = Part {
-            start,
-            end: text.len(),
-            next: text.len(),
-        };
-        if text.len() - start < self.width {
-            return Some(rest);
-        }
-        let known = SplitText {
-            text: Text {
-                bytes: text,
-                plain: PLAIN,
-            },
-            width: self.width,
-            delimiter: self.delimiter,
-        };
-        let place = known.text.reach(start, self.width);
-        if 0 < place.left {
-            return Some(rest);
-        }
-        Some(known.at_width(start, place.at))
-    }
-
-    // The same of a text that may have pairs. It stands apart, so that what is done for plain texts is short enough to go into its callers.
-    #[inline(never)]
-    fn split_paired(&self, from: usize) -> Option<Part>
-        requires { (from ≤ length self.now.text.bytes.now) × Sound self.now.delimiter self.now.text.bytes.now from }
-        ensures { PartIs self.now.width self.now.delimiter self.now.text.bytes.now from result }
-    {
-        self.split_line::<false>(from)
-    }
-
-    // The next line that the text is split into, from `from` on.
+    // The next line that the text is split into, from `from` on. Always put into its callers, for the same reason.
+    #[inline(always)]
     pub fn next_part(&self, from: usize) -> Option<Part>
         requires { (from ≤ length self.now.text.bytes.now) × Sound self.now.delimiter self.now.text.bytes.now from }
         ensures { PartIs self.now.width self.now.delimiter self.now.text.bytes.now from result }
     {
         if self.text.plain {
-            return self.split_line::<true>(from);
+            return split_line::<true>(self.text.bytes, from, self.width, self.delimiter);
         }
-        self.split_paired(from)
+        split_paired(self.text.bytes, from, self.width, self.delimiter)
     }
 
     // All lines that the text is split into.
+    #[inline]
     pub fn parts(&self) -> Parts<'a>
         requires { Sound self.now.delimiter self.now.text.bytes.now 0 }
         ensures { (result.split ≡ self.now) × (result.from ≡ 0) }
@@ -215,6 +179,7 @@ impl<'a> SplitText<'a> {
     }
 
     // How many these are.
+    #[inline]
     pub fn count_parts(&self) -> usize
         requires { Sound self.now.delimiter self.now.text.bytes.now 0 }
         ensures { result ≡ length (split self.now.width self.now.delimiter self.now.text.bytes.now) }
@@ -223,6 +188,7 @@ impl<'a> SplitText<'a> {
     }
 
     // The columns of the longest of them, or 0.
+    #[inline]
     pub fn longest_part(&self) -> usize
         requires { Sound self.now.delimiter self.now.text.bytes.now 0 }
         ensures { result ≡ greatest (map text_width (split self.now.width self.now.delimiter self.now.text.bytes.now)) }
@@ -233,6 +199,55 @@ impl<'a> SplitText<'a> {
         }
         longest
     }
+}
+
+// The next line that a text is split into, from `from` on. It is looked for backwards from the place where the width is reached: most bytes
+// of a plain text aren't read. Each kind of text is compiled by itself. Kept: four parameters, since a struct goes through memory, and pages of
+// short lines took a sixth longer.
+fn split_line<const PLAIN: bool>(
+    bytes: &[u8],
+    from: usize,
+    width: usize,
+    delimiter: u8,
+) -> Option<Part>
+    requires { (from ≤ length bytes.now) × ((0 < width) × (Sound delimiter bytes.now from × IsPlain PLAIN bytes.now)) }
+    ensures { PartIs width delimiter bytes.now from result }
+{
+    let start = line_start(bytes, from, delimiter);
+    if bytes.len() <= start {
+        return None;
+    }
+    let rest = Part {
+        start,
+        end: bytes.len(),
+        next: bytes.len(),
+    };
+    if bytes.len() - start < width {
+        return Some(rest);
+    }
+    let text = Text {
+        bytes,
+        plain: PLAIN,
+    };
+    let place = text.reach(start, width);
+    if 0 < place.left {
+        return Some(rest);
+    }
+    let split = SplitText {
+        text,
+        width,
+        delimiter,
+    };
+    Some(split.at_width(start, place.at))
+}
+
+// The same of a text that may have pairs. It stands apart, so that what is done for plain texts is short enough to go into its callers.
+#[inline(never)]
+fn split_paired(bytes: &[u8], from: usize, width: usize, delimiter: u8) -> Option<Part>
+    requires { (from ≤ length bytes.now) × ((0 < width) × Sound delimiter bytes.now from) }
+    ensures { PartIs width delimiter bytes.now from result }
+{
+    split_line::<false>(bytes, from, width, delimiter)
 }
 
 // The lines that a text is split into from `from` on.

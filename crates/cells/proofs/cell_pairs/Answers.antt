@@ -1,5 +1,4 @@
-use native.Mathlib.Omega.{arith}
-use Rattle.cells.proofs.Counts.{span-most, pairing_begins, pairing_less, pairing-room, pairing-on, pairing_done}
+use Rattle.cells.proofs.Counts.{span-most, pairing_begins, pairing_less, pairing-on, pairing_done}
 use Rattle.cells.proofs.cell_pairs.Goals as goal
 
 pub loop-text-init : goal.loop-text-init
@@ -9,11 +8,6 @@ pub overflow_sub-n : goal.overflow_sub-n
 overflow_sub-n c =
     let left = rw c.in-Some.ensures.steps at c.loop-text.invariant in
     pairing_less _ _ _ c.in-Some.text.now _ left _ (rw c.unknown.ensures.0 at c.columns.ensures)
-
-pub overflow_add-n : goal.overflow_add-n
-overflow_add-n c =
-    let left = rw c.in-Some.ensures.steps at c.loop-text.invariant in
-    omega (arith, pairing-room _ _ _ c.in-Some.text.now _ left _ (rw c.unknown.ensures.0 at c.columns.ensures), c.well_formed)
 
 pub loop-text-preserved : goal.loop-text-preserved
 loop-text-preserved c =

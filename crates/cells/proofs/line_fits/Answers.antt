@@ -1,4 +1,4 @@
-use Rattle.cells.proofs.Laws.{fits_short, fits-counted}
+use Rattle.cells.proofs.Laws.{fits_short}
 use Rattle.cells.proofs.line_fits.Goals as goal
 
 pub returns-then-text-width : goal.returns-then-text-width

@@ -1,5 +1,4 @@
-use native.Mathlib.Omega.{arith}
-use Rattle.cells.proofs.Counts.{span-most, counting_begins, counting-room, counting-on, counting_done}
+use Rattle.cells.proofs.Counts.{span-most, counting_begins, counting-on, counting_done}
 use Rattle.cells.proofs.Wrapping.cell_height.Goals as goal
 
 pub loop-bytes-init : goal.loop-bytes-init

@@ -1,4 +1,4 @@
-use Rattle.cells.proofs.Laws.{first_known, head_in, seeking_found, seeking-on, seeking_done}
+use Rattle.cells.proofs.Laws.{first_known, seeking_found, seeking-on, seeking_done}
 use Rattle.cells.proofs.Wrapping.first_line.Goals as goal
 
 pub invariant_of-text : goal.invariant_of-text

@@ -1,9 +1,6 @@
 use borrow.Author.Tests.{not-true}
-use Rattle.cells.proofs.Laws.{moving_begins, moving-on, moving-ended, moving_done}
+use Rattle.cells.proofs.Laws.{moving-on, moving-ended, moving_done}
 use Rattle.cells.proofs.Wrapping.further.Goals as goal
-
-pub loop-init : goal.loop-init
-loop-init c = moving_begins _ _ _ _ _ c.requires
 
 pub returns-then-not-r : goal.returns-then-not-r
 returns-then-not-r c = moving-ended _ _ _ _ _ _ _ c.loop.invariant (not-true _ c.if-not-r.true)

@@ -1,7 +1,6 @@
 use native.Mathlib.Omega.{arith}
 use mathlib.Core.Logic.{inl}
-use mathlib.Core.Path.{ap, ◌∙◌}
-use Rattle.content_split.specs.Steps.{lines_left}
+use mathlib.Core.Path.{◌∙◌}
 use Rattle.content_split.proofs.Found.{counted_all}
 use Rattle.content_split.proofs.SplitText.count_parts.Goals as goal
 

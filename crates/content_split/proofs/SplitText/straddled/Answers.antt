@@ -1,12 +1,7 @@
 use borrow.Author.Rules.{rules}
 use native.Mathlib.Omega.{arith}
-use Rattle.content_split.proofs.Back.{after-start, fills_whole, ends-tight, ends_wrap, ends_fill}
+use Rattle.content_split.proofs.Back.{fills_whole, ends-tight, ends_wrap, ends_fill}
 use Rattle.content_split.proofs.SplitText.straddled.Goals as goal
-
-pub last_before-end-requires : goal.last_before-end-requires
-last_before-end-requires c =
-    let g = c.requires.0.width in
-    (after-start _ _ _ g, g.reach.within)
 
 pub returns-then-end-start : goal.returns-then-end-start
 returns-then-end-start c = search (rules, fills_whole)
