@@ -153,6 +153,7 @@ fn longest_part_of_rows(
 {
     let mut longest: usize = 0;
     let mut c = rows;
+    // Kept: the row that was tried says where the next one is.
     while 0 < c.left {
         let row = walk::row(sheet, c);
         let cells = row.cells;

@@ -216,7 +216,7 @@ fn draw_column(
     }
 }
 
-// What was written, and whether a cell has a line after it.
+// What was written, and whether a cell has a line after it: in both cases something was written, so that the flag is no `Option`.
 #[derive(Clone, Copy)]
 pub struct Lined {
     pub written: usize,
@@ -281,7 +281,7 @@ pub fn is_last(limit: usize, line: usize) -> bool
     line + 1 == limit
 }
 
-// A row's limit, and whether the row has the line that is asked for.
+// A row's limit, and whether the row has the line that is asked for; the limit holds in both cases.
 #[derive(Clone, Copy)]
 pub struct Entered {
     pub limit: usize,
@@ -298,7 +298,7 @@ pub struct DrawableRow<'a> {
     pub ghost drawable: { Drawable sheet.now columns.now plain here } by { Prim.hlevel props },
 }
 
-// Lines that were written, their bytes, and whether they were all that were asked for.
+// Lines that were written, their bytes, and whether they were all that were asked for; the counts hold in both cases.
 #[derive(Clone, Copy)]
 pub struct Part {
     pub lines: usize,
@@ -369,6 +369,7 @@ impl<'a> DrawableRow<'a> {
         let mut more = entered.more;
         let mut at: usize = 0;
         let mut line = first;
+        // Kept: whether there is a next line is found with each, and how many were written is the answer.
         while more {
             let last = is_last(limit, line);
             let room = page.len() - at;

@@ -54,6 +54,7 @@ fn print<R: Print + Clock>(rt: &R, sheet: &[u8], space: &mut [u8]) -> Result<(),
     };
     let p = display_info::open(&AcceptedSheet { bytes: sheet }, examined.plain);
     let mut c = cursor::first(p.info.rows);
+    // Kept: no index is counted; a round ends where the page in it is full.
     while !cursor::is_end(c) {
         let part = lines::write(space, &p, c);
         let n = part.bytes;

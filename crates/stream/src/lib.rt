@@ -96,6 +96,7 @@ pub fn read_full<R: Input>(rt: &R, space: &mut [u8]) -> usize
 {
     let mut input = rt.reader();
     let mut done: usize = 0;
+    // Kept: no index is counted; each reading says how much came.
     while done < space.len() {
         let n = input.read(&mut space[done..]).unwrap_or(0);
         if n == 0 {
