@@ -149,7 +149,8 @@ impl<'a> Wrapping<'a> {
     #[inline]
     fn first_part(&self, text: Text<'a>) -> Option<Part>
         requires { IsText text.bytes.now }
-        ensures { HeadIs self.now.width self.now.delimiter text.entry.bytes.now (wrap_line self.now.width self.now.delimiter text.entry.bytes.now) result }
+        ensures { HeadIs self.now.width self.now.delimiter text.entry.bytes.now
+            (wrap_line self.now.width self.now.delimiter text.entry.bytes.now) result }
     {
         if line_fits(text, self.width) {
             return Some(Part {
@@ -187,7 +188,8 @@ impl<'a> Wrapping<'a> {
     // The next wrapped line of a cell.
     pub fn next_line(&self, c: CellCursor) -> Next
         requires { Inside self.now.sheet.now c }
-        ensures { FirstOf self.now.sheet.now self.now.width self.now.delimiter c.plain (rest self.now.sheet.now self.now.width self.now.delimiter c) result }
+        ensures { FirstOf self.now.sheet.now self.now.width self.now.delimiter c.plain
+            (rest self.now.sheet.now self.now.width self.now.delimiter c) result }
     {
         let lines = c.lines;
         if lines.left == 0 {
@@ -225,7 +227,8 @@ impl<'a> Wrapping<'a> {
     #[inline]
     fn line_height(&self, text: Text<'a>) -> usize
         requires { IsText text.bytes.now }
-        ensures { (result ≡ length (wrap_line self.now.width self.now.delimiter text.entry.bytes.now)) × (result ≤ length text.entry.bytes.now + 1) }
+        ensures { (result ≡ length (wrap_line self.now.width self.now.delimiter text.entry.bytes.now))
+            × (result ≤ length text.entry.bytes.now + 1) }
     {
         if line_fits(text, self.width) {
             return 1;

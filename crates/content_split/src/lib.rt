@@ -97,7 +97,8 @@ impl<'a> SplitText<'a> {
     // filled with it.
     #[inline(always)]
     fn straddled(&self, start: usize, stop: usize) -> Part
-        requires { Straddle self.now.width self.now.delimiter self.now.text.bytes.now start stop × Sound self.now.delimiter self.now.text.bytes.now start }
+        requires { Straddle self.now.width self.now.delimiter self.now.text.bytes.now start stop
+            × Sound self.now.delimiter self.now.text.bytes.now start }
         ensures { LineIs self.now.width self.now.delimiter self.now.text.bytes.now start result.start result.end result.next }
     {
         let end = last_before(self.text.bytes, start, stop, self.delimiter);
@@ -126,7 +127,8 @@ impl<'a> SplitText<'a> {
     // The line from `start` on, where the width is reached at `stop`: it ends there if a piece does, on either side.
     #[inline(always)]
     fn at_width(&self, start: usize, stop: usize) -> Part
-        requires { AtWidth self.now.width self.now.delimiter self.now.text.bytes.now start stop × Sound self.now.delimiter self.now.text.bytes.now start }
+        requires { AtWidth self.now.width self.now.delimiter self.now.text.bytes.now start stop
+            × Sound self.now.delimiter self.now.text.bytes.now start }
         ensures { LineIs self.now.width self.now.delimiter self.now.text.bytes.now start result.start result.end result.next }
     {
         let text = self.text.bytes;

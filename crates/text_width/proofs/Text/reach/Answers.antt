@@ -11,7 +11,8 @@ returns-then-self c = plain_reach c.args.self.now.plain c.args.self.now.bytes.no
 pub overflow_sub-width : goal.overflow_sub-width
 overflow_sub-width c =
     let to = c.args.from + c.args.width in
-    omega (arith, counted_few c.args.self.now.bytes.now c.args.from to _ (omega arith) (c.count-n.ensures ∙ ap text_width (lent_slice c.args.from to c.args.self.now.bytes.now)))
+    let counted = c.count-n.ensures ∙ ap text_width (lent_slice c.args.from to c.args.self.now.bytes.now) in
+    omega (arith, counted_few c.args.self.now.bytes.now c.args.from to _ (omega arith) counted)
 
 pub returns : goal.returns
 returns c =
