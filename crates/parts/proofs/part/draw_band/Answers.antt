@@ -38,9 +38,6 @@ slice_bounds-draw_rule-count c = part_room _ _ _ _ c.draw_row-text.ensures
 pub slice_bounds-draw_rule-start : goal.slice_bounds-draw_rule-start
 slice_bounds-draw_rule-start c = part_room _ _ _ _ c.draw_row-text.ensures
 
-pub draw_rule-drawn-requires : goal.draw_rule-drawn-requires
-draw_rule-drawn-requires c = rw c.as_slice-columns.ensures.value (c.args.p.now.opened.narrow, c.requires.known.1.rule)
-
 pub overflow_add-result : goal.overflow_add-result
 overflow_add-result c =
     let some : 0 < c.args.here.left = omega (

@@ -15,11 +15,6 @@ row_lines-requires c =
     let some = band_there c.args.p.now.sheet.now c.args.p.now.info.columns.items c.args.style c.args.here c.args.n c.requires.n_in_bounds in
     rw c.as_slice-columns.ensures.value (drawable c.args.p.now.sheet.now c.args.p.now.info c.args.p.now.opened c.args.here c.requires.known.0 some)
 
-pub overflow_add-n : goal.overflow_add-n
-overflow_add-n c =
-    let some = band_there c.args.p.now.sheet.now c.args.p.now.info.columns.items c.args.style c.args.here c.args.n c.requires.n_in_bounds in
-    omega (arith, c.requires.n_in_bounds, bytes_few c.args.p.now.sheet.now c.args.p.now.info.columns.items c.args.style c.args.here c.args.p.now.info.plain c.args.size c.requires.known.1 some)
-
 pub row_shown-pairs-requires : goal.row_shown-pairs-requires
 row_shown-pairs-requires c =
     let some = band_there c.args.p.now.sheet.now c.args.p.now.info.columns.items c.args.style c.args.here c.args.n c.requires.n_in_bounds in
@@ -38,11 +33,6 @@ row_shown-pairs-requires c =
         ),
       );
     })
-
-pub overflow_add-result : goal.overflow_add-result
-overflow_add-result c =
-    let some = band_there c.args.p.now.sheet.now c.args.p.now.info.columns.items c.args.style c.args.here c.args.n c.requires.n_in_bounds in
-    omega (arith, c.requires.known.1.small, rw c.as_slice-columns.ensures.value at c.row_shown-pairs.ensures.1, c.args.p.now.opened.views.most)
 
 pub returns-then-n-row_lines : goal.returns-then-n-row_lines
 returns-then-n-row_lines c =
