@@ -11,15 +11,6 @@ loop-c-init c =
     counting_begins c.args.p.now.sheet.now c.args.p.now.info c.args.p.now.opened _
     c.first-c.ensures
 
-pub at-part-requires : goal.at-part-requires
-at-part-requires c = c.loop-c.invariant.at.rows
-
-pub lines-n-requires : goal.lines-n-requires
-lines-n-requires c = c.at-part.ensures.known
-
-pub bytes-more-requires : goal.bytes-more-requires
-bytes-more-requires c = record { known = c.at-part.ensures.known; counted = c.lines-n.ensures }
-
 pub overflow_add-lines : goal.overflow_add-lines
 overflow_add-lines c =
     let r = counting-room c.args.p.now.sheet.now c.args.p.now.info c.loop-c.c _ _ c.loop-c.invariant _ _ (c.lines-n.ensures ∙ ap length c.at-part.ensures.lines) (c.bytes-more.ensures ∙ ap (λ ls. length (closed ls)) c.at-part.ensures.lines) in
@@ -29,12 +20,6 @@ pub overflow_add-bytes : goal.overflow_add-bytes
 overflow_add-bytes c =
     let r = counting-room c.args.p.now.sheet.now c.args.p.now.info c.loop-c.c _ _ c.loop-c.invariant _ _ (c.lines-n.ensures ∙ ap length c.at-part.ensures.lines) (c.bytes-more.ensures ∙ ap (λ ls. length (closed ls)) c.at-part.ensures.lines) in
     omega (arith, r.1, total_bytes c.args.p.now.sheet.now c.args.p.now.info c.args.p.now.opened)
-
-pub next-c-requires : goal.next-c-requires
-next-c-requires c = c.loop-c.invariant.at.rows
-
-pub loop-c-smaller : goal.loop-c-smaller
-loop-c-smaller c = c.next-c.ensures.fewer (sym c.is_end.ensures ∙ c.loop-c-test.true)
 
 pub loop-c-preserved : goal.loop-c-preserved
 loop-c-preserved c = counting-on _ _ c.loop-c.c _ _ c.loop-c.invariant _ _ (c.lines-n.ensures ∙ ap length c.at-part.ensures.lines) (c.bytes-more.ensures ∙ ap (λ ls. length (closed ls)) c.at-part.ensures.lines) _ c.next-c.ensures

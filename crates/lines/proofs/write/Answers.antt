@@ -4,8 +4,8 @@ use mathlib.Core.Path.{refl, sym, ◌∙◌}
 use lib.ListN.{length-drop}
 use Rattle.parts.specs.Ahead.{part_lines}
 use Rattle.parts.proofs.Bands.{lines_few, part_few}
-use Rattle.lines.proofs.Walks.{filling_begins, filling-room, filling_size, filling-lines, filling_bytes}
-use Rattle.lines.proofs.Walks.{filling_kept, filling-on, filling_stops, filling_done}
+use Rattle.lines.proofs.Walks.{filling_begins, filling-room, filling-lines, filling_bytes}
+use Rattle.lines.proofs.Walks.{filling-on, filling_stops, filling_done}
 use Rattle.lines.proofs.write.Goals as goal
 
 pub loop-part-init : goal.loop-part-init
@@ -22,13 +22,6 @@ pub slice_bounds-draw-start : goal.slice_bounds-draw-start
 slice_bounds-draw-start c =
     filling-room c.args.p.now.sheet.now c.args.p.now.info c.args.from c.args.page.now c.loop-part.page c.loop-part.c c.loop-part.lines
     c.loop-part.bytes c.loop-part.invariant
-
-pub at-part-requires : goal.at-part-requires
-at-part-requires c = c.loop-part.invariant.stands.rows
-
-pub draw-drawn-requires : goal.draw-drawn-requires
-draw-drawn-requires c =
-    let A = c.at-part.ensures in record { known = A.known; first_in_bounds = rw A.lines c.loop-part.invariant.stands.within }
 
 pub overflow_add-lines : goal.overflow_add-lines
 overflow_add-lines c =
@@ -58,34 +51,17 @@ further-next-requires c =
       lines_few c.args.p.now.sheet.now c.args.p.now.info c.args.p.now.opened c.loop-part.c c.loop-part.invariant.stands.rows,
     )
 
-pub shape_of-page-then-not-drawn : goal.shape_of-page-then-not-drawn
-shape_of-page-then-not-drawn c =
-    filling_kept c.args.p.now.sheet.now c.args.p.now.info c.args.from c.args.page.now c.loop-part.page c.loop-part.c c.loop-part.lines
-    c.loop-part.bytes c.loop-part.invariant c.draw-drawn.new.page _ c.draw-drawn.result (rw c.at-part.ensures.lines at c.draw-drawn.ensures) refl
-
 pub returns-then-not-drawn : goal.returns-then-not-drawn
 returns-then-not-drawn c =
     filling_stops c.args.p.now.sheet.now c.args.p.now.info c.args.from c.args.page.now c.loop-part.page c.loop-part.c c.loop-part.lines
     c.loop-part.bytes c.loop-part.invariant c.draw-drawn.new.page _ c.draw-drawn.result (rw c.at-part.ensures.lines at c.draw-drawn.ensures) refl (not-true c.draw-drawn.result.whole c.if-not-drawn.true) _
     c.further-next.ensures
 
-pub next-c-requires : goal.next-c-requires
-next-c-requires c = c.loop-part.invariant.stands.rows
-
-pub loop-part-smaller : goal.loop-part-smaller
-loop-part-smaller c =
-    c.next-c.ensures.fewer (sym c.is_end.ensures ∙ c.loop-part-test.true)
-
 pub loop-part-preserved : goal.loop-part-preserved
 loop-part-preserved c =
     filling-on c.args.p.now.sheet.now c.args.p.now.info c.args.from c.args.page.now c.loop-part.page c.loop-part.c c.loop-part.lines
     c.loop-part.bytes c.loop-part.invariant c.draw-drawn.new.page _ c.draw-drawn.result (rw c.at-part.ensures.lines at c.draw-drawn.ensures) refl (not-false c.draw-drawn.result.whole c.if-not-drawn.false) _
     c.next-c.ensures
-
-pub shape_of-page : goal.shape_of-page
-shape_of-page c =
-    filling_size c.args.p.now.sheet.now c.args.p.now.info c.args.from c.args.page.now c.loop-part.page c.loop-part.c c.loop-part.lines
-    c.loop-part.bytes c.loop-part.invariant
 
 pub returns : goal.returns
 returns c =

@@ -1,6 +1,5 @@
 -- `page::write_line` meets its contract. Assumes nothing.
 use mathlib.Core.Path.{sym, ap}
-use native.Mathlib.Omega.{arith}
 use lib.ListN.{take}
 use lib.Seq.{length-take-le}
 use Rattle.std.proofs.lemmas.Result.{err_from_is_err_and}
@@ -25,17 +24,6 @@ returns-in_err-found c =
     let h = accepted _ _ c.in_ok-examined.ensures in
     let e = line_turned _ h _ c.open-p.ensures.all_rows c.args.line c.args.page.now _ (rw c.open-p.ensures.same_sheet at c.in_err-found.ensures) in
     record { value = rw (p.1, p.2) (sym (ap (λ (w : Written). w.answer) e)); page_after = sym (ap (λ (w : Written). w.buffer) e) }
-
-pub slice_bounds-write-end : goal.slice_bounds-write-end
-slice_bounds-write-end c =
-    let h = accepted _ _ c.in_ok-examined.ensures in
-    omega (arith, (found_here _ h _ c.open-p.ensures.all_rows c.args.line c.args.page.now _ (rw c.open-p.ensures.same_sheet at c.in_ok-found.ensures)).1.1)
-
-pub slice_bounds-write-end-2 : goal.slice_bounds-write-end-2
-slice_bounds-write-end-2 c =
-    let h = accepted _ _ c.in_ok-examined.ensures in
-    let b = c.args.page.now in
-    sym (length-take-le _ b (omega (arith, (found_here _ h _ c.open-p.ensures.all_rows c.args.line b _ (rw c.open-p.ensures.same_sheet at c.in_ok-found.ensures)).1.1)))
 
 pub write-drawn-requires : goal.write-drawn-requires
 write-drawn-requires c =
