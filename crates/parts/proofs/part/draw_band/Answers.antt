@@ -39,12 +39,9 @@ slice_bounds-draw_rule-count c = part_room _ _ _ _ (rw (c.row_of-row.ensures.she
 pub slice_bounds-draw_rule-start : goal.slice_bounds-draw_rule-start
 slice_bounds-draw_rule-start c = part_room _ _ _ _ (rw (c.row_of-row.ensures.sheet, c.row_of-row.ensures.rows) at c.draw-text.ensures)
 
-<<<<<<< HEAD
 pub draw_rule-drawn-requires : goal.draw_rule-drawn-requires
 draw_rule-drawn-requires c = rw c.row_of-row.ensures.columns (c.args.p.now.opened.narrow, c.requires.known.1.rule)
 
-=======
->>>>>>> from-p
 pub overflow_add-result : goal.overflow_add-result
 overflow_add-result c =
     let some : 0 < c.args.here.left = omega (

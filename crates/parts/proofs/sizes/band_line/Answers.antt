@@ -13,7 +13,6 @@ pub row_of-row-requires : goal.row_of-row-requires
 row_of-row-requires c =
     (c.requires.known.0, band_there c.args.p.now.sheet.now c.args.p.now.info.columns.items c.args.style c.args.here c.args.n c.requires.n_in_bounds)
 
-<<<<<<< HEAD
 pub overflow_add-n : goal.overflow_add-n
 overflow_add-n c =
     let some = band_there c.args.p.now.sheet.now c.args.p.now.info.columns.items c.args.style c.args.here c.args.n c.requires.n_in_bounds in
@@ -24,17 +23,6 @@ shown-requires c =
     let some = band_there c.args.p.now.sheet.now c.args.p.now.info.columns.items c.args.style c.args.here c.args.n c.requires.n_in_bounds in (
       c.indicator.ensures.plain,
       (
-=======
-pub row_shown-pairs-requires : goal.row_shown-pairs-requires
-row_shown-pairs-requires c =
-    let some = band_there c.args.p.now.sheet.now c.args.p.now.info.columns.items c.args.style c.args.here c.args.n c.requires.n_in_bounds in
-    rw c.as_slice-columns.ensures.value (record {
-      drawable = (
-        drawable c.args.p.now.sheet.now c.args.p.now.info c.args.p.now.opened c.args.here c.requires.known.0 some,
-        (c.indicator-indicator.ensures.plain, accepted_short c.args.p.now.sheet.now c.args.p.now.opened.passes),
-      );
-      first_le_end = (
->>>>>>> from-p
         omega arith,
         omega (
           arith,
@@ -45,14 +33,11 @@ row_shown-pairs-requires c =
       ),
     )
 
-<<<<<<< HEAD
 pub overflow_add-result : goal.overflow_add-result
 overflow_add-result c =
     let some = band_there c.args.p.now.sheet.now c.args.p.now.info.columns.items c.args.style c.args.here c.args.n c.requires.n_in_bounds in
     omega (arith, c.requires.known.1.small, rw c.row_of-row.ensures.columns at c.shown.ensures.1, c.args.p.now.opened.views.most)
 
-=======
->>>>>>> from-p
 pub returns-then-n-row_lines : goal.returns-then-n-row_lines
 returns-then-n-row_lines c =
     let some = band_there c.args.p.now.sheet.now c.args.p.now.info.columns.items c.args.style c.args.here c.args.n c.requires.n_in_bounds in
