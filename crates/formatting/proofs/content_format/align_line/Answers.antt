@@ -26,11 +26,6 @@ copy-m-requires c =
     let z = area_total c.args.v c.args.alignment c.args.text.now c.args.marks.now c.args.spare c.spaces_before-b.result c.requires.spare c.spaces_before-b.ensures.0 in
     omega (arith, z, c.requires.marks_in_bounds, c.fill-p.ensures.value, c.fill-p.auto.dst, c.copy-q.ensures.value, c.copy-q.auto.dst)
 
-pub overflow_sub-spare : goal.overflow_sub-spare
-overflow_sub-spare c =
-    let z = area_total c.args.v c.args.alignment c.args.text.now c.args.marks.now c.args.spare c.spaces_before-b.result c.requires.spare c.spaces_before-b.ensures.0 in
-    omega (arith, c.spaces_before-b.ensures.1)
-
 pub overflow_add-spare : goal.overflow_add-spare
 overflow_add-spare c =
     let z = area_total c.args.v c.args.alignment c.args.text.now c.args.marks.now c.args.spare c.spaces_before-b.result c.requires.spare c.spaces_before-b.ensures.0 in

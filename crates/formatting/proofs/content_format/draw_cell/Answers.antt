@@ -4,20 +4,8 @@ use lib.ListN.{length}
 use Prim.Native.Nat.{◌+◌}
 use Rattle.buffer.specs.Put.{put_at}
 use Rattle.formatting.specs.Area.{area_in}
-use Rattle.formatting.proofs.Area.{line_in, shown_is, shown_columns, shown_inside, shown_spare}
+use Rattle.formatting.proofs.Area.{shown_is, shown_columns, shown_spare}
 use Rattle.formatting.proofs.content_format.draw_cell.Goals as goal
-
-pub line_at-text-requires : goal.line_at-text-requires
-line_at-text-requires c = c.requires.in_sheet.0.ends
-
-pub shorten-shown-requires : goal.shorten-shown-requires
-shorten-shown-requires c = line_in c.args.sheet.now c.args.v.width c.args.t c.requires.in_sheet.0 _ c.line_at-text.ensures
-
-pub slice_bounds-align_line-end : goal.slice_bounds-align_line-end
-slice_bounds-align_line-end c =
-    let x = shown_inside c.args.sheet.now c.args.v.width c.args.t c.requires.in_sheet.0 _ c.line_at-text.ensures c.args.indicator.now c.requires.in_sheet.1 c.args.cut c.marks_shown-m.result
-    c.marks_shown-m.ensures.0 c.marks_shown-m.ensures.1.1 c.marks_shown-m.ensures.1.0 c.shorten-shown.result c.shorten-shown.ensures in
-    x
 
 pub overflow_sub-width-3 : goal.overflow_sub-width-3
 overflow_sub-width-3 c =

@@ -7,12 +7,6 @@ use Rattle.buffer.proofs.Laws.{two}
 use Rattle.formatting.proofs.Area.{piece_is}
 use Rattle.formatting.proofs.content_format.draw_column.Goals as goal
 
-pub advance-next-requires : goal.advance-next-requires
-advance-next-requires c = let R = c.requires.ready.0 in (R.inside, (R.wide, R.delimiter))
-
-pub draw_edge-p-requires : goal.draw_edge-p-requires
-draw_edge-p-requires c = omega (arith, c.requires.last_in_bounds)
-
 pub draw_cell-q-requires : goal.draw_cell-q-requires
 draw_cell-q-requires c =
     let ind = c.args.indicator.now in

@@ -5,14 +5,6 @@ use Rattle.formatting.proofs.content_format.shorten.Goals as goal
 pub returns-then-line-width : goal.returns-then-line-width
 returns-then-line-width c = shorten_whole c.args.text.now c.args.line c.args.width c.requires c.if-line-width.true
 
-pub overflow_sub-line : goal.overflow_sub-line
-overflow_sub-line c = c.requires.order
-
-pub overflow_add-result : goal.overflow_add-result
-overflow_add-result c =
-    let k = line_bytes c.args.text.now c.args.line c.args.width c.requires in
-    omega (arith, k, c.requires.order, c.requires.within, c.if-line-width.false, c.well_formed)
-
 pub returns-then-line-start : goal.returns-then-line-start
 returns-then-line-start c = shorten-plain c.args.text.now c.args.line c.args.width c.requires c.if-line-width.false c.if-line-start.true
 

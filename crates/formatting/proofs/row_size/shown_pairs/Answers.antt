@@ -5,18 +5,6 @@ use Rattle.formatting.proofs.Area.{line_in, shown_columns, shown_bytes, shown_in
 use Rattle.formatting.proofs.Shown.{line-most, shown_less}
 use Rattle.formatting.proofs.row_size.shown_pairs.Goals as goal
 
-pub line_at-text-requires : goal.line_at-text-requires
-line_at-text-requires c = c.requires.0.line.ends
-
-pub overflow_sub-width : goal.overflow_sub-width
-overflow_sub-width c = omega (arith, c.marks_shown-m.ensures.1.1)
-
-pub shorten-shown-requires : goal.shorten-shown-requires
-shorten-shown-requires c = line_in c.args.sheet.now c.args.v.width c.args.t c.requires.0.line _ c.line_at-text.ensures
-
-pub overflow_sub-result : goal.overflow_sub-result
-overflow_sub-result c = c.shorten-shown.ensures.order
-
 pub overflow_sub-result-2 : goal.overflow_sub-result-2
 overflow_sub-result-2 c = shown_less _ c.args.t.line _ c.shorten-shown.result (line_in c.args.sheet.now c.args.v.width c.args.t c.requires.0.line _ c.line_at-text.ensures) c.shorten-shown.ensures
 

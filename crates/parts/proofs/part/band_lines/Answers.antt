@@ -6,9 +6,6 @@ use Rattle.parts.proofs.part.band_lines.Goals as goal
 pub returns-then-here-eq0 : goal.returns-then-here-eq0
 returns-then-here-eq0 c = band-none _ _ _ _ c.if-here-eq0.true
 
-pub row_of-requires : goal.row_of-requires
-row_of-requires c = (c.requires, omega (arith, c.if-here-eq0.false))
-
 pub overflow_add-result : goal.overflow_add-result
 overflow_add-result c =
     omega (

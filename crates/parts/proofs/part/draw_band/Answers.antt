@@ -15,9 +15,6 @@ returns-then-here-eq0 c =
     rw c.nothing.ensures (band-empty c.args.p.now.sheet.now c.args.p.now.info.columns.items c.args.style
     c.args.here c.args.first c.args.page.now c.if-here-eq0.true)
 
-pub row_of-row-requires : goal.row_of-row-requires
-row_of-row-requires c = (c.requires.known.0, omega (arith, c.if-here-eq0.false))
-
 pub draw-text-requires : goal.draw-text-requires
 draw-text-requires c =
     let R = c.row_of-row.ensures in
@@ -38,9 +35,6 @@ slice_bounds-draw_rule-count c = part_room _ _ _ _ (rw (c.row_of-row.ensures.she
 
 pub slice_bounds-draw_rule-start : goal.slice_bounds-draw_rule-start
 slice_bounds-draw_rule-start c = part_room _ _ _ _ (rw (c.row_of-row.ensures.sheet, c.row_of-row.ensures.rows) at c.draw-text.ensures)
-
-pub draw_rule-drawn-requires : goal.draw_rule-drawn-requires
-draw_rule-drawn-requires c = rw c.row_of-row.ensures.columns (c.args.p.now.opened.narrow, c.requires.known.1.rule)
 
 pub overflow_add-result : goal.overflow_add-result
 overflow_add-result c =

@@ -21,14 +21,6 @@ returns-then-p c = bytes-plain c.args.p.now.sheet.now c.args.p.now.info.columns.
 pub returns-then-here-eq0 : goal.returns-then-here-eq0
 returns-then-here-eq0 c = bytes-none c.args.p.now.sheet.now c.args.p.now.info.columns.items c.args.style c.args.here c.args.p.now.info.plain c.args.size c.requires.known.1 c.if-here-eq0.true
 
-pub row_of-row-requires : goal.row_of-row-requires
-row_of-row-requires c = (c.requires.known.0, omega (arith, c.if-here-eq0.false))
-
-pub row-r-requires : goal.row-r-requires
-row-r-requires c =
-    let some : 0 < c.args.here.left = omega (arith, c.if-here-eq0.false) in
-    rw c.row_of-row.ensures.sheet (some, c.requires.known.0.ends)
-
 pub overflow_mul-result-then-r-eq0 : goal.overflow_mul-result-then-r-eq0
 overflow_mul-result-then-r-eq0 c =
     let some : 0 < c.args.here.left = omega (arith, c.if-here-eq0.false) in

@@ -13,11 +13,6 @@ pub row_of-row-requires : goal.row_of-row-requires
 row_of-row-requires c =
     (c.requires.known.0, band_there c.args.p.now.sheet.now c.args.p.now.info.columns.items c.args.style c.args.here c.args.n c.requires.n_in_bounds)
 
-pub overflow_add-n : goal.overflow_add-n
-overflow_add-n c =
-    let some = band_there c.args.p.now.sheet.now c.args.p.now.info.columns.items c.args.style c.args.here c.args.n c.requires.n_in_bounds in
-    omega (arith, c.requires.n_in_bounds, bytes_few c.args.p.now.sheet.now c.args.p.now.info.columns.items c.args.style c.args.here c.args.p.now.info.plain c.args.size c.requires.known.1 some)
-
 pub shown-requires : goal.shown-requires
 shown-requires c =
     let some = band_there c.args.p.now.sheet.now c.args.p.now.info.columns.items c.args.style c.args.here c.args.n c.requires.n_in_bounds in (
@@ -32,11 +27,6 @@ shown-requires c =
         ),
       ),
     )
-
-pub overflow_add-result : goal.overflow_add-result
-overflow_add-result c =
-    let some = band_there c.args.p.now.sheet.now c.args.p.now.info.columns.items c.args.style c.args.here c.args.n c.requires.n_in_bounds in
-    omega (arith, c.requires.known.1.small, rw c.row_of-row.ensures.columns at c.shown.ensures.1, c.args.p.now.opened.views.most)
 
 pub returns-then-n-row_lines : goal.returns-then-n-row_lines
 returns-then-n-row_lines c =

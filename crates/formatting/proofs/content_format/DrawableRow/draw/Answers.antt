@@ -6,15 +6,9 @@ use Rattle.table.specs.Walk.{first_row}
 use Rattle.buffer.proofs.Laws.{lent}
 use Rattle.formatting.specs.Line.{line_bytes}
 use Rattle.formatting.proofs.RowText.{running_begins, running-length, running-room, running-on, running-full, running_ends}
-use Rattle.formatting.proofs.RowText.{stands_less, stands_measurable, line-some, too_long, short_enough}
+use Rattle.formatting.proofs.RowText.{stands_measurable, line-some, too_long, short_enough}
 use Rattle.formatting.proofs.content_format.DrawableRow.draw.Goals as goal
 use Rattle.formatting.proofs.content_format.DrawableRow.draw.Goals.{then-room-most+else-not-fits, else-room-most}
-
-pub enter-entered-requires : goal.enter-entered-requires
-enter-entered-requires c = refl
-
-pub most_bytes-most-requires : goal.most_bytes-most-requires
-most_bytes-most-requires c = (c.requires.sized.small, c.args.self.now.drawable.views.most)
 
 pub loop-more-init : goal.loop-more-init
 loop-more-init c =
@@ -22,44 +16,11 @@ loop-more-init c =
     running_begins c.args.self.now.sheet.now c.args.self.now.columns.now c.args.style (first_row c.args.self.now.sheet.now c.args.self.now.here) c.args.first
     c.args.self.now.drawable.views c.args.page.now _ _ e.stands
 
-pub is_last-last-requires : goal.is_last-last-requires
-is_last-last-requires c =
-    let e = c.enter-entered.ensures.entered in
-    let r = first_row c.args.self.now.sheet.now c.args.self.now.here in
-    let t = c.loop-more-test.true in
-    omega (
-      arith,
-      stands_less c.args.self.now.sheet.now c.args.self.now.columns.now r c.args.self.now.drawable.views c.loop-more.line c.loop-more.more
-          c.loop-more.state c.loop-more.invariant.stands t,
-      c.requires.sized.bounded.few,
-    )
-
 pub overflow_sub-room : goal.overflow_sub-room
 overflow_sub-room c =
     let e = c.enter-entered.ensures.entered in
     let r = first_row c.args.self.now.sheet.now c.args.self.now.here in
     running-room c.args.self.now.sheet.now c.args.self.now.columns.now c.args.style r c.args.first c.args.self.now.drawable.views c.args.page.now c.loop-more.page
-    c.loop-more.state c.loop-more.more c.loop-more.at c.loop-more.line c.loop-more.invariant
-
-pub fits_after_all-fits-requires : goal.fits_after_all-fits-requires
-fits_after_all-fits-requires c =
-    let e = c.enter-entered.ensures.entered in
-    let r = first_row c.args.self.now.sheet.now c.args.self.now.here in
-    let t = c.loop-more-test.true in
-    let f = stands_less c.args.self.now.sheet.now c.args.self.now.columns.now r c.args.self.now.drawable.views c.loop-more.line c.loop-more.more c.loop-more.state c.loop-more.invariant.stands t in
-    (c.requires.marks.plain, (omega (arith, f, c.requires.sized.bounded.few), c.requires.sized.small))
-
-pub overflow_sub-result : goal.overflow_sub-result
-overflow_sub-result c =
-    let e = c.enter-entered.ensures.entered in
-    let r = first_row c.args.self.now.sheet.now c.args.self.now.here in
-    c.loop-more.invariant.onward
-
-pub shape_of-page-then-not-fits : goal.shape_of-page-then-not-fits
-shape_of-page-then-not-fits c =
-    let e = c.enter-entered.ensures.entered in
-    let r = first_row c.args.self.now.sheet.now c.args.self.now.here in
-    running-length c.args.self.now.sheet.now c.args.self.now.columns.now c.args.style r c.args.first c.args.self.now.drawable.views c.args.page.now c.loop-more.page
     c.loop-more.state c.loop-more.more c.loop-more.at c.loop-more.line c.loop-more.invariant
 
 pub returns-then-not-fits : goal.returns-then-not-fits
@@ -75,20 +36,6 @@ returns-then-not-fits c =
     (too_long c.args.self.now.plain c.args.size _ _ (length c.args.self.now.columns.now) _
     (omega (arith, c.if-room-most.true, c.most_bytes-most.ensures))
     m.each m.shown (sym c.fits_after_all-fits.ensures ∙ c.if-not-fits.true))
-
-pub slice_bounds-write_line-count : goal.slice_bounds-write_line-count
-slice_bounds-write_line-count c =
-    let e = c.enter-entered.ensures.entered in
-    let r = first_row c.args.self.now.sheet.now c.args.self.now.here in
-    running-room c.args.self.now.sheet.now c.args.self.now.columns.now c.args.style r c.args.first c.args.self.now.drawable.views c.args.page.now c.loop-more.page
-    c.loop-more.state c.loop-more.more c.loop-more.at c.loop-more.line c.loop-more.invariant
-
-pub slice_bounds-write_line-start : goal.slice_bounds-write_line-start
-slice_bounds-write_line-start c =
-    let e = c.enter-entered.ensures.entered in
-    let r = first_row c.args.self.now.sheet.now c.args.self.now.here in
-    running-room c.args.self.now.sheet.now c.args.self.now.columns.now c.args.style r c.args.first c.args.self.now.drawable.views c.args.page.now c.loop-more.page
-    c.loop-more.state c.loop-more.more c.loop-more.at c.loop-more.line c.loop-more.invariant
 
 pub write_line-l-requires : goal.write_line-l-requires
 write_line-l-requires c =
@@ -136,18 +83,6 @@ overflow_add-at c =
       c.well_formed,
     )
 
-pub overflow_add-line : goal.overflow_add-line
-overflow_add-line c =
-    let e = c.enter-entered.ensures.entered in
-    let r = first_row c.args.self.now.sheet.now c.args.self.now.here in
-    let t = c.loop-more-test.true in
-    omega (
-      arith,
-      stands_less c.args.self.now.sheet.now c.args.self.now.columns.now r c.args.self.now.drawable.views c.loop-more.line c.loop-more.more
-          c.loop-more.state c.loop-more.invariant.stands t,
-      c.requires.sized.bounded.few,
-    )
-
 pub loop-more-smaller : goal.loop-more-smaller
 loop-more-smaller c =
     let e = c.enter-entered.ensures.entered in
@@ -193,19 +128,6 @@ loop-more-preserved c =
     c.loop-more.state c.loop-more.more c.loop-more.at c.loop-more.line c.loop-more.invariant t c.args.indicator.now c.requires.marks _ e.limit c.is_last-last.result
     c.is_last-last.ensures w _ c.write_line-l.new.page _ c.write_line-l.result.more c.has_line-more.result c.write_line-l.result.written c.write_line-l.ensures.page_after refl c.write_line-l.ensures.written c.write_line-l.ensures.after_all.0
     c.write_line-l.ensures.after_all.1 c.has_line-more.ensures
-
-pub overflow_sub-result-2 : goal.overflow_sub-result-2
-overflow_sub-result-2 c =
-    let e = c.enter-entered.ensures.entered in
-    let r = first_row c.args.self.now.sheet.now c.args.self.now.here in
-    c.loop-more.invariant.onward
-
-pub shape_of-page : goal.shape_of-page
-shape_of-page c =
-    let e = c.enter-entered.ensures.entered in
-    let r = first_row c.args.self.now.sheet.now c.args.self.now.here in
-    running-length c.args.self.now.sheet.now c.args.self.now.columns.now c.args.style r c.args.first c.args.self.now.drawable.views c.args.page.now c.loop-more.page
-    c.loop-more.state c.loop-more.more c.loop-more.at c.loop-more.line c.loop-more.invariant
 
 pub returns : goal.returns
 returns c =

@@ -1,4 +1,3 @@
-use native.Mathlib.Omega.{arith}
 use lib.ListN.{length-append}
 use Rattle.row.proofs.ByColumn.{walked-here, known-here}
 use Rattle.row.proofs.Heights.{adding_begins, adding-on, adding_done}
@@ -30,12 +29,6 @@ cell_shown-sum-requires c =
       cells_in_bounds = (h.inside, k);
       first_le_end = c.requires.1;
     }
-
-pub overflow_add-sum : goal.overflow_add-sum
-overflow_add-sum c =
-    let i = c.loop-v.invariant in
-    let h = walked-here _ c.args.self.now.columns.now _ c.loop-v.v-iterator c.next.new.self _ i.0.walking c.in-Some.v c.in-Some.here c.in-Some.ensures.steps in
-    omega (arith, i.0.small, h.within, c.args.self.now.drawable.rising.most, c.cell_shown-sum.ensures.1)
 
 pub loop-v-preserved : goal.loop-v-preserved
 loop-v-preserved c =
