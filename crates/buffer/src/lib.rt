@@ -22,7 +22,7 @@ pub fn fill(dst: &mut [u8], at: usize, n: usize, b: u8) -> usize
     end
 }
 
-// Copies a text; gives the place after. By `copy_from_slice` each text is a call, however short, and pages of short lines take an eighth longer.
+// Copies a text; gives the place after. By `copy_from_slice` each text is a call, however short, and pages of short lines take a tenth longer.
 pub fn copy(dst: &mut [u8], at: usize, src: &[u8]) -> usize
     requires { at + length src.now ≤ length dst.old }
     ensures value { result ≡ at + length src.now }

@@ -136,16 +136,6 @@ module _ (s : List ℕ) (p : DisplayInfo) (k : ℕ) (c : Cursor) (left : ℕ) (R
         passed = omega (arith, here-lines, R.passed);
       }
 
-  pub reaching_ends : is_end c.stage ≡ true → SoughtIs s p k (record { cursor = c; passed = k - left })
-  reaching_ends e = record {
-    lines = R.lines;
-    at = R.at;
-    within = omega arith;
-    passed = R.passed;
-    reached = λ f. absurd (true≢false (sym e ∙ f));
-    some = λ f. absurd (true≢false (sym e ∙ f));
-  }
-
 module _ (s : List ℕ) (p : DisplayInfo) (k : ℕ) (r : Sought) (S : SoughtIs s p k r) where
   -- at the end all lines are passed
   pub all_passed : is_end r.cursor.stage ≡ true → r.passed ≡ length (lines_of s p)
@@ -213,9 +203,6 @@ module _ (s : List ℕ) (p : DisplayInfo) (from : Cursor) (b page : List ℕ) (c
   pub filling-room : at ≤ length page
   filling-room = part_room _ b page _ G.part
 
-  pub filling_size : length page ≡ length b
-  filling_size = part_length _ b page _ G.part
-
   ahead_is : ahead s p c ≡ drop c.line (part_lines s p c) ++ rest_lines s p c
   unfolding ahead
   ahead_is = refl
@@ -233,9 +220,6 @@ module _ (s : List ℕ) (p : DisplayInfo) (from : Cursor) (b page : List ℕ) (c
         (record { lines = n + r.lines; bytes = at + r.bytes; whole = r.whole })
     both = part_join (take n (ahead s p from)) (drop c.line (part_lines s p c)) b page d ys (record { lines = n; bytes = at; whole = true }) r
         G.part refl P e
-
-    pub filling_kept : length d ≡ length b
-    filling_kept = part_length _ b d _ both
 
     pub filling-lines : n + r.lines ≤ length (ahead s p from)
     filling-lines = omega (
