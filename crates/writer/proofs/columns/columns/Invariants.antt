@@ -6,5 +6,5 @@ use Rattle.writer.proofs.Walks.{Left}
 use Rattle.writer.proofs.columns.columns.Given as goal
 
 abbrev pub invariant-loop : goal.invariant-loop
-invariant-loop l = Left (λ u. walked column l.numbers [] u) l.end l.counter (state (walk_of l.at) l.sheet)
-    (again l.end (λ u. walked column l.numbers [] u) (state (walk_of l.initial.at) l.initial.sheet))
+invariant-loop l = Left (λ u. walked column l.table.numbers.now [] u) l.end l.counter (state (walk_of l.at) l.sheet)
+    (again l.end (λ u. walked column l.table.numbers.now [] u) (state (walk_of l.initial.at) l.initial.sheet))

@@ -10,7 +10,7 @@ returns-in_err-at c =
     let p = err_from_is_err_and c.from_residual-in_err-at.result c.from_residual-in_err-at.ensures.1 in
     rw (p.1, p.2)
     (counted-walked line _ _ _ _ _ _ _ _ c.in_ok-count.ensures.sheet_after c.in_ok-count.ensures.value
-    (left_stopped line _ c.args.text.now _ _ _ _ _ c.loop-test.true c.loop.invariant c.in_err-at.ensures refl))
+    (left_stopped line _ c.args.table.now.text.now _ _ _ _ _ c.loop-test.true c.loop.invariant c.in_err-at.ensures refl))
 
 pub loop-preserved : goal.loop-preserved
 loop-preserved c = left_again _ _ _ _ _ _ c.loop-test.true c.loop.invariant c.in_ok-at.ensures

@@ -5,5 +5,5 @@ use Rattle.writer.proofs.Walks.{Left}
 use Rattle.writer.proofs.rows.lines.Given as goal
 
 abbrev pub invariant-loop : goal.invariant-loop
-invariant-loop l = Left (λ u. walked line l.numbers l.text u) l.end l.counter (state (walk_of l.at) l.sheet)
-    (again l.end (λ u. walked line l.numbers l.text u) (state (walk_of l.initial.at) l.initial.sheet))
+invariant-loop l = Left (λ u. walked line l.table.numbers.now l.table.text.now u) l.end l.counter (state (walk_of l.at) l.sheet)
+    (again l.end (λ u. walked line l.table.numbers.now l.table.text.now u) (state (walk_of l.initial.at) l.initial.sheet))

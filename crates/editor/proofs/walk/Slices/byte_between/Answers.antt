@@ -1,6 +1,6 @@
--- `editor::field::byte_between` meets its contract. Assumes nothing.
+-- `editor::walk::Slices::byte_between` meets its contract. Assumes nothing.
 use Rattle.editor.proofs.Fields.{byte_from}
-use Rattle.editor.proofs.field.byte_between.Goals as goal
+use Rattle.editor.proofs.walk.Slices.byte_between.Goals as goal
 
 pub returns-clause-sheet_after : goal.returns-clause-sheet_after
 returns-clause-sheet_after c =

@@ -1,7 +1,7 @@
--- `editor::field::zero_word` meets its contract. Assumes nothing.
+-- `editor::walk::Slices::zero_word` meets its contract. Assumes nothing.
 use mathlib.Core.Path.{refl}
 use Rattle.editor.proofs.Fields.{zeros_entered}
-use Rattle.editor.proofs.field.zero_word.Goals as goal
+use Rattle.editor.proofs.walk.Slices.zero_word.Goals as goal
 
 pub returns : goal.returns
 returns c =

@@ -1,7 +1,7 @@
--- `editor::field::cell_count` meets its contract. Assumes nothing.
+-- `editor::walk::Slices::cell_count` meets its contract. Assumes nothing.
 use mathlib.Core.Path.{refl}
 use Rattle.editor.proofs.Fields.{count_entered}
-use Rattle.editor.proofs.field.cell_count.Goals as goal
+use Rattle.editor.proofs.walk.Slices.cell_count.Goals as goal
 
 pub returns-clause-sheet_after : goal.returns-clause-sheet_after
 returns-clause-sheet_after c =

@@ -1,7 +1,7 @@
--- `editor::field::word_to` meets its contract. Assumes nothing.
+-- `editor::walk::Slices::word_to` meets its contract. Assumes nothing.
 use mathlib.Core.Path.{refl}
 use Rattle.editor.proofs.Fields.{word_entered}
-use Rattle.editor.proofs.field.word_to.Goals as goal
+use Rattle.editor.proofs.walk.Slices.word_to.Goals as goal
 
 pub returns : goal.returns
 returns c =

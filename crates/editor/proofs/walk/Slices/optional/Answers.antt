@@ -1,6 +1,6 @@
--- `editor::field::optional` meets its contract. Assumes nothing.
+-- `editor::walk::Slices::optional` meets its contract. Assumes nothing.
 use Rattle.editor.proofs.Fields.{byte_from}
-use Rattle.editor.proofs.field.optional.Goals as goal
+use Rattle.editor.proofs.walk.Slices.optional.Goals as goal
 
 pub returns : goal.returns
 returns c =
