@@ -27,26 +27,26 @@ unused_first p v h = sym (ap (λ (b : Bool). elim b as (λ x. ℕ) [ true ↦ ca
 -- ---- a field of one byte
 
 -- nothing is entered where the number was missing
-module _ (ns : List ℕ) (w r : Walk) (d : List ℕ) (taken : r ≡ moved (number_at ns (cursor_of w)).after w) (m : r.missing ≡ true) where
+module _ (ns ts : List ℕ) (w r : Walk) (d : List ℕ) (taken : r ≡ moved (number_at ns (cursor_of w)).after w) (m : r.missing ≡ true) where
   pub byte_lacking : (good : ℕ → Bool) (n : ℕ) → state r d ≡ byte_entered good n ns (state w d)
   unfolding byte_entered
   byte_lacking good n =
       let v = (number_at ns (cursor_of w)).value in
       missing_entered (passes (good v) n w.place 0) (low v ∷ []) r d m ∙ rw taken
 
-  pub word_lacking : (most : ℕ) → state r d ≡ walked (word_to most) ns [] (state w d)
+  pub word_lacking : (most : ℕ) → state r d ≡ walked (word_to most) ns ts (state w d)
   unfolding walked field_entered takes
   word_lacking most =
       let v = (number_at ns (cursor_of w)).value in
       missing_entered (judges (word_to most) v w.place) (map low (writes (word_to most) v)) r d m ∙ rw taken
 
-  pub zeros_lacking : state r d ≡ walked zero_word ns [] (state w d)
+  pub zeros_lacking : state r d ≡ walked zero_word ns ts (state w d)
   unfolding walked field_entered takes
   zeros_lacking =
       let v = (number_at ns (cursor_of w)).value in
       missing_entered (judges zero_word v w.place) (map low (writes zero_word v)) r d m ∙ rw taken
 
-  pub count_lacking : (columns : ℕ) → state r d ≡ walked (cell_count columns) ns [] (state w d)
+  pub count_lacking : (columns : ℕ) → state r d ≡ walked (cell_count columns) ns ts (state w d)
   unfolding walked field_entered takes
   count_lacking columns =
       let v = (number_at ns (cursor_of w)).value in
@@ -124,9 +124,9 @@ module _ (v columns p : ℕ) where
   count_fine h k = rw (within most_columns h, within columns k)
 
 -- what was taken and entered is what the description says, where it is noted as the code noted it
-module _ (ns : List ℕ) (w r u : Walk) (d e : List ℕ) (v : ℕ) (f : v ≡ (number_at ns (cursor_of w)).value) (g : r ≡ moved (number_at ns (cursor_of w)).after w) where
+module _ (ns ts : List ℕ) (w r u : Walk) (d e : List ℕ) (v : ℕ) (f : v ≡ (number_at ns (cursor_of w)).value) (g : r ≡ moved (number_at ns (cursor_of w)).after w) where
   pub word_entered : (b : Bool) (most : ℕ) → b ≡ leb v most
-      → state u e ≡ entered (passes b 5 r.place 0) (map low (writes word v)) (state r d) → state u e ≡ walked (word_to most) ns [] (state w d)
+      → state u e ≡ entered (passes b 5 r.place 0) (map low (writes word v)) (state r d) → state u e ≡ walked (word_to most) ns ts (state w d)
   unfolding walked field_entered takes judges writes thence
   word_entered b most h k =
       let p = w.place in
@@ -136,7 +136,7 @@ module _ (ns : List ℕ) (w r u : Walk) (d e : List ℕ) (v : ℕ) (f : v ≡ (n
       (map low (writes word n)) (state (moved (number_at ns (cursor_of w)).after w) d))
 
   pub zeros_entered : (b : Bool) (q : ℕ) → b ≡ eqb v 0 → q ≡ unused_place r.place v
-      → state u e ≡ entered (passes b 8 q 0) (map low (writes word v)) (state r d) → state u e ≡ walked zero_word ns [] (state w d)
+      → state u e ≡ entered (passes b 8 q 0) (map low (writes word v)) (state r d) → state u e ≡ walked zero_word ns ts (state w d)
   unfolding walked field_entered takes judges writes
   zeros_entered b q h i k =
       let p = w.place in
@@ -146,7 +146,7 @@ module _ (ns : List ℕ) (w r u : Walk) (d e : List ℕ) (v : ℕ) (f : v ≡ (n
       (map low (writes word n)) (state (moved (number_at ns (cursor_of w)).after w) d))
 
   pub count_entered : (a b : Bool) (m columns : ℕ) → a ≡ between 0 most_columns v → b ≡ (a && between 0 columns v) → m ≡ count_fault a
-      → state u e ≡ entered (passes b m r.place 0) (v % 256 ∷ []) (state r d) → state u e ≡ walked (cell_count columns) ns [] (state w d)
+      → state u e ≡ entered (passes b m r.place 0) (v % 256 ∷ []) (state r d) → state u e ≡ walked (cell_count columns) ns ts (state w d)
   unfolding walked field_entered takes judges writes thence
   count_entered a b m columns h i j k =
       let p = w.place in

@@ -1,7 +1,7 @@
 // The fields of a sheet that are numbers: taken from the editor's numbers, judged, put where there is room.
 #![tactic(auto, using(crate::proofs::Laws::numbers))]
 
-ghost use Rattle.std.specs.Prelude.{◌≡◌, [], ◌&&◌, IfOk};
+ghost use Rattle.std.specs.Prelude.{◌≡◌, ◌&&◌, IfOk};
 ghost use Rattle.rules.specs.Field as field;
 ghost use Rattle.rules.specs.Description as description;
 ghost use Rattle.rules.specs.Format as format;
@@ -115,7 +115,7 @@ impl Slices<'_> {
 
     // Two bytes, up to `most`.
     pub fn word_to(&self, sheet: &mut [u8], from: Walk, most: u16) -> Result<Walk, Missing>
-        ensures { state (walked_to result) sheet.new ≡ walked (description.word_to most) self.now.numbers.now [] (state (walk_of from) sheet.old) }
+        ensures { state (walked_to result) sheet.new ≡ walked (description.word_to most) self.now.numbers.now self.now.text.now (state (walk_of from) sheet.old) }
     {
         let taken = self.number(from)?;
         let fault = walk::fault_unless(taken.value <= most, Reason::BeyondLimits, taken.next.place);
@@ -124,7 +124,7 @@ impl Slices<'_> {
 
     // Two bytes of an unused width.
     pub fn zero_word(&self, sheet: &mut [u8], from: Walk) -> Result<Walk, Missing>
-        ensures { state (walked_to result) sheet.new ≡ walked description.zero_word self.now.numbers.now [] (state (walk_of from) sheet.old) }
+        ensures { state (walked_to result) sheet.new ≡ walked description.zero_word self.now.numbers.now self.now.text.now (state (walk_of from) sheet.old) }
     {
         let taken = self.number(from)?;
         let place = unused_place(taken.next.place, taken.value);
@@ -135,7 +135,7 @@ impl Slices<'_> {
     // A cell count.
     pub fn cell_count(&self, sheet: &mut [u8], from: Walk, columns: u16) -> Result<Field, Missing>
         ensures sheet_after { state (field_to result) sheet.new
-            ≡ walked (format.cell_count columns) self.now.numbers.now [] (state (walk_of from) sheet.old) }
+            ≡ walked (format.cell_count columns) self.now.numbers.now self.now.text.now (state (walk_of from) sheet.old) }
         ensures value { IfOk result (λ f. f.value ≡ (slices.number_at self.now.numbers.now (cursor_of (walk_of from))).value) }
     {
         let taken = self.number(from)?;

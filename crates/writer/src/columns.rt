@@ -1,5 +1,5 @@
 // The columns of the editor's table, nine numbers each.
-ghost use Rattle.std.specs.Prelude.{◌≡◌, [], IfOk};
+ghost use Rattle.std.specs.Prelude.{◌≡◌, IfOk};
 ghost use Rattle.rules.specs.Sheet.{most_columns};
 ghost use Rattle.rules.specs.Description as description;
 ghost use Rattle.rules.specs.Format as format;
@@ -13,8 +13,9 @@ use editor::walk::{Missing, Slices, Walk};
 use rules::Reason;
 
 // A width, of which an unused one is all zero.
+// From here on stand the check's fields (crate `sheet`) again: a trait for both was tried, whose laws would speak of all formats, and such a law is refused (`expected type Type 0, but this has type Type 1`).
 fn width(table: &Slices<'_>, sheet: &mut [u8], from: Walk, used: bool) -> Result<Walk, Missing>
-    ensures { state (walked_to result) sheet.new ≡ walked (format.width used) table.now.numbers.now [] (state (walk_of from) sheet.old) }
+    ensures { state (walked_to result) sheet.new ≡ walked (format.width used) table.now.numbers.now table.now.text.now (state (walk_of from) sheet.old) }
 {
     if !used {
         let value = table.within(sheet, from, 0, 0, Reason::NotZero)?;
@@ -27,7 +28,7 @@ fn width(table: &Slices<'_>, sheet: &mut [u8], from: Walk, used: bool) -> Result
 
 // A constraint's code says which of the two widths behind it are used.
 fn constraint(table: &Slices<'_>, sheet: &mut [u8], from: Walk) -> Result<Walk, Missing>
-    ensures { state (walked_to result) sheet.new ≡ answer.constraint_walked table.now.numbers.now (state (walk_of from) sheet.old) }
+    ensures { state (walked_to result) sheet.new ≡ answer.constraint_walked table.now.numbers.now table.now.text.now (state (walk_of from) sheet.old) }
 {
     let code = table.byte_between(sheet, from, 0, 6, Reason::UnknownCode)?;
     let second = width(table, sheet, code.walk, 3 <= code.value)?;
@@ -35,7 +36,7 @@ fn constraint(table: &Slices<'_>, sheet: &mut [u8], from: Walk) -> Result<Walk, 
 }
 
 fn column(table: &Slices<'_>, sheet: &mut [u8], from: Walk) -> Result<Walk, Missing>
-    ensures { state (walked_to result) sheet.new ≡ walked format.column table.now.numbers.now [] (state (walk_of from) sheet.old) }
+    ensures { state (walked_to result) sheet.new ≡ walked format.column table.now.numbers.now table.now.text.now (state (walk_of from) sheet.old) }
 {
     let right = table.within(sheet, from, 0, 20, Reason::BeyondLimits)?;
     let delimiter = table.within(sheet, right, 0, 20, Reason::BeyondLimits)?;
@@ -47,7 +48,7 @@ fn column(table: &Slices<'_>, sheet: &mut [u8], from: Walk) -> Result<Walk, Miss
 // The columns, with their count: rows are held to it.
 pub fn columns(table: &Slices<'_>, sheet: &mut [u8], from: Walk) -> Result<Field, Missing>
     ensures sheet_after { state (field_to result) sheet.new
-        ≡ walked (description.counted 0 most_columns format.column) table.now.numbers.now [] (state (walk_of from) sheet.old) }
+        ≡ walked (description.counted 0 most_columns format.column) table.now.numbers.now table.now.text.now (state (walk_of from) sheet.old) }
     ensures value { IfOk result (λ f. f.value ≡ (slices.number_at table.now.numbers.now (cursor_of (walk_of from))).value) }
 {
     let count = table.byte_between(sheet, from, 0, field::MOST, Reason::BeyondLimits)?;

@@ -5,5 +5,5 @@ use Rattle.editor.proofs.walk.Slices.cell_count.Goals as goal
 
 pub returns-clause-sheet_after : goal.returns-clause-sheet_after
 returns-clause-sheet_after c =
-    count_entered _ _ _ _ _ _ _ c.in_ok-taken.ensures.value c.in_ok-taken.ensures.next _ _ _ _ refl refl refl
+    count_entered _ _ _ _ _ _ _ _ c.in_ok-taken.ensures.value c.in_ok-taken.ensures.next _ _ _ _ refl refl refl
     (rw (← c.count_fault-fault.ensures) c.enter_byte.ensures)

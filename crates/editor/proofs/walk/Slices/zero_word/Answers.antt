@@ -5,5 +5,5 @@ use Rattle.editor.proofs.walk.Slices.zero_word.Goals as goal
 
 pub returns : goal.returns
 returns c =
-    zeros_entered _ _ _ _ _ _ _ c.in_ok-taken.ensures.value c.in_ok-taken.ensures.next _ _ refl c.unused_place-place.ensures
+    zeros_entered _ _ _ _ _ _ _ _ c.in_ok-taken.ensures.value c.in_ok-taken.ensures.next _ _ refl c.unused_place-place.ensures
     (rw (← c.fault_unless-fault.ensures) c.enter_word.ensures)
