@@ -53,11 +53,12 @@ module _ (ns ts : List ℕ) (w r : Walk) (d : List ℕ) (taken : r ≡ moved (nu
       missing_entered (judges (cell_count columns) v w.place) (map low (writes (cell_count columns) v)) r d m ∙ rw taken
 
 -- entered with the number that was taken
-pub byte_from : (good : ℕ → Bool) (n : ℕ) (ns : List ℕ) (w r u : Walk) (d e : List ℕ) (v : ℕ) (b : Bool)
-    → v ≡ (number_at ns (cursor_of w)).value → r ≡ moved (number_at ns (cursor_of w)).after w → b ≡ good v
-    → state u e ≡ entered (passes b n r.place 0) (v % 256 ∷ []) (state r d) → state u e ≡ byte_entered good n ns (state w d)
+pub byte_steps : (good : ℕ → Bool) (n : ℕ) (ns : List ℕ) (w : Walk) (d : List ℕ)
+    → byte_entered good n ns (state w d)
+    ≡ entered (passes (good (number_at ns (cursor_of w)).value) n w.place 0) (low (number_at ns (cursor_of w)).value ∷ [])
+    (state (moved (number_at ns (cursor_of w)).after w) d)
 unfolding byte_entered
-byte_from good n ns w r u d e v b f g h k = k ∙ rw (h, g, f)
+byte_steps good n ns w d = refl
 
 -- what it comes to, whatever the test and the fault
 pub byte-walked : (good : ℕ → Bool) (fault : Fault) (ns ts : List ℕ) (s : State)
@@ -156,3 +157,28 @@ module _ (ns ts : List ℕ) (w r u : Walk) (d e : List ℕ) (v : ℕ) (f : v ≡
       k ∙ rw (j, i, h, g, f)
       (noted-alike (passes (x && y) (count_fault x) p 0) (judges (cell_count columns) n p) (count-noted x y p (p + 1))
       (low n ∷ []) (state (moved (number_at ns (cursor_of w)).after w) d))
+
+-- the same as equations
+module _ (ns ts : List ℕ) (w : Walk) (d : List ℕ) where
+  abbrev given : ℕ
+  given = (number_at ns (cursor_of w)).value
+
+  abbrev behind : State
+  behind = state (moved (number_at ns (cursor_of w)).after w) d
+
+  pub word_steps : (most : ℕ) → walked (word_to most) ns ts (state w d) ≡ entered (passes (leb given most) 5 w.place 0) (map low (writes word given)) behind
+  word_steps most =
+      let x = entered (passes (leb given most) 5 w.place 0) (map low (writes word given)) behind in
+      sym (word_entered ns ts w behind.walk x.walk d x.sheet given refl refl (leb given most) most refl refl)
+
+  pub zeros_steps : walked zero_word ns ts (state w d) ≡ entered (passes (eqb given 0) 8 (unused_place w.place given) 0) (map low (writes word given)) behind
+  zeros_steps =
+      let x = entered (passes (eqb given 0) 8 (unused_place w.place given) 0) (map low (writes word given)) behind in
+      sym (zeros_entered ns ts w behind.walk x.walk d x.sheet given refl refl (eqb given 0) (unused_place w.place given) refl refl refl)
+
+  pub count_steps : (columns : ℕ) → walked (cell_count columns) ns ts (state w d)
+      ≡ entered (passes (between 0 most_columns given && between 0 columns given) (count_fault (between 0 most_columns given)) w.place 0) (low given ∷ []) behind
+  count_steps columns =
+      let a = between 0 most_columns given in
+      let x = entered (passes (a && between 0 columns given) (count_fault a) w.place 0) (low given ∷ []) behind in
+      sym (count_entered ns ts w behind.walk x.walk d x.sheet given refl refl a (a && between 0 columns given) (count_fault a) columns refl refl refl refl)

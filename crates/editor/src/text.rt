@@ -2,10 +2,9 @@
 #![tactic(auto, using(crate::proofs::Laws::texts))]
 
 ghost use Rattle.std.specs.Prelude.{◌≡◌, ◌∷◌, map, ◌<◌, length};
-ghost use Rattle.rules.specs.Editor as slices;
 ghost use Rattle.rules.specs.Steps.{read_to};
 ghost use Rattle.rules.specs.Writer as writer;
-ghost use Rattle.editor.specs.Walk.{state, walked, entered, cursor_of, moved, noted, stamped, walk_of, walked_to};
+ghost use Rattle.editor.specs.Walk.{state, walked, entered, noted, stamped, walk_of, walked_to};
 ghost use Rattle.editor.specs.Walk as definition;
 
 use super::walk;

@@ -86,6 +86,7 @@ impl Slices<'_> {
 }
 
 // A place further on, exact up to the longest sheet.
+#[tactic(auto, unfolding(crate::specs::Walk::cap))]
 pub fn further(place: usize, more: usize) -> usize
     ensures { result ≡ definition.cap (place + more) }
 {
@@ -124,6 +125,7 @@ pub fn note(from: Walk, fault: Option<Refusal>) -> Walk
 }
 
 // The next field starts so many bytes further on.
+#[tactic(auto, unfolding(crate::specs::Walk::advanced))]
 pub fn advance(from: Walk, size: usize) -> Walk
     ensures { walk_of result ≡ advanced size (walk_of from) }
 {

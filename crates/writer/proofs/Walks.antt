@@ -10,7 +10,7 @@ use Rattle.rules.specs.Sheet.{most_columns}
 use Rattle.rules.specs.Style.{style_characters}
 use Rattle.rules.specs.Field.{between, printable, printable_or_zero}
 use Rattle.rules.specs.Description.{Format, byte, word, only, zero_word, text, cell_text, listed, give, next, writes}
-use Rattle.rules.specs.Description.{within, code, word_to, optional, counted, unknown_code, beyond_limits, bad_character, not_zero, wrong_edition}
+use Rattle.rules.specs.Description.{code, word_to, optional, counted, unknown_code, beyond_limits, bad_character, not_zero, wrong_edition}
 use Rattle.rules.specs.Format.{width, column, line, cell_by, cell, cell_count, row_by, row, table_by, table}
 use Rattle.rules.specs.Editor.{Cursor, Taken, number_at, bytes_at, text_taken, several_taken, takes}
 use Rattle.rules.specs.Writer.{passes, judges}

@@ -62,6 +62,7 @@ fn judge(table: &Slices<'_>) -> Result<Walk, Missing>
 }
 
 // A table that isn't too long: its first fault; 22 where its sheet doesn't fit.
+#[tactic(auto, using(crate::proofs::Laws::fits))]
 fn fit(fault: Option<Refusal>, place: usize, room: usize) -> Result<(), Refusal>
     ensures { answer.decided_to result ≡ answer.fitting (number_in fault) (place_in fault) place room }
 {
