@@ -123,10 +123,6 @@ word-put d p v h k l =
     ∙ put-put d p (v % 256 ∷ []) (v / 256 ∷ []) (p + 1) refl (omega arith)
     ∙ (stamped-all d p (v % 256 ∷ v / 256 ∷ []) (omega arith) ∙ rw (a, b))
 
--- its second byte has room too
-pub next_there : (d : List ℕ) (p v : ℕ) → 2 ≤ length d - p → p + 1 < length (set d p v)
-next_there d p v h = omega (arith, length-set d p v)
-
 -- ---- a field
 
 pub missing_entered : (y : Step) (l : List ℕ) (w : Walk) (d : List ℕ) → w.missing ≡ true → state w d ≡ entered y l (state w d)
@@ -141,6 +137,14 @@ pub there_entered : (y : Step) (l : List ℕ) (w r : Walk) (d e : List ℕ) → 
     → e ≡ stamped d w.place l → state r e ≡ entered y l (state w d)
 unfolding entered
 there_entered y l w r d e m f g = rw (m, entered, f, g)
+
+pub entered_there : (y : Step) (l : List ℕ) (w : Walk) (d : List ℕ) → w.missing ≡ false
+    → entered y l (state w d) ≡ state (advanced (length l) (noted y w)) (stamped d w.place l)
+entered_there y l w d m = sym (there_entered y l w _ d _ m refl refl)
+
+pub word_size : (v : ℕ) → length (map low (writes word v)) ≡ 2
+unfolding writes
+word_size v = refl
 
 -- two judgements that are noted alike are entered alike
 pub noted-alike : (y z : Step) → ((w : Walk) → noted y w ≡ noted z w) → (l : List ℕ) (s : State) → entered y l s ≡ entered z l s

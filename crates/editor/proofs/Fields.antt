@@ -27,37 +27,38 @@ unused_first p v h = sym (ap (λ (b : Bool). elim b as (λ x. ℕ) [ true ↦ ca
 -- ---- a field of one byte
 
 -- nothing is entered where the number was missing
-module _ (ns : List ℕ) (w r : Walk) (d : List ℕ) (taken : r ≡ moved (number_at ns (cursor_of w)).after w) (m : r.missing ≡ true) where
+module _ (ns ts : List ℕ) (w r : Walk) (d : List ℕ) (taken : r ≡ moved (number_at ns (cursor_of w)).after w) (m : r.missing ≡ true) where
   pub byte_lacking : (good : ℕ → Bool) (n : ℕ) → state r d ≡ byte_entered good n ns (state w d)
   unfolding byte_entered
   byte_lacking good n =
       let v = (number_at ns (cursor_of w)).value in
       missing_entered (passes (good v) n w.place 0) (low v ∷ []) r d m ∙ rw taken
 
-  pub word_lacking : (most : ℕ) → state r d ≡ walked (word_to most) ns [] (state w d)
+  pub word_lacking : (most : ℕ) → state r d ≡ walked (word_to most) ns ts (state w d)
   unfolding walked field_entered takes
   word_lacking most =
       let v = (number_at ns (cursor_of w)).value in
       missing_entered (judges (word_to most) v w.place) (map low (writes (word_to most) v)) r d m ∙ rw taken
 
-  pub zeros_lacking : state r d ≡ walked zero_word ns [] (state w d)
+  pub zeros_lacking : state r d ≡ walked zero_word ns ts (state w d)
   unfolding walked field_entered takes
   zeros_lacking =
       let v = (number_at ns (cursor_of w)).value in
       missing_entered (judges zero_word v w.place) (map low (writes zero_word v)) r d m ∙ rw taken
 
-  pub count_lacking : (columns : ℕ) → state r d ≡ walked (cell_count columns) ns [] (state w d)
+  pub count_lacking : (columns : ℕ) → state r d ≡ walked (cell_count columns) ns ts (state w d)
   unfolding walked field_entered takes
   count_lacking columns =
       let v = (number_at ns (cursor_of w)).value in
       missing_entered (judges (cell_count columns) v w.place) (map low (writes (cell_count columns) v)) r d m ∙ rw taken
 
 -- entered with the number that was taken
-pub byte_from : (good : ℕ → Bool) (n : ℕ) (ns : List ℕ) (w r u : Walk) (d e : List ℕ) (v : ℕ) (b : Bool)
-    → v ≡ (number_at ns (cursor_of w)).value → r ≡ moved (number_at ns (cursor_of w)).after w → b ≡ good v
-    → state u e ≡ entered (passes b n r.place 0) (v % 256 ∷ []) (state r d) → state u e ≡ byte_entered good n ns (state w d)
+pub byte_steps : (good : ℕ → Bool) (n : ℕ) (ns : List ℕ) (w : Walk) (d : List ℕ)
+    → byte_entered good n ns (state w d)
+    ≡ entered (passes (good (number_at ns (cursor_of w)).value) n w.place 0) (low (number_at ns (cursor_of w)).value ∷ [])
+    (state (moved (number_at ns (cursor_of w)).after w) d)
 unfolding byte_entered
-byte_from good n ns w r u d e v b f g h k = k ∙ rw (h, g, f)
+byte_steps good n ns w d = refl
 
 -- what it comes to, whatever the test and the fault
 pub byte-walked : (good : ℕ → Bool) (fault : Fault) (ns ts : List ℕ) (s : State)
@@ -124,9 +125,9 @@ module _ (v columns p : ℕ) where
   count_fine h k = rw (within most_columns h, within columns k)
 
 -- what was taken and entered is what the description says, where it is noted as the code noted it
-module _ (ns : List ℕ) (w r u : Walk) (d e : List ℕ) (v : ℕ) (f : v ≡ (number_at ns (cursor_of w)).value) (g : r ≡ moved (number_at ns (cursor_of w)).after w) where
+module _ (ns ts : List ℕ) (w r u : Walk) (d e : List ℕ) (v : ℕ) (f : v ≡ (number_at ns (cursor_of w)).value) (g : r ≡ moved (number_at ns (cursor_of w)).after w) where
   pub word_entered : (b : Bool) (most : ℕ) → b ≡ leb v most
-      → state u e ≡ entered (passes b 5 r.place 0) (map low (writes word v)) (state r d) → state u e ≡ walked (word_to most) ns [] (state w d)
+      → state u e ≡ entered (passes b 5 r.place 0) (map low (writes word v)) (state r d) → state u e ≡ walked (word_to most) ns ts (state w d)
   unfolding walked field_entered takes judges writes thence
   word_entered b most h k =
       let p = w.place in
@@ -136,7 +137,7 @@ module _ (ns : List ℕ) (w r u : Walk) (d e : List ℕ) (v : ℕ) (f : v ≡ (n
       (map low (writes word n)) (state (moved (number_at ns (cursor_of w)).after w) d))
 
   pub zeros_entered : (b : Bool) (q : ℕ) → b ≡ eqb v 0 → q ≡ unused_place r.place v
-      → state u e ≡ entered (passes b 8 q 0) (map low (writes word v)) (state r d) → state u e ≡ walked zero_word ns [] (state w d)
+      → state u e ≡ entered (passes b 8 q 0) (map low (writes word v)) (state r d) → state u e ≡ walked zero_word ns ts (state w d)
   unfolding walked field_entered takes judges writes
   zeros_entered b q h i k =
       let p = w.place in
@@ -146,7 +147,7 @@ module _ (ns : List ℕ) (w r u : Walk) (d e : List ℕ) (v : ℕ) (f : v ≡ (n
       (map low (writes word n)) (state (moved (number_at ns (cursor_of w)).after w) d))
 
   pub count_entered : (a b : Bool) (m columns : ℕ) → a ≡ between 0 most_columns v → b ≡ (a && between 0 columns v) → m ≡ count_fault a
-      → state u e ≡ entered (passes b m r.place 0) (v % 256 ∷ []) (state r d) → state u e ≡ walked (cell_count columns) ns [] (state w d)
+      → state u e ≡ entered (passes b m r.place 0) (v % 256 ∷ []) (state r d) → state u e ≡ walked (cell_count columns) ns ts (state w d)
   unfolding walked field_entered takes judges writes thence
   count_entered a b m columns h i j k =
       let p = w.place in
@@ -156,3 +157,28 @@ module _ (ns : List ℕ) (w r u : Walk) (d e : List ℕ) (v : ℕ) (f : v ≡ (n
       k ∙ rw (j, i, h, g, f)
       (noted-alike (passes (x && y) (count_fault x) p 0) (judges (cell_count columns) n p) (count-noted x y p (p + 1))
       (low n ∷ []) (state (moved (number_at ns (cursor_of w)).after w) d))
+
+-- the same as equations
+module _ (ns ts : List ℕ) (w : Walk) (d : List ℕ) where
+  abbrev given : ℕ
+  given = (number_at ns (cursor_of w)).value
+
+  abbrev behind : State
+  behind = state (moved (number_at ns (cursor_of w)).after w) d
+
+  pub word_steps : (most : ℕ) → walked (word_to most) ns ts (state w d) ≡ entered (passes (leb given most) 5 w.place 0) (map low (writes word given)) behind
+  word_steps most =
+      let x = entered (passes (leb given most) 5 w.place 0) (map low (writes word given)) behind in
+      sym (word_entered ns ts w behind.walk x.walk d x.sheet given refl refl (leb given most) most refl refl)
+
+  pub zeros_steps : walked zero_word ns ts (state w d) ≡ entered (passes (eqb given 0) 8 (unused_place w.place given) 0) (map low (writes word given)) behind
+  zeros_steps =
+      let x = entered (passes (eqb given 0) 8 (unused_place w.place given) 0) (map low (writes word given)) behind in
+      sym (zeros_entered ns ts w behind.walk x.walk d x.sheet given refl refl (eqb given 0) (unused_place w.place given) refl refl refl)
+
+  pub count_steps : (columns : ℕ) → walked (cell_count columns) ns ts (state w d)
+      ≡ entered (passes (between 0 most_columns given && between 0 columns given) (count_fault (between 0 most_columns given)) w.place 0) (low given ∷ []) behind
+  count_steps columns =
+      let a = between 0 most_columns given in
+      let x = entered (passes (a && between 0 columns given) (count_fault a) w.place 0) (low given ∷ []) behind in
+      sym (count_entered ns ts w behind.walk x.walk d x.sheet given refl refl a (a && between 0 columns given) (count_fault a) columns refl refl refl refl)

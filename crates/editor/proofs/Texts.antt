@@ -6,12 +6,12 @@ use mathlib.Core.Bool.{Bool, true, false, not, ◌&&◌, and-eq-true_iff}
 use mathlib.Core.Logic.{⊎_elim}
 use native.Mathlib.Nat.{eq-or-lt_of_le, le_of_suc-le-suc}
 use native.Mathlib.Omega.{arith}
-use lib.ListN.{length, get_or, take, drop, set, length-map, length-set, drop_of_length-le}
+use lib.ListN.{length, get_or, take, drop, set, length-map, drop_of_length-le}
 use lib.Seq.{drop-cons}
 use lib.Dec.{leb, eqb}
 use borrow.Author.Tests.{le-leb, lt-leb, leb-true, eq-eqb, ne_eqb, eqb-true, eqb-false}
 use Rattle.buffer.specs.Put.{put_at}
-use Rattle.buffer.proofs.Laws.{put_one, put-put, length-put}
+use Rattle.buffer.proofs.Laws.{put_one, put-put}
 use Rattle.rules.specs.Text.{All}
 use Rattle.rules.specs.Limits.{IsByte}
 use Rattle.rules.specs.Field.{between, printable}
@@ -308,24 +308,14 @@ text_put d e l p b h k f =
     ∙ put-put d p (length l % 256 ∷ []) l (p + 1) refl (omega arith)
     ∙ rw m (stamped-all d p (length l % 256 ∷ l) (omega arith))
 
-pub text_room : (d : List ℕ) (p v n : ℕ) → n < length d - p → p + 1 + n ≤ length (set d p v)
-text_room d p v n h = omega (arith, length-set d p v)
-
-pub text_length : (d e l : List ℕ) (p v : ℕ) → length l < length d - p → e ≡ put_at (set d p v) (p + 1) l → length e ≡ length d
-text_length d e l p v h f =
-    let s = length-set d p v in
-    ap length f ∙ length-put (set d p v) (p + 1) l (omega arith) ∙ s
-
 -- ---- the whole text
 
-pub text_advanced : (w r u v : Walk) (y : Step) (l : List ℕ) → r ≡ noted y w → u ≡ advanced 1 r → v ≡ advanced (length l) u
-    → v ≡ advanced (length (low (length l) ∷ map low l)) (noted y w)
+pub text_steps : (w : Walk) (l : List ℕ) → advanced (length (low (length l) ∷ map low l)) w ≡ advanced (length l) (advanced 1 w)
 unfolding advanced
-text_advanced w r u v y l e f g =
-    let p = (noted y w).place in
-    let n : p + 1 + length l ≡ p + suc (length (map low l)) = omega (arith, length-low l) in
-    let c : cap (cap (p + 1) + length l) ≡ cap (p + suc (length (map low l))) = cap_more (p + 1) (length l) ∙ ap cap n in
-    g ∙ ap (advanced (length l)) (f ∙ ap (advanced 1) e) ∙ rw c
+text_steps w l =
+    let n : w.place + 1 + length l ≡ w.place + suc (length (map low l)) = omega (arith, length-low l) in
+    let c : cap (cap (w.place + 1) + length l) ≡ cap (w.place + suc (length (map low l))) = cap_more (w.place + 1) (length l) ∙ ap cap n in
+    rw c
 
 -- what a text comes to, whichever it is
 text-walked : (k : Kind) (ns ts : List ℕ) (s : State) → let g = text_taken ns ts (cursor_of s.walk) in

@@ -1,7 +1,7 @@
 // The fields of a sheet that are numbers: taken from the editor's numbers, judged, put where there is room.
 #![tactic(auto, using(crate::proofs::Laws::numbers))]
 
-ghost use Rattle.std.specs.Prelude.{◌≡◌, [], ◌&&◌, IfOk};
+ghost use Rattle.std.specs.Prelude.{◌≡◌, ◌&&◌, IfOk};
 ghost use Rattle.rules.specs.Field as field;
 ghost use Rattle.rules.specs.Description as description;
 ghost use Rattle.rules.specs.Format as format;
@@ -13,7 +13,7 @@ ghost use Rattle.editor.specs.Walk.{state, walked, byte_entered, cursor_of, walk
 ghost use Rattle.editor.specs.Walk as definition;
 
 use super::walk;
-use super::walk::{Missing, Walk};
+use super::walk::{Missing, Slices, Walk};
 use rules::{MOST_COLUMNS, Reason, Refusal};
 
 // The most columns of a sheet as one of the editor's numbers.
@@ -39,62 +39,6 @@ fn printable_or_zero(value: u16) -> bool
     value == 0 || between(value, 32, 126)
 }
 
-// One byte from low to high.
-pub fn byte_between(
-    numbers: &[u16],
-    sheet: &mut [u8],
-    from: Walk,
-    low: u16,
-    high: u16,
-    reason: Reason,
-) -> Result<Field, Missing>
-    ensures sheet_after { state (field_to result) sheet.new
-        ≡ byte_entered (field.between low high) (number_of reason) numbers.now (state (walk_of from) sheet.old) }
-    ensures value { IfOk result (λ f. f.value ≡ (slices.number_at numbers.now (cursor_of (walk_of from))).value) }
-{
-    let taken = walk::number(numbers, from)?;
-    let good = between(taken.value, low, high);
-    let fault = walk::fault_unless(good, reason, taken.next.place);
-    Ok(Field {
-        value: taken.value,
-        walk: walk::enter_byte(sheet, taken.next, taken.value, fault),
-    })
-}
-
-// The same where only the walk matters.
-pub fn within(
-    numbers: &[u16],
-    sheet: &mut [u8],
-    from: Walk,
-    low: u16,
-    high: u16,
-    reason: Reason,
-) -> Result<Walk, Missing>
-    ensures { state (walked_to result) sheet.new
-        ≡ byte_entered (field.between low high) (number_of reason) numbers.now (state (walk_of from) sheet.old) }
-{
-    Ok(byte_between(numbers, sheet, from, low, high, reason)?.walk)
-}
-
-// A printable byte, or 0 for none.
-pub fn optional(numbers: &[u16], sheet: &mut [u8], from: Walk) -> Result<Walk, Missing>
-    ensures { state (walked_to result) sheet.new ≡ byte_entered field.printable_or_zero 6 numbers.now (state (walk_of from) sheet.old) }
-{
-    let taken = walk::number(numbers, from)?;
-    let good = printable_or_zero(taken.value);
-    let fault = walk::fault_unless(good, Reason::BadCharacter, taken.next.place);
-    Ok(walk::enter_byte(sheet, taken.next, taken.value, fault))
-}
-
-// Two bytes, up to `most`.
-pub fn word_to(numbers: &[u16], sheet: &mut [u8], from: Walk, most: u16) -> Result<Walk, Missing>
-    ensures { state (walked_to result) sheet.new ≡ walked (description.word_to most) numbers.now [] (state (walk_of from) sheet.old) }
-{
-    let taken = walk::number(numbers, from)?;
-    let fault = walk::fault_unless(taken.value <= most, Reason::BeyondLimits, taken.next.place);
-    Ok(walk::enter_word(sheet, taken.next, taken.value, fault))
-}
-
 // Where an unused width that isn't 0 is refused: at its low byte, or at its high byte where the low one is 0.
 fn unused_place(place: usize, value: u16) -> usize
     ensures { result ≡ definition.unused_place place value }
@@ -103,16 +47,6 @@ fn unused_place(place: usize, value: u16) -> usize
         return walk::further(place, 1);
     }
     place
-}
-
-// Two bytes of an unused width.
-pub fn zero_word(numbers: &[u16], sheet: &mut [u8], from: Walk) -> Result<Walk, Missing>
-    ensures { state (walked_to result) sheet.new ≡ walked description.zero_word numbers.now [] (state (walk_of from) sheet.old) }
-{
-    let taken = walk::number(numbers, from)?;
-    let place = unused_place(taken.next.place, taken.value);
-    let fault = walk::fault_unless(taken.value == 0, Reason::NotZero, place);
-    Ok(walk::enter_word(sheet, taken.next, taken.value, fault))
 }
 
 // Beyond the limit it is `BeyondLimits`, and `TooManyCells` only where the limit is kept and the columns are fewer.
@@ -131,21 +65,84 @@ fn count_fault(value: u16, columns: u16, place: usize) -> Option<Refusal>
     None
 }
 
-// A cell count.
-pub fn cell_count(
-    numbers: &[u16],
-    sheet: &mut [u8],
-    from: Walk,
-    columns: u16,
-) -> Result<Field, Missing>
-    ensures sheet_after { state (field_to result) sheet.new
-        ≡ walked (format.cell_count columns) numbers.now [] (state (walk_of from) sheet.old) }
-    ensures value { IfOk result (λ f. f.value ≡ (slices.number_at numbers.now (cursor_of (walk_of from))).value) }
-{
-    let taken = walk::number(numbers, from)?;
-    let fault = count_fault(taken.value, columns, taken.next.place);
-    Ok(Field {
-        value: taken.value,
-        walk: walk::enter_byte(sheet, taken.next, taken.value, fault),
-    })
+impl Slices<'_> {
+    // One byte from low to high.
+    pub fn byte_between(
+        &self,
+        sheet: &mut [u8],
+        from: Walk,
+        low: u16,
+        high: u16,
+        reason: Reason,
+    ) -> Result<Field, Missing>
+        ensures sheet_after { state (field_to result) sheet.new
+            ≡ byte_entered (field.between low high) (number_of reason) self.now.numbers.now (state (walk_of from) sheet.old) }
+        ensures value { IfOk result (λ f. f.value ≡ (slices.number_at self.now.numbers.now (cursor_of (walk_of from))).value) }
+    {
+        let taken = self.number(from)?;
+        let good = between(taken.value, low, high);
+        let fault = walk::fault_unless(good, reason, taken.next.place);
+        Ok(Field {
+            value: taken.value,
+            walk: walk::enter_byte(sheet, taken.next, taken.value, fault),
+        })
+    }
+
+    // The same where only the walk matters.
+    pub fn within(
+        &self,
+        sheet: &mut [u8],
+        from: Walk,
+        low: u16,
+        high: u16,
+        reason: Reason,
+    ) -> Result<Walk, Missing>
+        ensures { state (walked_to result) sheet.new
+            ≡ byte_entered (field.between low high) (number_of reason) self.now.numbers.now (state (walk_of from) sheet.old) }
+    {
+        Ok(self.byte_between(sheet, from, low, high, reason)?.walk)
+    }
+
+    // A printable byte, or 0 for none.
+    pub fn optional(&self, sheet: &mut [u8], from: Walk) -> Result<Walk, Missing>
+        ensures { state (walked_to result) sheet.new ≡ byte_entered field.printable_or_zero 6 self.now.numbers.now (state (walk_of from) sheet.old) }
+    {
+        let taken = self.number(from)?;
+        let good = printable_or_zero(taken.value);
+        let fault = walk::fault_unless(good, Reason::BadCharacter, taken.next.place);
+        Ok(walk::enter_byte(sheet, taken.next, taken.value, fault))
+    }
+
+    // Two bytes, up to `most`.
+    pub fn word_to(&self, sheet: &mut [u8], from: Walk, most: u16) -> Result<Walk, Missing>
+        ensures { state (walked_to result) sheet.new ≡ walked (description.word_to most) self.now.numbers.now self.now.text.now (state (walk_of from) sheet.old) }
+    {
+        let taken = self.number(from)?;
+        let fault = walk::fault_unless(taken.value <= most, Reason::BeyondLimits, taken.next.place);
+        Ok(walk::enter_word(sheet, taken.next, taken.value, fault))
+    }
+
+    // Two bytes of an unused width.
+    pub fn zero_word(&self, sheet: &mut [u8], from: Walk) -> Result<Walk, Missing>
+        ensures { state (walked_to result) sheet.new ≡ walked description.zero_word self.now.numbers.now self.now.text.now (state (walk_of from) sheet.old) }
+    {
+        let taken = self.number(from)?;
+        let place = unused_place(taken.next.place, taken.value);
+        let fault = walk::fault_unless(taken.value == 0, Reason::NotZero, place);
+        Ok(walk::enter_word(sheet, taken.next, taken.value, fault))
+    }
+
+    // A cell count.
+    pub fn cell_count(&self, sheet: &mut [u8], from: Walk, columns: u16) -> Result<Field, Missing>
+        ensures sheet_after { state (field_to result) sheet.new
+            ≡ walked (format.cell_count columns) self.now.numbers.now self.now.text.now (state (walk_of from) sheet.old) }
+        ensures value { IfOk result (λ f. f.value ≡ (slices.number_at self.now.numbers.now (cursor_of (walk_of from))).value) }
+    {
+        let taken = self.number(from)?;
+        let fault = count_fault(taken.value, columns, taken.next.place);
+        Ok(Field {
+            value: taken.value,
+            walk: walk::enter_byte(sheet, taken.next, taken.value, fault),
+        })
+    }
 }

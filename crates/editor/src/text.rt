@@ -2,14 +2,13 @@
 #![tactic(auto, using(crate::proofs::Laws::texts))]
 
 ghost use Rattle.std.specs.Prelude.{◌≡◌, ◌∷◌, map, ◌<◌, length};
-ghost use Rattle.rules.specs.Editor as slices;
 ghost use Rattle.rules.specs.Steps.{read_to};
 ghost use Rattle.rules.specs.Writer as writer;
-ghost use Rattle.editor.specs.Walk.{state, walked, entered, cursor_of, moved, noted, stamped, walk_of, walked_to};
+ghost use Rattle.editor.specs.Walk.{state, walked, entered, noted, stamped, walk_of, walked_to};
 ghost use Rattle.editor.specs.Walk as definition;
 
 use super::walk;
-use super::walk::{Missing, Walk};
+use super::walk::{Missing, Slices, Walk};
 use rules::{Reason, Refusal, STYLE_CHARACTERS};
 
 // What a text is: the indicator, the style, or a line of a cell.
@@ -18,20 +17,6 @@ pub enum Kind {
     Indicator,
     Style,
     Line,
-}
-
-// The next n bytes of the text.
-fn bytes(text: &[u8], from: Walk, n: u16) -> Result<Walk, Missing>
-    ensures { walked_to result ≡ moved (slices.bytes_at n text.now (cursor_of (walk_of from))).after (walk_of from) }
-{
-    let size = usize::from(n);
-    if text.len() < from.text || text.len() - from.text < size {
-        return Err(Missing { walk: from });
-    }
-    Ok(Walk {
-        text: from.text + size,
-        ..from
-    })
 }
 
 fn letter(value: u8, zero: bool) -> bool
@@ -176,20 +161,16 @@ fn enter(sheet: &mut [u8], part: &[u8], from: Walk, kind: Kind) -> Walk
     walk::advance(first, part.len())
 }
 
-// A text: its length, and as many bytes. Compiled into its callers, each of which knows the kind.
-#[inline(always)]
-pub fn text(
-    numbers: &[u16],
-    text: &[u8],
-    sheet: &mut [u8],
-    from: Walk,
-    kind: Kind,
-) -> Result<Walk, Missing>
-    ensures { state (walked_to result) sheet.new
-        ≡ walked (definition.text_format kind) numbers.now text.now (state (walk_of from) sheet.old) }
-{
-    let length = walk::number(numbers, from)?;
-    let start = length.next.text;
-    let taken = bytes(text, length.next, length.value)?;
-    Ok(enter(sheet, &text[start..taken.text], taken, kind))
+impl Slices<'_> {
+    // A text: its length, and as many bytes. Compiled into its callers, each of which knows the kind.
+    #[inline(always)]
+    pub fn text(&self, sheet: &mut [u8], from: Walk, kind: Kind) -> Result<Walk, Missing>
+        ensures { state (walked_to result) sheet.new
+            ≡ walked (definition.text_format kind) self.now.numbers.now self.now.text.now (state (walk_of from) sheet.old) }
+    {
+        let length = self.number(from)?;
+        let start = length.next.text;
+        let taken = self.bytes(length.next, length.value)?;
+        Ok(enter(sheet, &self.text[start..taken.text], taken, kind))
+    }
 }

@@ -8,7 +8,7 @@ ghost use Rattle.rules.specs.Editor as slices;
 ghost use Rattle.rules.specs.Refusals.{number_of};
 ghost use Rattle.rules.specs.Writer as writer;
 ghost use Rattle.rules.specs.declared.Reason.TheVariants.{Ended};
-ghost use Rattle.editor.specs.Walk.{state, entered, cursor_of, moved, noted, advanced, stamped, walk_of, taken_to, judged_as};
+ghost use Rattle.editor.specs.Walk.{state, entered, cursor_of, moved, noted, advanced, stamped, walk_of, walked_to, taken_to, judged_as};
 ghost use Rattle.editor.specs.Walk as definition;
 
 use rules::{Reason, Refusal};
@@ -38,6 +38,13 @@ impl From<Missing> for Refusal {
     }
 }
 
+// The editor's table, as it is lent.
+#[derive(Clone, Copy)]
+pub struct Slices<'a> {
+    pub numbers: &'a [u16],
+    pub text: &'a [u8],
+}
+
 // A number that was taken.
 #[derive(Clone, Copy)]
 pub struct Taken {
@@ -45,24 +52,41 @@ pub struct Taken {
     pub next: Walk,
 }
 
-// The next number.
-pub fn number(numbers: &[u16], from: Walk) -> Result<Taken, Missing>
-    ensures value { IfOk result (λ t. t.value ≡ (slices.number_at numbers.now (cursor_of (walk_of from))).value) }
-    ensures next { taken_to result ≡ moved (slices.number_at numbers.now (cursor_of (walk_of from))).after (walk_of from) }
-{
-    let Some(&value) = numbers.get(from.numbers) else {
-        return Err(Missing { walk: from });
-    };
-    Ok(Taken {
-        value,
-        next: Walk {
-            numbers: from.numbers + 1,
+impl Slices<'_> {
+    // The next number.
+    pub fn number(&self, from: Walk) -> Result<Taken, Missing>
+        ensures value { IfOk result (λ t. t.value ≡ (slices.number_at self.now.numbers.now (cursor_of (walk_of from))).value) }
+        ensures next { taken_to result ≡ moved (slices.number_at self.now.numbers.now (cursor_of (walk_of from))).after (walk_of from) }
+    {
+        let Some(&value) = self.numbers.get(from.numbers) else {
+            return Err(Missing { walk: from });
+        };
+        Ok(Taken {
+            value,
+            next: Walk {
+                numbers: from.numbers + 1,
+                ..from
+            },
+        })
+    }
+
+    // The next n bytes of the text.
+    pub fn bytes(&self, from: Walk, n: u16) -> Result<Walk, Missing>
+        ensures { walked_to result ≡ moved (slices.bytes_at n self.now.text.now (cursor_of (walk_of from))).after (walk_of from) }
+    {
+        let size = usize::from(n);
+        if self.text.len() < from.text || self.text.len() - from.text < size {
+            return Err(Missing { walk: from });
+        }
+        Ok(Walk {
+            text: from.text + size,
             ..from
-        },
-    })
+        })
+    }
 }
 
 // A place further on, exact up to the longest sheet.
+#[tactic(auto, unfolding(crate::specs::Walk::cap))]
 pub fn further(place: usize, more: usize) -> usize
     ensures { result ≡ definition.cap (place + more) }
 {
@@ -101,6 +125,7 @@ pub fn note(from: Walk, fault: Option<Refusal>) -> Walk
 }
 
 // The next field starts so many bytes further on.
+#[tactic(auto, unfolding(crate::specs::Walk::advanced))]
 pub fn advance(from: Walk, size: usize) -> Walk
     ensures { walk_of result ≡ advanced size (walk_of from) }
 {

@@ -10,7 +10,7 @@ use Rattle.rules.specs.Sheet.{most_columns}
 use Rattle.rules.specs.Style.{style_characters}
 use Rattle.rules.specs.Field.{between, printable, printable_or_zero}
 use Rattle.rules.specs.Description.{Format, byte, word, only, zero_word, text, cell_text, listed, give, next, writes}
-use Rattle.rules.specs.Description.{within, code, word_to, optional, counted, unknown_code, beyond_limits, bad_character, not_zero, wrong_edition}
+use Rattle.rules.specs.Description.{code, word_to, optional, counted, unknown_code, beyond_limits, bad_character, not_zero, wrong_edition}
 use Rattle.rules.specs.Format.{width, column, line, cell_by, cell, cell_count, row_by, row, table_by, table}
 use Rattle.rules.specs.Editor.{Cursor, Taken, number_at, bytes_at, text_taken, several_taken, takes}
 use Rattle.rules.specs.Writer.{passes, judges}
@@ -96,76 +96,54 @@ byte_stays good n ns s m =
 
 -- ---- columns
 
-module _ (ns : List ℕ) where
+module _ (ns ts : List ℕ) where
   pub width_used : (used : Bool) (s t u : State) (n most : ℕ) → used ≡ true → t ≡ byte_entered (between 0 1) 4 ns s
-      → n ≡ (number_at ns (cursor_of s.walk)).value → most ≡ cond (eqb n 0) 400 65535 → u ≡ walked (word_to most) ns [] t
-      → u ≡ walked (width used) ns [] s
+      → n ≡ (number_at ns (cursor_of s.walk)).value → most ≡ cond (eqb n 0) 400 65535 → u ≡ walked (word_to most) ns ts t
+      → u ≡ walked (width used) ns ts s
   unfolding walked width value_at takes
   width_used used s t u n most h e f g k =
-      k ∙ rw (h, g, f, e) (ap (λ v. walked (word_to (cond (eqb (number_at ns (cursor_of s.walk)).value 0) 400 65535)) ns [] v)
-      (byte-walked (between 0 1) unknown_code ns [] s))
+      k ∙ rw (h, g, f, e) (ap (λ v. walked (word_to (cond (eqb (number_at ns (cursor_of s.walk)).value 0) 400 65535)) ns ts v)
+      (byte-walked (between 0 1) unknown_code ns ts s))
 
-  pub width_unused : (used : Bool) (s t u : State) → used ≡ false → t ≡ byte_entered (between 0 0) 8 ns s → u ≡ walked zero_word ns [] t
-      → u ≡ walked (width used) ns [] s
+  pub width_unused : (used : Bool) (s t u : State) → used ≡ false → t ≡ byte_entered (between 0 0) 8 ns s → u ≡ walked zero_word ns ts t
+      → u ≡ walked (width used) ns ts s
   unfolding walked width
-  width_unused used s t u h e k = k ∙ rw (h, e) (ap (λ v. walked zero_word ns [] v) (byte-walked (between 0 0) not_zero ns [] s))
+  width_unused used s t u h e k = k ∙ rw (h, e) (ap (λ v. walked zero_word ns ts v) (byte-walked (between 0 0) not_zero ns ts s))
 
   pub constraint-walked : (s t u v : State) (k : ℕ) → t ≡ byte_entered (between 0 6) 4 ns s → k ≡ (number_at ns (cursor_of s.walk)).value
-      → u ≡ walked (width (leb 3 k)) ns [] t → v ≡ walked (width (eqb k 6)) ns [] u → v ≡ constraint_walked ns s
+      → u ≡ walked (width (leb 3 k)) ns ts t → v ≡ walked (width (eqb k 6)) ns ts u → v ≡ constraint_walked ns ts s
   unfolding constraint_walked
   constraint-walked s t u v k e f g h =
-      h ∙ rw (g, e, f, byte-walked (between 0 6) unknown_code ns [] s)
+      h ∙ rw (g, e, f, byte-walked (between 0 6) unknown_code ns ts s)
 
   pub column-walked : (s t u v w x : State) → t ≡ byte_entered (between 0 20) 5 ns s → u ≡ byte_entered (between 0 20) 5 ns t
-      → v ≡ byte_entered printable_or_zero 6 ns u → w ≡ byte_entered (between 0 3) 4 ns v → x ≡ constraint_walked ns w → x ≡ walked column ns [] s
+      → v ≡ byte_entered printable_or_zero 6 ns u → w ≡ byte_entered (between 0 3) 4 ns v → x ≡ constraint_walked ns ts w → x ≡ walked column ns ts s
   unfolding walked column value_at takes constraint_walked
   column-walked s t u v w x e f g h k =
-      let t' = e ∙ byte-walked (between 0 20) beyond_limits ns [] s in
-      let u' = f ∙ byte-walked (between 0 20) beyond_limits ns [] t in
-      let v' = g ∙ byte-walked printable_or_zero bad_character ns [] u in
-      let w' = h ∙ byte-walked (between 0 3) unknown_code ns [] v in
+      let t' = e ∙ byte-walked (between 0 20) beyond_limits ns ts s in
+      let u' = f ∙ byte-walked (between 0 20) beyond_limits ns ts t in
+      let v' = g ∙ byte-walked printable_or_zero bad_character ns ts u in
+      let w' = h ∙ byte-walked (between 0 3) unknown_code ns ts v in
       k ∙ rw (w', v', u', t')
-
-  -- none of its fields is a text
-  width-alike : (ts : List ℕ) (used : Bool) (s : State) → walked (width used) ns [] s ≡ walked (width used) ns ts s
-  unfolding walked width value_at takes field_entered
-  width-alike ts true s = refl
-  width-alike ts false s = refl
-
-  pub column-alike : (ts : List ℕ) (s : State) → walked column ns [] s ≡ walked column ns ts s
-  unfolding walked column value_at takes field_entered
-  column-alike ts s =
-      let p = walked (code 3) ns [] (walked optional ns [] (walked (within 0 20) ns [] (walked (within 0 20) ns [] s))) in
-      let k = (number_at ns (cursor_of p.walk)).value in
-      width-alike ts (eqb k 6) (walked (width (leb 3 k)) ns [] (walked (code 6) ns [] p))
-      ∙ ap (λ u. walked (width (eqb k 6)) ns ts u) (width-alike ts (leb 3 k) (walked (code 6) ns [] p))
 
 -- ---- loops
 
--- with i of n items walked and standing at s, what is left comes to w
-pub record Left (f : State → State) (n i : ℕ) (s w : State) : Type 0 where
-  pub rest : again (n - i) f s ≡ w
+-- none, and one more, of what is left
+pub again-begin : (f : State → State) (n : ℕ) (s : State) → again (n - 0) f s ≡ again n f s
+again-begin f n s = let z : n - 0 ≡ n = omega arith in rw z
 
-turned : (f : State → State) (n i : ℕ) (s w : State) → i < n → Left f n i s w → again (n - (i + 1)) f (f s) ≡ w
+pub again_more : (f : State → State) (n i : ℕ) (s : State) → i < n → again (n - i) f s ≡ again (n - (i + 1)) f (f s)
 unfolding again
-turned f n i s w h l = let z : n - i ≡ suc (n - (i + 1)) = omega arith in rw z at l.rest
+again_more f n i s h = let z : n - i ≡ suc (n - (i + 1)) = omega arith in rw z
 
-pub left_again : (f : State → State) (n i : ℕ) (s t w : State) → i < n → Left f n i s w → t ≡ f s → Left f n (i + 1) t w
-left_again f n i s t w h l e = record { rest = rw e (turned f n i s w h l) }
-
-pub left_done : (f : State → State) (n i : ℕ) (s w : State) → n ≤ i → Left f n i s w → s ≡ w
+pub again_done : (f : State → State) (n i : ℕ) (s : State) → n ≤ i → again (n - i) f s ≡ s
 unfolding again
-left_done f n i s w h l = let z : n - i ≡ 0 = omega arith in rw z at l.rest
+again_done f n i s h = let z : n - i ≡ 0 = omega arith in rw z
 
 -- items of a format
 module _ {A : Type 0} (x : Format A) (ns ts : List ℕ) where
   abbrev turn : State → State
   turn u = walked x ns ts u
-
-  -- one of them was missing
-  pub left_stopped : (n i : ℕ) (s t w : State) → i < n → Left turn n i s w → t ≡ turn s → t.walk.missing ≡ true → t ≡ w
-  left_stopped n i s t w h l e m =
-      sym (again_stays turn t (walked_stays x ns ts t m) (n - (i + 1))) ∙ rw e (turned turn n i s w h l)
 
   -- a count and its items
   pub counted-walked : (low high : ℕ) (s t u : State) (n : ℕ) → t ≡ byte_entered (between low high) 5 ns s
@@ -191,7 +169,7 @@ module _ (ns ts : List ℕ) where
       let u' = f ∙ byte-walked (between 0 3) unknown_code ns ts t in
       g ∙ ap (λ x. walked (counted 1 8 line) ns ts x) (u' ∙ ap (λ x. walked (code 3) ns ts x) t')
 
-  pub cells-walked : (columns : ℕ) (s t u : State) (n : ℕ) → t ≡ walked (cell_count columns) ns [] s → n ≡ (number_at ns (cursor_of s.walk)).value
+  pub cells-walked : (columns : ℕ) (s t u : State) (n : ℕ) → t ≡ walked (cell_count columns) ns ts s → n ≡ (number_at ns (cursor_of s.walk)).value
       → u ≡ again n (λ v. walked cell ns ts v) t → u ≡ walked (listed (cell_count columns) cell) ns ts s
   unfolding walked value_at takes field_entered
   cells-walked columns s t u n e f g = g ∙ rw (f, e)
@@ -205,7 +183,7 @@ module _ (ns ts : List ℕ) where
   -- ---- the table
 
   pub head-walked : (s t u v w x y : State) → t ≡ byte_entered (between 1 1) 3 ns s → u ≡ byte_entered (between 0 2) 4 ns t
-      → v ≡ walked (word_to 400) ns [] u → w ≡ byte_entered printable_or_zero 6 ns v → x ≡ walked (text 0 8 printable) ns ts w
+      → v ≡ walked (word_to 400) ns ts u → w ≡ byte_entered printable_or_zero 6 ns v → x ≡ walked (text 0 8 printable) ns ts w
       → y ≡ walked (text style_characters style_characters printable_or_zero) ns ts x → y ≡ head_walked ns ts s
   unfolding head_walked walked takes field_entered
   head-walked s t u v w x y e f g h i j =
@@ -215,21 +193,10 @@ module _ (ns ts : List ℕ) where
       j ∙ ap (λ z. walked (text style_characters style_characters printable_or_zero) ns ts z) (i ∙ ap (λ z. walked (text 0 8 printable) ns ts z)
       (w' ∙ ap (λ z. walked optional ns ts z) (g ∙ ap (λ z. walked (word_to 400) ns ts z) (u' ∙ ap (λ z. walked (code 2) ns ts z) t'))))
 
-  again-alike : (f g : State → State) → ((s : State) → f s ≡ g s) → (n : ℕ) (s : State) → again n f s ≡ again n g s
-  unfolding again
-  again-alike f g e zero s = refl
-  again-alike f g e (suc n) s = ap (again n f) (e s) ∙ again-alike f g e n (g s)
-
-  columns-alike : (s : State) → walked (counted 0 most_columns column) ns [] s ≡ walked (counted 0 most_columns column) ns ts s
-  unfolding walked value_at takes field_entered
-  columns-alike s =
-      again-alike (λ u. walked column ns [] u) (λ u. walked column ns ts u) (column-alike ns ts) (number_at ns (cursor_of s.walk)).value
-      (walked (within 0 most_columns) ns ts s)
-
-  pub body-walked : (s t u v : State) (n : ℕ) → t ≡ walked (counted 0 most_columns column) ns [] s → n ≡ (number_at ns (cursor_of s.walk)).value
+  pub body-walked : (s t u v : State) (n : ℕ) → t ≡ walked (counted 0 most_columns column) ns ts s → n ≡ (number_at ns (cursor_of s.walk)).value
       → u ≡ walked (counted 0 1 (row n)) ns ts t → v ≡ walked (counted 0 100 (row n)) ns ts u → v ≡ body_walked ns ts s
   unfolding body_walked
-  body-walked s t u v n e f g h = h ∙ rw (g, e, f, columns-alike s)
+  body-walked s t u v n e f g h = h ∙ rw (g, e, f)
 
   pub table-walked : (s t u : State) → t ≡ head_walked ns ts s → u ≡ body_walked ns ts t → u ≡ walked table ns ts s
   unfolding head_walked body_walked walked table_by value_at takes
@@ -241,29 +208,29 @@ module _ (ns ts : List ℕ) where
 
 -- ---- sections as the code walks them: equations, and what stays where something was missing
 
-pub width_with : (ns : List ℕ) (used : Bool) (s : State) → used ≡ true
-    → walked (width used) ns [] s ≡ walked (word_to (cond (eqb (number_at ns (cursor_of s.walk)).value 0) 400 65535)) ns [] (byte_entered (between 0 1) 4 ns s)
-width_with ns used s e = sym (width_used ns used s _ _ _ _ e refl refl refl refl)
+pub width_with : (ns ts : List ℕ) (used : Bool) (s : State) → used ≡ true
+    → walked (width used) ns ts s ≡ walked (word_to (cond (eqb (number_at ns (cursor_of s.walk)).value 0) 400 65535)) ns ts (byte_entered (between 0 1) 4 ns s)
+width_with ns ts used s e = sym (width_used ns ts used s _ _ _ _ e refl refl refl refl)
 
-pub width_without : (ns : List ℕ) (used : Bool) (s : State) → used ≡ false
-    → walked (width used) ns [] s ≡ walked zero_word ns [] (byte_entered (between 0 0) 8 ns s)
-width_without ns used s e = sym (width_unused ns used s _ _ e refl refl)
+pub width_without : (ns ts : List ℕ) (used : Bool) (s : State) → used ≡ false
+    → walked (width used) ns ts s ≡ walked zero_word ns ts (byte_entered (between 0 0) 8 ns s)
+width_without ns ts used s e = sym (width_unused ns ts used s _ _ e refl refl)
 
-pub constraint_steps : (ns : List ℕ) (s : State)
-    → constraint_walked ns s ≡ walked (width (eqb (number_at ns (cursor_of s.walk)).value 6)) ns []
-    (walked (width (leb 3 (number_at ns (cursor_of s.walk)).value)) ns [] (byte_entered (between 0 6) 4 ns s))
-constraint_steps ns s = sym (constraint-walked ns s _ _ _ _ refl refl refl refl)
+pub constraint_steps : (ns ts : List ℕ) (s : State)
+    → constraint_walked ns ts s ≡ walked (width (eqb (number_at ns (cursor_of s.walk)).value 6)) ns ts
+    (walked (width (leb 3 (number_at ns (cursor_of s.walk)).value)) ns ts (byte_entered (between 0 6) 4 ns s))
+constraint_steps ns ts s = sym (constraint-walked ns ts s _ _ _ _ refl refl refl refl)
 
-pub constraint_stays : (ns : List ℕ) (s : State) → s.walk.missing ≡ true → constraint_walked ns s ≡ s
+pub constraint_stays : (ns ts : List ℕ) (s : State) → s.walk.missing ≡ true → constraint_walked ns ts s ≡ s
 unfolding constraint_walked
-constraint_stays ns s m =
+constraint_stays ns ts s m =
     let k = (number_at ns (cursor_of s.walk)).value in
-    rw (walked_stays (code 6) ns [] s m, walked_stays (width (leb 3 k)) ns [] s m) (walked_stays (width (eqb k 6)) ns [] s m)
+    rw (walked_stays (code 6) ns ts s m, walked_stays (width (leb 3 k)) ns ts s m) (walked_stays (width (eqb k 6)) ns ts s m)
 
-pub column_steps : (ns : List ℕ) (s : State)
-    → walked column ns [] s ≡ constraint_walked ns (byte_entered (between 0 3) 4 ns (byte_entered printable_or_zero 6 ns
+pub column_steps : (ns ts : List ℕ) (s : State)
+    → walked column ns ts s ≡ constraint_walked ns ts (byte_entered (between 0 3) 4 ns (byte_entered printable_or_zero 6 ns
     (byte_entered (between 0 20) 5 ns (byte_entered (between 0 20) 5 ns s))))
-column_steps ns s = sym (column-walked ns s _ _ _ _ _ refl refl refl refl refl)
+column_steps ns ts s = sym (column-walked ns ts s _ _ _ _ _ refl refl refl refl refl)
 
 module _ (ns ts : List ℕ) where
   pub counted_steps : {A : Type 0} (x : Format A) (low high : ℕ) (s : State)
@@ -278,7 +245,7 @@ module _ (ns ts : List ℕ) where
 
   pub cells_steps : (columns : ℕ) (s : State)
       → walked (listed (cell_count columns) cell) ns ts s
-      ≡ again (number_at ns (cursor_of s.walk)).value (λ u. walked cell ns ts u) (walked (cell_count columns) ns [] s)
+      ≡ again (number_at ns (cursor_of s.walk)).value (λ u. walked cell ns ts u) (walked (cell_count columns) ns ts s)
   cells_steps columns s = sym (cells-walked ns ts columns s _ _ _ refl refl refl)
 
   pub row_steps : (columns : ℕ) (s : State)
@@ -287,18 +254,18 @@ module _ (ns ts : List ℕ) where
 
   pub head_steps : (s : State)
       → head_walked ns ts s ≡ walked (text style_characters style_characters printable_or_zero) ns ts (walked (text 0 8 printable) ns ts
-      (byte_entered printable_or_zero 6 ns (walked (word_to 400) ns [] (byte_entered (between 0 2) 4 ns (byte_entered (between 1 1) 3 ns s)))))
+      (byte_entered printable_or_zero 6 ns (walked (word_to 400) ns ts (byte_entered (between 0 2) 4 ns (byte_entered (between 1 1) 3 ns s)))))
   head_steps s = sym (head-walked ns ts s _ _ _ _ _ _ refl refl refl refl refl refl)
 
   pub body_steps : (s : State)
       → body_walked ns ts s ≡ walked (counted 0 100 (row (number_at ns (cursor_of s.walk)).value)) ns ts
-      (walked (counted 0 1 (row (number_at ns (cursor_of s.walk)).value)) ns ts (walked (counted 0 most_columns column) ns [] s))
+      (walked (counted 0 1 (row (number_at ns (cursor_of s.walk)).value)) ns ts (walked (counted 0 most_columns column) ns ts s))
   body_steps s = sym (body-walked ns ts s _ _ _ _ refl refl refl refl)
 
   pub body_stays : (s : State) → s.walk.missing ≡ true → body_walked ns ts s ≡ s
   body_stays s m =
       let n = (number_at ns (cursor_of s.walk)).value in
-      body_steps s ∙ rw (walked_stays (counted 0 most_columns column) ns [] s m, walked_stays (counted 0 1 (row n)) ns ts s m)
+      body_steps s ∙ rw (walked_stays (counted 0 most_columns column) ns ts s m, walked_stays (counted 0 1 (row n)) ns ts s m)
       (walked_stays (counted 0 100 (row n)) ns ts s m)
 
   pub table_steps : (s : State) → walked table ns ts s ≡ body_walked ns ts (head_walked ns ts s)

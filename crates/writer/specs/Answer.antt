@@ -1,5 +1,5 @@
 -- The walk's sections, and what is answered by it. Assumes nothing.
-use Rattle.std.specs.Prelude.{Result, Ok, Err, ℕ, zero, suc, List, [], true, false, ◌||◌, leb, ltb, eqb}
+use Rattle.std.specs.Prelude.{Result, Ok, Err, ℕ, zero, suc, List, true, false, ◌||◌, leb, ltb, eqb}
 use Rattle.rules.specs.Sheet.{most_columns}
 use Rattle.rules.specs.Style.{style_characters}
 use Rattle.rules.specs.Field.{between, printable, printable_or_zero}
@@ -12,10 +12,10 @@ use Rattle.rules.specs.Refusals.{number_of}
 use Rattle.rules.specs.declared.Refusal.{Refusal}
 
 -- a constraint: its code; the first width is used from 3 on, the second by 6
-unfoldable pub constraint_walked : List ℕ → State → State
-constraint_walked ns s =
+unfoldable pub constraint_walked : List ℕ → List ℕ → State → State
+constraint_walked ns ts s =
     let k = (number_at ns (cursor_of s.walk)).value in
-    walked (width (eqb k 6)) ns [] (walked (width (leb 3 k)) ns [] (walked (code 6) ns [] s))
+    walked (width (eqb k 6)) ns ts (walked (width (leb 3 k)) ns ts (walked (code 6) ns ts s))
 
 -- the table up to its style; then its columns, header and rows
 unfoldable pub head_walked : List ℕ → List ℕ → State → State

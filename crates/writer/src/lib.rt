@@ -3,7 +3,7 @@
 // One walk over the fields judges and writes: the first run is lent no buffer, the second the sheet's, once all is in order and fits.
 #![tactic(auto, using(crate::proofs::Laws::sections))]
 
-ghost use Rattle.std.specs.Prelude.{◌≡◌, []};
+ghost use Rattle.std.specs.Prelude.{◌≡◌, [], length};
 ghost use Rattle.rules.specs.Calls.{printed_of};
 ghost use Rattle.rules.specs.Writer as calls;
 ghost use Rattle.rules.specs.Format as format;
@@ -14,35 +14,34 @@ mod columns;
 mod rows;
 
 use editor::text::Kind;
-use editor::walk::{Missing, Walk};
-use editor::{field, text};
+use editor::walk::{Missing, Slices, Walk};
 use rules::{Printed, Reason, Refusal};
 
 // Edition, arrangement, target, delimiter, indicator, style.
-fn head(numbers: &[u16], text: &[u8], sheet: &mut [u8], from: Walk) -> Result<Walk, Missing>
-    ensures { state (walked_to result) sheet.new ≡ answer.head_walked numbers.now text.now (state (walk_of from) sheet.old) }
+fn head(table: &Slices<'_>, sheet: &mut [u8], from: Walk) -> Result<Walk, Missing>
+    ensures { state (walked_to result) sheet.new ≡ answer.head_walked table.now.numbers.now table.now.text.now (state (walk_of from) sheet.old) }
 {
-    let arrangement = field::within(numbers, sheet, from, 1, 1, Reason::WrongEdition)?;
-    let target = field::within(numbers, sheet, arrangement, 0, 2, Reason::UnknownCode)?;
-    let delimiter = field::word_to(numbers, sheet, target, 400)?;
-    let indicator = field::optional(numbers, sheet, delimiter)?;
-    let style = text::text(numbers, text, sheet, indicator, Kind::Indicator)?;
-    text::text(numbers, text, sheet, style, Kind::Style)
+    let arrangement = table.within(sheet, from, 1, 1, Reason::WrongEdition)?;
+    let target = table.within(sheet, arrangement, 0, 2, Reason::UnknownCode)?;
+    let delimiter = table.word_to(sheet, target, 400)?;
+    let indicator = table.optional(sheet, delimiter)?;
+    let style = table.text(sheet, indicator, Kind::Indicator)?;
+    table.text(sheet, style, Kind::Style)
 }
 
 // Columns, header, rows.
-fn body(numbers: &[u16], text: &[u8], sheet: &mut [u8], from: Walk) -> Result<Walk, Missing>
-    ensures { state (walked_to result) sheet.new ≡ answer.body_walked numbers.now text.now (state (walk_of from) sheet.old) }
+fn body(table: &Slices<'_>, sheet: &mut [u8], from: Walk) -> Result<Walk, Missing>
+    ensures { state (walked_to result) sheet.new ≡ answer.body_walked table.now.numbers.now table.now.text.now (state (walk_of from) sheet.old) }
 {
-    let columns = columns::columns(numbers, sheet, from)?;
-    let rows = rows::rows(numbers, text, sheet, columns.walk, columns.value, 1)?;
-    rows::rows(numbers, text, sheet, rows, columns.value, 100)
+    let columns = columns::columns(table, sheet, from)?;
+    let rows = rows::rows(table, sheet, columns.walk, columns.value, 1)?;
+    rows::rows(table, sheet, rows, columns.value, 100)
 }
 
 // The whole table, from its first field.
-fn table(numbers: &[u16], text: &[u8], sheet: &mut [u8]) -> Result<Walk, Missing>
+fn fields(table: &Slices<'_>, sheet: &mut [u8]) -> Result<Walk, Missing>
     ensures { state (walked_to result) sheet.new
-        ≡ walked format.table numbers.now text.now (state answer.begun sheet.old) }
+        ≡ walked format.table table.now.numbers.now table.now.text.now (state answer.begun sheet.old) }
 {
     let start = Walk {
         numbers: 0,
@@ -50,19 +49,20 @@ fn table(numbers: &[u16], text: &[u8], sheet: &mut [u8]) -> Result<Walk, Missing
         place: 0,
         fault: None,
     };
-    let columns = head(numbers, text, sheet, start)?;
-    body(numbers, text, sheet, columns)
+    let columns = head(table, sheet, start)?;
+    body(table, sheet, columns)
 }
 
 // The first run, with no buffer.
-fn judge(numbers: &[u16], text: &[u8]) -> Result<Walk, Missing>
-    ensures { walked_to result ≡ (walked format.table numbers.now text.now (state answer.begun [])).walk }
+fn judge(table: &Slices<'_>) -> Result<Walk, Missing>
+    ensures { walked_to result ≡ (walked format.table table.now.numbers.now table.now.text.now (state answer.begun [])).walk }
 {
     let mut none = [0u8; 0];
-    table(numbers, text, &mut none)
+    fields(table, &mut none)
 }
 
 // A table that isn't too long: its first fault; 22 where its sheet doesn't fit.
+#[tactic(auto, using(crate::proofs::Laws::fits))]
 fn fit(fault: Option<Refusal>, place: usize, room: usize) -> Result<(), Refusal>
     ensures { answer.decided_to result ≡ answer.fitting (number_in fault) (place_in fault) place room }
 {
@@ -80,10 +80,10 @@ fn fit(fault: Option<Refusal>, place: usize, room: usize) -> Result<(), Refusal>
 
 // By the first run, on which nothing was missing: 9, for then there is no table; 2; the first fault; 22.
 #[tactic(auto, using(crate::proofs::Laws::decisions))]
-fn decide(walked: Walk, numbers: usize, text: usize, room: usize) -> Result<(), Refusal>
-    ensures { answer.decided_to result ≡ answer.decided (walk_of walked) numbers text room }
+fn decide(walked: Walk, table: &Slices<'_>, room: usize) -> Result<(), Refusal>
+    ensures { answer.decided_to result ≡ answer.decided (walk_of walked) (length table.now.numbers.now) (length table.now.text.now) room }
 {
-    if walked.numbers < numbers || walked.text < text {
+    if walked.numbers < table.numbers.len() || walked.text < table.text.len() {
         return Err(Refusal {
             reason: Reason::LeftOver,
             place: walked.numbers,
@@ -99,13 +99,13 @@ fn decide(walked: Walk, numbers: usize, text: usize, room: usize) -> Result<(), 
 }
 
 // The size of the sheet that is written, or the refusal; a refusal leaves the buffer as it is.
-fn write(numbers: &[u16], text: &[u8], sheet: &mut [u8]) -> Result<usize, Refusal>
-    ensures value { printed_of result ≡ (calls.write_sheet numbers.now text.now sheet.old).answer }
-    ensures sheet_after { sheet.new ≡ (calls.write_sheet numbers.now text.now sheet.old).buffer }
+fn write(table: &Slices<'_>, sheet: &mut [u8]) -> Result<usize, Refusal>
+    ensures value { printed_of result ≡ (calls.write_sheet table.now.numbers.now table.now.text.now sheet.old).answer }
+    ensures sheet_after { sheet.new ≡ (calls.write_sheet table.now.numbers.now table.now.text.now sheet.old).buffer }
 {
-    let walked = judge(numbers, text)?;
-    decide(walked, numbers.len(), text.len(), sheet.len())?;
-    let _ = table(numbers, text, sheet);
+    let walked = judge(table)?;
+    decide(walked, table, sheet.len())?;
+    let _ = fields(table, sheet);
     Ok(walked.place)
 }
 
@@ -114,5 +114,6 @@ pub fn write_sheet(numbers: &[u16], text: &[u8], sheet: &mut [u8]) -> Printed
     ensures value { result ≡ (calls.write_sheet numbers.now text.now sheet.old).answer }
     ensures sheet_after { sheet.new ≡ (calls.write_sheet numbers.now text.now sheet.old).buffer }
 {
-    Printed::from(write(numbers, text, sheet))
+    let table = Slices { numbers, text };
+    Printed::from(write(&table, sheet))
 }

@@ -5,80 +5,66 @@ ghost use Rattle.rules.specs.Format as format;
 ghost use Rattle.editor.specs.Walk.{state, walked, walk_of, walked_to};
 
 use editor::text::Kind;
-use editor::walk::{Missing, Walk};
-use editor::{field, text};
+use editor::walk::{Missing, Slices, Walk};
 use rules::Reason;
 
 // A cell's lines.
-fn lines(numbers: &[u16], text: &[u8], sheet: &mut [u8], from: Walk) -> Result<Walk, Missing>
+fn lines(table: &Slices<'_>, sheet: &mut [u8], from: Walk) -> Result<Walk, Missing>
     ensures { state (walked_to result) sheet.new
-        ≡ walked (description.counted 1 8 format.line) numbers.now text.now (state (walk_of from) sheet.old) }
+        ≡ walked (description.counted 1 8 format.line) table.now.numbers.now table.now.text.now (state (walk_of from) sheet.old) }
 {
-    let count = field::byte_between(numbers, sheet, from, 1, 8, Reason::BeyondLimits)?;
+    let count = table.byte_between(sheet, from, 1, 8, Reason::BeyondLimits)?;
     let mut at = count.walk;
     for _ in 0..count.value {
-        at = text::text(numbers, text, sheet, at, Kind::Line)?;
+        at = table.text(sheet, at, Kind::Line)?;
     }
     Ok(at)
 }
 
-fn cell(numbers: &[u16], text: &[u8], sheet: &mut [u8], from: Walk) -> Result<Walk, Missing>
-    ensures { state (walked_to result) sheet.new ≡ walked format.cell numbers.now text.now (state (walk_of from) sheet.old) }
+fn cell(table: &Slices<'_>, sheet: &mut [u8], from: Walk) -> Result<Walk, Missing>
+    ensures { state (walked_to result) sheet.new ≡ walked format.cell table.now.numbers.now table.now.text.now (state (walk_of from) sheet.old) }
 {
-    let alignment = field::optional(numbers, sheet, from)?;
-    let count = field::within(numbers, sheet, alignment, 0, 3, Reason::UnknownCode)?;
-    lines(numbers, text, sheet, count)
+    let alignment = table.optional(sheet, from)?;
+    let count = table.within(sheet, alignment, 0, 3, Reason::UnknownCode)?;
+    lines(table, sheet, count)
 }
 
 // A row's cells, which are held to the column count.
-fn cells(
-    numbers: &[u16],
-    text: &[u8],
-    sheet: &mut [u8],
-    from: Walk,
-    columns: u16,
-) -> Result<Walk, Missing>
+fn cells(table: &Slices<'_>, sheet: &mut [u8], from: Walk, columns: u16) -> Result<Walk, Missing>
     ensures { state (walked_to result) sheet.new
-        ≡ walked (description.listed (format.cell_count columns) format.cell) numbers.now text.now (state (walk_of from) sheet.old) }
+        ≡ walked (description.listed (format.cell_count columns) format.cell) table.now.numbers.now table.now.text.now (state (walk_of from) sheet.old) }
 {
-    let count = field::cell_count(numbers, sheet, from, columns)?;
+    let count = table.cell_count(sheet, from, columns)?;
     let mut at = count.walk;
     for _ in 0..count.value {
-        at = cell(numbers, text, sheet, at)?;
+        at = cell(table, sheet, at)?;
     }
     Ok(at)
 }
 
-fn row(
-    numbers: &[u16],
-    text: &[u8],
-    sheet: &mut [u8],
-    from: Walk,
-    columns: u16,
-) -> Result<Walk, Missing>
+fn row(table: &Slices<'_>, sheet: &mut [u8], from: Walk, columns: u16) -> Result<Walk, Missing>
     ensures { state (walked_to result) sheet.new
-        ≡ walked (format.row columns) numbers.now text.now (state (walk_of from) sheet.old) }
+        ≡ walked (format.row columns) table.now.numbers.now table.now.text.now (state (walk_of from) sheet.old) }
 {
-    let count = field::within(numbers, sheet, from, 0, 255, Reason::BeyondLimits)?;
-    cells(numbers, text, sheet, count, columns)
+    let count = table.within(sheet, from, 0, 255, Reason::BeyondLimits)?;
+    cells(table, sheet, count, columns)
 }
 
 // Up to `most` rows after their count.
 pub fn rows(
-    numbers: &[u16],
-    text: &[u8],
+    table: &Slices<'_>,
     sheet: &mut [u8],
     from: Walk,
     columns: u16,
     most: u16,
 ) -> Result<Walk, Missing>
     ensures { state (walked_to result) sheet.new
-        ≡ walked (description.counted 0 most (format.row columns)) numbers.now text.now (state (walk_of from) sheet.old) }
+        ≡ walked (description.counted 0 most (format.row columns)) table.now.numbers.now table.now.text.now (state (walk_of from) sheet.old) }
 {
-    let count = field::byte_between(numbers, sheet, from, 0, most, Reason::BeyondLimits)?;
+    let count = table.byte_between(sheet, from, 0, most, Reason::BeyondLimits)?;
     let mut at = count.walk;
     for _ in 0..count.value {
-        at = row(numbers, text, sheet, at, columns)?;
+        at = row(table, sheet, at, columns)?;
     }
     Ok(at)
 }

@@ -1,10 +1,10 @@
 -- `writer::columns::columns` meets its contract. The loop: what is left to walk from here comes to what there was to walk. Assumes nothing.
-use mathlib.Core.List.{[]}
+use Prim.Native.Nat.{◌-◌}
+use mathlib.Core.Path.{◌≡◌}
 use Rattle.rules.specs.Format.{column}
 use Rattle.editor.specs.Walk.{state, walk_of, again, walked}
-use Rattle.writer.proofs.Walks.{Left}
 use Rattle.writer.proofs.columns.columns.Given as goal
 
 abbrev pub invariant-loop : goal.invariant-loop
-invariant-loop l = Left (λ u. walked column l.numbers [] u) l.end l.counter (state (walk_of l.at) l.sheet)
-    (again l.end (λ u. walked column l.numbers [] u) (state (walk_of l.initial.at) l.initial.sheet))
+invariant-loop l = again (l.end - l.counter) (λ u. walked column l.table.numbers.now l.table.text.now u) (state (walk_of l.at) l.sheet)
+    ≡ again l.end (λ u. walked column l.table.numbers.now l.table.text.now u) (state (walk_of l.initial.at) l.initial.sheet)

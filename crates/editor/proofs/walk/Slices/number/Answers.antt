@@ -1,8 +1,8 @@
--- `editor::walk::number` meets its contract. Assumes nothing.
+-- `editor::walk::Slices::number` meets its contract. Assumes nothing.
 use mathlib.Core.Path.{refl, ◌∙◌}
 use Rattle.editor.specs.Walk.{walk_of}
 use Rattle.editor.proofs.Taking.{number_none, number_value, number_next}
-use Rattle.editor.proofs.walk.number.Goals as goal
+use Rattle.editor.proofs.walk.Slices.number.Goals as goal
 
 pub returns-in_default-clause-next : goal.returns-in_default-clause-next
 returns-in_default-clause-next c = number_none _ _ c.in_default.ensures.lookup.3
