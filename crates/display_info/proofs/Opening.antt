@@ -6,7 +6,7 @@ use mathlib.Core.List.{List, [], ◌∷◌, map}
 use mathlib.Core.Bool.{Bool, true, false}
 use native.Mathlib.Numerals.{add-one}
 use native.Mathlib.Omega.{arith}
-use lib.ListN.{length, drop, get_or, replicate, length-append, length-map, get_or-append}
+use lib.ListN.{length, get_or, replicate, length-append, length-map, get_or-append}
 use Rattle.rules.specs.declared.Column.{Column}
 use Rattle.rules.specs.Text.{or_else}
 use Rattle.rules.specs.Sheet.{Table, most_columns, no_column, column_at, is_hidden}
@@ -19,7 +19,7 @@ use Rattle.laws.proofs.Areas.{content-some}
 use Rattle.laws.proofs.Bounds.{Most, contents_801}
 use Rattle.laws.proofs.Contents.{length-contents}
 use Rattle.laws.proofs.Counts.{visible_to, visible-to-none, visible-to-shown, visible-to_hidden, visible-to-all, visible_rising, visible_number}
-use Rattle.laws.proofs.Lists.{all_drop, all_get_d, get_d_map}
+use Rattle.laws.proofs.Lists.{all_get_d, get_d_map}
 use Rattle.laws.proofs.Texts.{plain-all}
 use Rattle.rules.specs.Places.{rows_place}
 use Rattle.table.specs.Held.{IsAccepted, table_of, settings_of, columns_of}
@@ -44,8 +44,7 @@ use Rattle.row.specs.declared.CellAlignment.{CellAlignment}
 use Rattle.row.specs.declared.CellAlignment.TheVariants.{Left}
 use Rattle.row.specs.declared.VisibleColumn.{VisibleColumn}
 use Rattle.display_info.specs.declared.LineStyles.{LineStyles}
-use Rattle.display_info.specs.Opened.{styles_of, RowsAt, Opened}
-use Rattle.display_info.specs.declared.DisplayInfo.{DisplayInfo}
+use Rattle.display_info.specs.Opened.{styles_of, RowsAt}
 use Rattle.display_info.specs.Opening.{shown_from, behind, showing}
 
 -- the table of a sheet that passes keeps every limit

@@ -7,7 +7,6 @@ use native.Mathlib.Omega.{arith}
 use lib.ListN.{length, take, drop, length-append, length-replicate}
 use lib.Seq.{slice, length-slice, length-take-le, take-take, take_all}
 use lib.Dec.{leb, ltb}
-use borrow.Author.Tests.{le-leb, lt-leb}
 use Rattle.rules.specs.Text.{text_width, bytes_of, first_of, blank}
 use Rattle.rules.specs.Limits.{Plain}
 use Rattle.rules.specs.Wrap.{shown_indicator, cut_line}
@@ -48,16 +47,6 @@ pub area_total : (v : VisibleColumn) (a : CellAlignment) (text marks : List ℕ)
     → length (area_in v a (text ++ marks)) ≡ v.left + b + (length text + (length marks + (spare - b + v.right)))
 area_total v a text marks spare b e q =
     sym (ap length (area_is v a text marks spare b e q)) ∙ simp (length-append, length-replicate) (omega arith)
-
--- the indicator's bytes, exit by exit
-pub marks_whole : (cut : Bool) (n w : ℕ) → cut ≡ true → n ≤ w → n ≡ marks_shown cut n w
-marks_whole cut n w e h = rw (e, le-leb n w h)
-
-pub marks-wide : (cut : Bool) (n w : ℕ) → cut ≡ true → w < n → 0 ≡ marks_shown cut n w
-marks-wide cut n w e h = rw (e, lt-leb n w h)
-
-pub marks-none : (cut : Bool) (n w : ℕ) → cut ≡ false → 0 ≡ marks_shown cut n w
-marks-none cut n w e = rw e
 
 -- ---- a line shortened
 

@@ -221,10 +221,3 @@ too_long false size n l count room h e f g = omega (arith, leb-false n room g)
 pub short_enough : (plain : Bool) (n l room : ℕ) → l ≡ n → (not plain && leb n room) ≡ true → l ≤ room
 short_enough true n l room f g = let z : ◌≡◌ {A = ℕ} 0 1 = cc in absurd (omega arith)
 short_enough false n l room f g = omega (arith, leb-true n room g)
-
--- the two ways to find it
-pub plain-not : (plain b : Bool) → plain ≡ true → false ≡ (not plain && b)
-plain-not plain b e = rw e
-
-pub counted_so : (plain : Bool) (size n m room : ℕ) → plain ≡ false → n ≡ m → leb (size + n) room ≡ (not plain && leb (size + m) room)
-counted_so plain size n m room e f = rw (e, f)

@@ -102,9 +102,6 @@ module _ (s : List ℕ) (v : VisibleColumn) (ls : List (List ℕ)) (ind : List �
         let q : e - j + (j - a) ≡ e - a = omega (arith, G.onward, G.within) in
         G.total ∙ sym (ap (shown_in (cut v.width ind h ls) a) (sym q) ∙ shown-past (cut v.width ind h ls) a (j - a) (e - j) (omega arith))
 
-    pub showing_done : e ≤ j → n ≡ shown_in (cut v.width ind h ls) a (e - a)
-    showing_done k = let q : j ≡ e = omega (arith, G.within) in rw q at G.total
-
     -- line j is shown
     pub showing-on : true ≡ (in_limit h j && t.line.found) → j < e → (r : Pending) → After s v.width t r → (c : Bool) → c ≡ (last_of h j && r.line.found)
         → (m : ℕ) → (m ≡ length (shown_text s v.width ind c t) - text_width (shown_text s v.width ind c t)) × (m ≤ 32768)

@@ -1,5 +1,5 @@
 -- What is pending for a row is what the document's rules say: its lines, its cut, its height. Assumes nothing.
-use Prim.Native.Nat.{ℕ, zero, suc, ◌+◌, ◌-◌, ◌≤◌, ◌<◌}
+use Prim.Native.Nat.{ℕ, zero, suc, ◌+◌, ◌-◌, ◌<◌}
 use mathlib.Core.Path.{◌≡◌, refl, sym, ap, ◌∙◌}
 use mathlib.Core.List.{List, [], ◌∷◌, ◌++◌}
 use mathlib.Core.Bool.{Bool, true, false, ◌&&◌}
@@ -7,7 +7,7 @@ use native.Mathlib.Omega.{arith}
 use lib.ListN.{length, take, drop, get_or, length-append, length-drop, get_or-append}
 use lib.Seq.{drop-drop, get_or-drop, get_or_at, get_or-take, length-take-le}
 use lib.Dec.{ltb, eqb}
-use borrow.Author.Tests.{ltb-true, ltb-false, lt-ltb, le-ltb, ne_eqb, eqb-true, eqb-false}
+use borrow.Author.Tests.{ltb-true, ltb-false, lt-ltb, le-ltb, eqb-true, eqb-false}
 use Rattle.rules.specs.Sheet.{Row, Table, column_at, cell_at}
 use Rattle.rules.specs.Text.{text_width}
 use Rattle.rules.specs.Wrap.{exceeds, cut_line, cut}
@@ -137,18 +137,6 @@ cut_has w ind (suc h) j ls = go (ltb (suc h) (length ls)) refl (ltb j (suc h)) r
     go false f false g = let a = ltb-false j (suc h) g in let l = ltb-false (suc h) (length ls) f in le-ltb j (length ls) (omega arith)
 
 -- ---- the limit, exit by exit
-
-pub past_limit : (limit line : ℕ) (found : Bool) → (limit ≡ 0 → ⊥) → limit ≤ line → false ≡ (in_limit limit line && found)
-past_limit zero line found h k = absurd (h refl)
-past_limit (suc l) line found h k = rw (le-ltb line (suc l) k)
-
-pub below_limit : (limit line : ℕ) (found : Bool) → (limit ≡ 0 → ⊥) → line < limit → found ≡ (in_limit limit line && found)
-below_limit zero line found h k = absurd (h refl)
-below_limit (suc l) line found h k = rw (lt-ltb line (suc l) k)
-
-pub last_line : (limit line : ℕ) → eqb (line + 1) limit ≡ last_of limit line
-last_line zero line = ne_eqb (line + 1) 0 (λ e. omega arith)
-last_line (suc l) line = refl
 
 -- ---- one column of a row
 

@@ -376,19 +376,6 @@ module _ (view : View) where
   border_bytes (Some x) m n S e =
       rw e (omega (arith, S x refl, ap length (closed-one (rule_text view x)), length-append (rule_text view x) (10 ∷ [])))
 
-  pub border_most : (o : Option RuleStyle) (m n : ℕ) → n ≡ length (rule_by view o) → n * m ≤ m
-  border_most None m n e = rw e (omega arith)
-  border_most (Some x) m n e = rw e (omega arith)
-
-  pub border_line : (o : Option RuleStyle) (m n : ℕ) → SizedRule view o m → n < length (rule_by view o)
-      → m ≡ length (get_or (rule_by view o) n []) + 1
-  border_line None m n S h = absurd (omega arith)
-  border_line (Some x) m n S h = let z : n ≡ 0 = omega arith in rw z (S x refl)
-
-  -- it has one line or none, so that it is drawn from its start
-  pub border_start : (o : Option RuleStyle) (n : ℕ) → n ≤ length (rule_by view o) - 1 → drop n (rule_by view o) ≡ rule_by view o
-  border_start o n h = let z : n ≡ 0 = omega (arith, rule_few view o) in rw z
-
 -- ---- how many lines
 
 pub part_few : (ls : List (List ℕ)) (b a : List ℕ) (r : Part) → PartIs ls b a r → r.lines ≤ length ls

@@ -20,9 +20,6 @@ next f m x = refl
 pub record Items (f : Step → Step) (n i : ℕ) (x w : Step) : Type 0 where
   pub rest : times (n - i) f x ≡ w
 
-pub items_begin : (f : Step → Step) (n : ℕ) (x : Step) → Items f n 0 x (times n f x)
-items_begin f n x = let z : n - 0 ≡ n = omega arith in record { rest = rw z }
-
 pub items-again : (f : Step → Step) (n i : ℕ) (x y w : Step) → i < n → Items f n i x w → y ≡ f x → Items f n (i + 1) y w
 items-again f n i x y w h e g =
     let z : n - i ≡ suc (n - (i + 1)) = omega arith in

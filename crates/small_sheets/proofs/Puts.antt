@@ -2,7 +2,7 @@
 use Prim.Native.Nat.{ℕ, zero, suc, ◌+◌, ◌*◌, ◌-◌, ◌/◌, ◌%◌, ◌^◌, ◌≤◌, ◌<◌}
 use mathlib.Core.Path.{◌≡◌, refl, ap, sym, subst, ◌∙◌}
 use mathlib.Core.List.{List, [], ◌∷◌, ◌++◌, append_assoc, append-nil}
-use native.Mathlib.Nat.{one-le-pow, pow-le-pow_right, mod-lt}
+use native.Mathlib.Nat.{one-le-pow, mod-lt}
 use native.Mathlib.Omega.{arith}
 use lib.ListN.{length, get_or, set, replicate, length-append, length-replicate, length-set}
 use Rattle.std.specs.Prelude.{Option, Some, None}
@@ -17,20 +17,6 @@ use Rattle.small_sheets.proofs.Bytes.{columns-length}
 use Rattle.small_sheets.proofs.Numbers.{letters-count, text-first}
 
 -- ---- a text
-
-pub letter_space : (d : ℕ) → d ≡ 0 → 32 ≡ get_or letters d 97
-letter_space d h = rw h
-
-pub letter-a : (d : ℕ) → (d ≡ 0 → ⊥) → 97 ≡ get_or letters d 97
-letter-a zero h = absurd (h refl)
-letter-a (suc zero) h = refl
-letter-a (suc (suc d)) h = refl
-
-pub power_is : (n : ℕ) → n ≤ 4 → (1 * 2 ^ n % 18446744073709551616 ≡ 2 ^ n) × (0 < 1 * 2 ^ n % 18446744073709551616)
-power_is n h =
-    let most : 2 ^ n ≤ 2 ^ 4 = pow-le-pow_right {n = 2} (omega arith) h in
-    let some : 1 ≤ 2 ^ n = one-le-pow n 2 (omega arith) in
-    (omega (arith, most), omega (arith, most, some))
 
 pub text-length : (t : Text) → length (text_is t) ≡ t.length
 unfolding text_is

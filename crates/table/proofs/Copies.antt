@@ -21,9 +21,6 @@ length-more : {A : Type 0} (a : List A) (v : A) → length (a ++ (v ∷ [])) ≡
 length-more [] v = refl
 length-more (x ∷ a) v = ap suc (length-more a v)
 
-pub copied_begin : {A : Type 0} (l a : List A) → a ≡ [] → Copied l 0 a
-copied_begin l a e = record { so = e; few = omega (arith, ap length e) }
-
 pub copied-again : {A : Type 0} (d : A) (l : List A) (i : ℕ) (a : List A) (v : A) (b : List A) → i < length l → v ≡ get_or l i d → b ≡ a ++ (v ∷ [])
     → Copied l i a → Copied l (i + 1) b
 copied-again d l i a v b h e f c = record {

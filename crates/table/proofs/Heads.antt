@@ -1,6 +1,6 @@
 -- Heads passed and a line taken: the lines ahead are the same, but for the one that is taken. Assumes nothing.
 use Prim.Native.Nat.{ℕ, zero, suc, ◌+◌, ◌-◌, ◌≤◌, ◌<◌, max}
-use mathlib.Core.Path.{◌≡◌, refl, ap, sym, ◌∙◌}
+use mathlib.Core.Path.{◌≡◌, ap, sym, ◌∙◌}
 use mathlib.Core.List.{List, [], ◌∷◌, ◌++◌, map, append_assoc}
 use native.Mathlib.Omega.{arith}
 use lib.ListN.{length, get_or, take, drop}
@@ -16,7 +16,6 @@ use Rattle.laws.proofs.Stands.{Onward, past-onward, cell-stop, row-stop, cell-on
 use Rattle.table.specs.Step.{lines_at, cells_at, rows_at, section_stop, in_sections, in_rows, in_cells, ahead, ahead_end, Ready, SameAhead, Takes, AllNarrow}
 use Rattle.table.specs.declared.step.Left.{Left}
 use Rattle.table.specs.declared.step.Stand.{Stand}
-use Rattle.table.specs.declared.step.Taken.{Taken}
 use Rattle.table.proofs.Walks.{other-past}
 
 -- ---- what is left goes on from where it stands
@@ -195,9 +194,6 @@ line-counted t n e = let w = width_whole n t e in (w, omega (arith, w, width-le 
 
 -- ---- heads up to the next line
 
-pub same_begins : (s : List ℕ) (c : Left) → Ready s 0 c → SameAhead s 0 c (record { at = 0; left = c })
-same_begins s c r = record { same = refl; ends = refl; counted = r.counted }
-
 pub same-again : (s : List ℕ) (p : ℕ) (c : Left) (a b : Stand) → SameAhead s p c a → SameAhead s a.at a.left b → SameAhead s p c b
 same-again s p c a b h k = record { same = k.same ∙ h.same; ends = k.ends ∙ h.ends; counted = k.counted }
 
@@ -215,16 +211,6 @@ nothing-ahead s p c l i j h =
     let m : c.rows ≡ 0 = omega arith in
     let n : c.sections ≡ 0 = omega arith in
     rw (l, k, m, n)
-
-pub step-takes : (s before : List ℕ) (c : Left) (a : Stand) (t : Taken) → SameAhead s 0 c a → Takes s before a.at a.left t → Takes s before 0 c t
-step-takes s before c a t h k = record {
-  first = sym h.same ∙ k.first;
-  onward = omega arith;
-  ends = k.ends;
-  characters = k.characters;
-  inside = k.inside ∙ h.ends;
-  counted = k.counted;
-}
 
 -- the line that comes first is of a column that there can be
 pub first_narrow : (s : List ℕ) (c : Left) (a : Stand) → SameAhead s 0 c a → 0 < a.left.lines → AllNarrow (ahead s 0 c)

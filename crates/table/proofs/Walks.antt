@@ -202,9 +202,6 @@ pub record Skipping (s : List ℕ) (all c : Cells) (n i : ℕ) : Type 0 where
   pub inside : cells_end s c ≤ length s
 
 module _ (s : List ℕ) (all : Cells) (n : ℕ) where
-  pub skip_begins : cells_end s all ≤ length s → Skipping s all all n 0
-  skip_begins h = record { within = omega arith; skipped = record { cells = refl; left = omega arith; ends = refl }; inside = h }
-
   pub skip-again : (c r : Cells) (i : ℕ) → i < n → CellsNext s c r → Skipping s all c n i → Skipping s all r n (i + 1)
   skip-again c r i h next so =
       record {
@@ -227,6 +224,3 @@ module _ (s : List ℕ) (all : Cells) (n : ℕ) where
         left = omega (arith, so.skipped.left, so.within);
         ends = so.skipped.ends;
       }
-
-  pub skip_done : (c : Cells) (i : ℕ) → n ≤ i → Skipping s all c n i → CellsSkipped s all n c
-  skip_done c i h so = let e : i ≡ n = omega (arith, so.within) in rw e at so.skipped

@@ -1,6 +1,4 @@
-use Prim.Native.Nat.{◌+◌}
-use native.Mathlib.Omega.{arith}
-use Rattle.parts.proofs.Bands.{border_bytes, border_most}
+use Rattle.parts.proofs.Bands.{border_bytes}
 use Rattle.parts.proofs.part.PagePart.bytes.Goals as goal
 
 pub returns-in-Border : goal.returns-in-Border
