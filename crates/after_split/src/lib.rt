@@ -90,7 +90,6 @@ fn longest_part_of_lines(
 {
     let mut longest = before;
     let mut c = lines;
-    // Kept: the cursor counts what is left itself; a `for` over that number would count it twice and still move the cursor.
     while 0 < c.left {
         if saves_too_little(average, longest) {
             return longest;

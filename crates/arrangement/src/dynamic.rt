@@ -54,7 +54,7 @@ fn raised_offer(a: u16, c: &Column, b: Option<ConstraintWidth>) -> Option<Conten
 fn short_offer(a: u16, n: ContentWidth) -> Option<ContentWidth>
     ensures { offered result ≡ within_average n.0 a }
 {
-    if n.0 <= a { Some(n) } else { None }
+    (n.0 <= a).then_some(n)
 }
 
 // An upper bound that the content reaches and the average allows comes before the longest.
@@ -78,11 +78,7 @@ fn fitting_offer(
 fn split_offer(a: u16, n: ContentWidth) -> Option<ContentWidth>
     ensures { offered result ≡ shorter_by3 n.0 a }
 {
-    if u32::from(n.0) + 3 <= u32::from(a) {
-        Some(n)
-    } else {
-        None
-    }
+    (u32::from(n.0) + 3 <= u32::from(a)).then_some(n)
 }
 
 // One of steps 1 to 3: passes over the columns, in which each undecided one is made an offer by the average of the moment.
@@ -199,6 +195,7 @@ fn repeat<S: Step>(step: &S, t: &Layout, s: &mut State)
     // The numbers are compared and not the sets: a number that is read is known to fit its type.
     let mut before = s.decided.0;
     let mut again = true;
+    // Kept: no index is counted; whether another pass follows is found by what this one changed.
     while again {
         pass(step, t, s);
         again = s.decided.0 != before;

@@ -14,7 +14,7 @@ use style::table::ContentArrangement;
 use style::table_style::{ContentLineStyle, LineStyle, TableStyle};
 use table::accepted::AcceptedSheet;
 
-// Kept beside `content_from`: the types are the Rust's, and what reads any number of characters would still need a way to each of them.
+// Kept beside `content_from`: a line of four characters and one of three are two records of the Rust, which share nothing but the array they are read of.
 fn line_from(b: [u8; STYLE_CHARACTERS], k: usize) -> LineStyle
     requires { k + 3 < style_characters }
     ensures { result ≡ line_from b k }
@@ -63,7 +63,7 @@ pub fn style_from(b: [u8; STYLE_CHARACTERS]) -> TableStyle
 fn target_from(width: u16) -> Option<u16>
     ensures { result ≡ target_of width }
 {
-    if width == 0 { None } else { Some(width) }
+    (width != 0).then_some(width)
 }
 
 // The settings and columns by value, so that changed ones can be arranged as well.

@@ -62,7 +62,8 @@ fn untargeted(first: ColumnSet, state: State) -> Course
     }
 }
 
-// `Describes` stays a clause of this function and of two that it calls: one struct of sheet and layout would be made here and taken apart there.
+// `Describes` stays a clause of this function and of the two below it: one struct of sheet and layout would be made here and taken apart there.
+
 // A target is made up only where there is one and the arrangement isn't `Disabled`.
 #[tactic(auto, using(style::proofs::Laws::disabled_same), unfolding(crate::specs::Arrange::arranged))]
 fn arrange(sheet: &AcceptedSheet<'_>, t: &Layout) -> Course

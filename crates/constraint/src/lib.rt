@@ -68,6 +68,7 @@ impl Layout {
         ensures { (g : ℕ → T) → Tells self.now (F.post f) g → result ≡ by_column self.now blank g }
     {
         let mut each = [blank; MOST_COLUMNS];
+        // By the number: of a zip with `iter_mut` a proof knows nothing of what was written.
         for (i, c) in self.columns.iter().enumerate() {
             each[i] = f(i, c);
         }
@@ -185,8 +186,9 @@ impl State {
         self.remaining.checked_div(self.undecided()).unwrap_or(0)
     }
 
+    // Here and below the number stays beside the column: the set and the widths are asked by it, and a loop's `enumerate` gives the two so.
+
     // A hidden column is decided from the start, though it is never in the set.
-    // Here and below the number stays: the set and the widths are asked by it.
     pub fn is_decided(&self, c: &Column, i: usize) -> bool
         requires { i < most_columns }
         ensures { result ≡ decided c.now i self.now }

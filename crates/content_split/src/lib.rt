@@ -28,7 +28,9 @@ pub struct Part {
     pub next: usize,
 }
 
-// This and the next two look for a delimiter, and need no width: they stay functions of bytes, and ask for none.
+// This and the next two look for a delimiter, and need no width: they stay functions of bytes, and ask for none. Their loops go over places, since a
+// place is the answer: by `position` it is one in a part of the text, and the place in the text a sum.
+
 // The first delimiter of `text` at or after `from`, or the text's length. A piece is followed no further than just past `most` bytes, so
 // that a long word isn't gone through again for each of its lines.
 pub fn piece_end(text: &[u8], from: usize, delimiter: u8, most: usize) -> usize
@@ -72,7 +74,8 @@ fn last_before(text: &[u8], from: usize, to: usize, delimiter: u8) -> usize
     from
 }
 
-// What `split_line` calls is always put into it, so that `plain` is a constant there; without, pages of short lines took half as long again.
+// Kept `inline(always)`: what `split_line` calls of this type goes into it, so that `plain` is a constant there; without, pages of short lines took
+// half as long again. `Sound` stays a clause: it is of a place too, which `Parts` alone has.
 impl<'a> SplitText<'a> {
     // Whether the piece from `from` on has more columns than the width.
     #[inline(always)]
@@ -156,7 +159,7 @@ impl<'a> SplitText<'a> {
         self.straddled(start, stop)
     }
 
-    // The next line that the text is split into, from `from` on. Always put into its callers, for the same reason.
+    // The next line that the text is split into, from `from` on. Always put into its callers: it is a test and a call.
     #[inline(always)]
     pub fn next_part(&self, from: usize) -> Option<Part>
         requires { (from ≤ length self.now.text.bytes.now) × Sound self.now.delimiter self.now.text.bytes.now from }

@@ -6,10 +6,10 @@ use mathlib.Core.List.{List, [], ◌∷◌, map}
 use mathlib.Core.Bool.{Bool, true, false}
 use native.Mathlib.Numerals.{add-one}
 use native.Mathlib.Omega.{arith}
-use lib.ListN.{length, get_or, replicate, length-append, length-map, get_or-append}
+use lib.ListN.{length, drop, get_or, replicate, length-append, length-map, get_or-append}
 use Rattle.rules.specs.declared.Column.{Column}
 use Rattle.rules.specs.Text.{or_else}
-use Rattle.rules.specs.Sheet.{Table, most_columns, no_column, column_at, is_hidden}
+use Rattle.rules.specs.Sheet.{Row, Table, most_columns, no_column, column_at, is_hidden}
 use Rattle.rules.specs.Limits.{Printable, TableLimits, ColumnLimits}
 use Rattle.rules.specs.Style.{content_lines}
 use Rattle.rules.specs.Calls.{as_array}
@@ -179,11 +179,15 @@ module _ (t : Table) (view : View) (T : TableLimits t) (W : Views t (contents t)
 
 -- ---- header and rows
 
+-- all of some rows are the last of them
+all-last : (s : List ℕ) (c : Rows) (rs : List Row) → rows_in s c ≡ rs → rows_in s c ≡ drop (length rs - c.left) rs
+all-last s c rs e = let z : length rs - c.left ≡ 0 = omega (arith, ap length e, rows_number s c) in e ∙ ap (λ n. drop n rs) (sym z)
+
 module _ (s : List ℕ) (passes : IsAccepted s) (c : Rows) where
   pub header_at : rows_in s c ≡ (table_of s).header → rows_end s c ≡ rows_place s → RowsAt s c
   header_at e f =
       let m = room s passes in
-      record { ends = omega (arith, f); sound = rw e (limits_of s passes).header_row; among = ∣ (0, inl e) ∣₁ }
+      record { ends = omega (arith, f); sound = rw e (limits_of s passes).header_row; among = ∣ inl (all-last s c _ e) ∣₁ }
 
   -- at most one header row
   pub header_one : rows_in s c ≡ (table_of s).header → c.left ≤ 1
@@ -193,4 +197,4 @@ module _ (s : List ℕ) (passes : IsAccepted s) (c : Rows) where
   rows_few e = omega (arith, (limits_of s passes).rows, ap length e, rows_number s c)
 
   pub rows_at : rows_in s c ≡ (table_of s).rows → rows_end s c ≡ length s → RowsAt s c
-  rows_at e f = record { ends = omega (arith, f); sound = rw e (limits_of s passes).each_row; among = ∣ (0, inr e) ∣₁ }
+  rows_at e f = record { ends = omega (arith, f); sound = rw e (limits_of s passes).each_row; among = ∣ inr (all-last s c _ e) ∣₁ }

@@ -1,5 +1,5 @@
 -- What a page is drawn from. Assumes nothing.
-use Rattle.std.specs.Prelude.{ℕ, ◌≤◌, ◌≡◌, ◌⊎◌, List, true, length, drop}
+use Rattle.std.specs.Prelude.{ℕ, ◌-◌, ◌≤◌, ◌≡◌, ◌⊎◌, List, true, length, drop}
 use Rattle.std.specs.Bool.{then_some}
 use Rattle.rules.specs.Text.{All}
 use Rattle.rules.specs.Limits.{RowLimits, PlainTable}
@@ -39,7 +39,8 @@ styles_of S = record {
 pub record RowsAt (s : List ℕ) (c : Rows) : Type 0 where
   pub ends : rows_end s c ≤ length s
   pub sound : All (RowLimits (length (table_of s).columns)) (rows_in s c)
-  pub among : ∥ ((n : ℕ) × ((rows_in s c ≡ drop n (table_of s).header) ⊎ (rows_in s c ≡ drop n (table_of s).rows))) ∥₁
+  pub among : ∥ (rows_in s c ≡ drop (length (table_of s).header - c.left) (table_of s).header)
+      ⊎ (rows_in s c ≡ drop (length (table_of s).rows - c.left) (table_of s).rows) ∥₁
 
 -- a page over some rows is drawn from the sheet's columns, style and header
 pub record Opened (s : List ℕ) (p : DisplayInfo) : Type 0 where

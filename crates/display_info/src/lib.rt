@@ -19,7 +19,7 @@ ghost use Rattle.formatting.specs.Stand.{text_style_of};
 ghost use Rattle.borders.specs.Rule.{rule_style_of, NarrowAll};
 ghost use Rattle.row.specs.Open.{Rising, UsableAll};
 ghost use Rattle.display_info.specs.Opened.{styles_of, Opened};
-ghost use Rattle.row.specs.Props.{props};
+ghost use Rattle.row.proofs.Props.{props};
 ghost use Rattle.display_info.specs.Opening.{edges_of, showing};
 
 use crate::lengths::Lengths;

@@ -71,7 +71,7 @@ impl Slices<'_> {
     }
 
     // The next n bytes of the text.
-    pub fn bytes(&self, from: Walk, n: u16) -> Result<Walk, Missing>
+    pub(crate) fn bytes(&self, from: Walk, n: u16) -> Result<Walk, Missing>
         ensures { walked_to result ≡ moved (slices.bytes_at n self.now.text.now (cursor_of (walk_of from))).after (walk_of from) }
     {
         let size = usize::from(n);

@@ -11,7 +11,7 @@ ghost use Rattle.formatting.specs.Area.{area_in, marks_shown, LineIn, ShownIs, s
 ghost use Rattle.row.specs.Alignment.{code_of};
 ghost use Rattle.row.specs.Height.{added_up_to};
 ghost use Rattle.row.specs.Open.{WalkedAll};
-ghost use Rattle.row.specs.Props.{props};
+ghost use Rattle.row.proofs.Props.{props};
 ghost use Rattle.row.specs.Pending.{InSheet, Ready, any_found};
 ghost use Rattle.formatting.specs.Line.{line_bytes, ReadyAll, AfterAll};
 ghost use Rattle.formatting.specs.Stand.{in_limit, last_of};

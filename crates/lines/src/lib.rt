@@ -26,7 +26,7 @@ pub fn count(p: &Page<'_>) -> Totals
     let mut c = cursor::first(p.info.rows);
     let mut lines: usize = 0;
     let mut bytes: usize = 0;
-    // Kept, here and below: no index is counted, and in the other two loops the cursor that is reached is the answer.
+    // Kept: no index is counted. An iterator of parts would serve this loop alone; in the two below the cursor that is reached is the answer.
     while !cursor::is_end(c) {
         let part = PagePart::at(p, c);
         let n = part.lines(p);

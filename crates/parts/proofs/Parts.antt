@@ -1,11 +1,11 @@
 -- The parts of a page one after another. Assumes nothing.
-use Prim.Native.Nat.{ℕ, zero, suc, ◌+◌, ◌*◌, ◌≤◌, ◌<◌}
+use Prim.Native.Nat.{ℕ, zero, suc, ◌+◌, ◌-◌, ◌*◌, ◌≤◌, ◌<◌}
 use mathlib.Core.Path.{◌≡◌, refl, sym, ap, ◌∙◌}
 use mathlib.Core.List.{List, [], ◌∷◌, ◌++◌, map, append_assoc, append-nil}
 use mathlib.Core.Logic.{∥∥₁_map, ∥∥₁_elim, inl, inr, ⊎_elim}
 use mathlib.Core.Bool.{Bool, true, false}
 use native.Mathlib.Omega.{arith}
-use lib.ListN.{length, drop, get_or}
+use lib.ListN.{length, drop, get_or, length-drop}
 use lib.Seq.{drop-drop}
 use lib.Dec.{ltb}
 use borrow.Author.Tests.{lt-ltb, le-ltb}
@@ -42,7 +42,7 @@ use Rattle.formatting.proofs.Whole.{styled_text}
 use Rattle.borders.proofs.Rule.{rule-drawn}
 use Rattle.display_info.proofs.Opening.{limits_of}
 use Rattle.display_info.specs.Opened.{widths_in, styles_of, RowsAt, Opened}
-use Rattle.row.specs.Props.{props}
+use Rattle.row.proofs.Props.{props}
 use Rattle.parts.specs.Ahead.{rule_lines, text_lines, first_ruled, header_lines_of, row_lines_of, body_lines, part_by, part_lines, rest_by, rest_lines}
 use Rattle.parts.specs.Ahead.{ahead, lines_of, is_end, first_cursor, At, Next, AfterRow}
 use Rattle.parts.specs.Band.{rule_by, SizedRule, band_lines, body_style, SizedBand}
@@ -56,19 +56,26 @@ use Rattle.parts.specs.declared.cursor.Stage.TheVariants.{Top, Header, Body, Bot
 
 -- ---- rows
 
+-- without the first, the last of some rows are the last of them still
+one-less : (s : List ℕ) (c n : Rows) → RowsNext s c n → (rs : List Row) → rows_in s c ≡ drop (length rs - c.left) rs
+    → drop 1 (rows_in s c) ≡ drop (length rs - n.left) rs
+one-less s c n N rs e =
+    let k = length rs - c.left in
+    let z : 1 + k ≡ length rs - n.left = omega (arith, N.left, rows_number s c, ap length e, length-drop k rs) in
+    ap (drop 1) e ∙ drop-drop 1 k rs ∙ ap (λ m. drop m rs) (sum_turned k z)
+  where
+    sum_turned : (k : ℕ) {m : ℕ} → 1 + k ≡ m → k + 1 ≡ m
+    sum_turned k e = omega (arith, e)
+
 -- the rows after the first are within the sheet and the limits too
 pub rows_next : (s : List ℕ) (c n : Rows) → RowsAt s c → RowsNext s c n → RowsAt s n
 rows_next s c n A N = record {
   ends = omega (arith, N.ends, A.ends);
   sound = rw N.rows (all_drop _ 1 (rows_in s c) A.sound);
   among = ∥∥₁_map A.among
-      (λ w. (
-        w.0 + 1,
-        ⊎_elim
-            (λ (e : rows_in s c ≡ drop w.0 (table_of s).header). inl (N.rows ∙ ap (drop 1) e ∙ drop-drop 1 w.0 (table_of s).header))
-            (λ (e : rows_in s c ≡ drop w.0 (table_of s).rows). inr (N.rows ∙ ap (drop 1) e ∙ drop-drop 1 w.0 (table_of s).rows))
-            w.1,
-      ));
+      (⊎_elim
+      (λ (e : rows_in s c ≡ drop (length (table_of s).header - c.left) (table_of s).header). inl (N.rows ∙ one-less s c n N (table_of s).header e))
+      (λ (e : rows_in s c ≡ drop (length (table_of s).rows - c.left) (table_of s).rows). inr (N.rows ∙ one-less s c n N (table_of s).rows e)));
 }
 
 -- where the table is plain, the first of these rows is
@@ -78,11 +85,9 @@ first_plain s c A h a =
     let rows = all_right PlainRow (table_of s).header (table_of s).rows a in
     all_get_d PlainRow (rows_in s c) 0 no_row (omega (arith, rows_number s c))
     (∥∥₁_elim A.among (Prim.hlevel props)
-    (λ w.
-    ⊎_elim
-    (λ (e : rows_in s c ≡ drop w.0 (table_of s).header). rw e (all_drop PlainRow w.0 (table_of s).header header))
-    (λ (e : rows_in s c ≡ drop w.0 (table_of s).rows). rw e (all_drop PlainRow w.0 (table_of s).rows rows))
-    w.1))
+    (⊎_elim
+    (λ (e : rows_in s c ≡ drop (length (table_of s).header - c.left) (table_of s).header). rw e (all_drop PlainRow _ (table_of s).header header))
+    (λ (e : rows_in s c ≡ drop (length (table_of s).rows - c.left) (table_of s).rows). rw e (all_drop PlainRow _ (table_of s).rows rows))))
 
 -- a first row keeps the limits
 pub first_limits : (s : List ℕ) (c : Rows) → RowsAt s c → 0 < c.left → RowLimits (length (table_of s).columns) (first_row s c)

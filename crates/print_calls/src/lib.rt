@@ -2,6 +2,7 @@
 #![tactic(auto)]
 
 use page::PrintedLines;
+use rules::Reason;
 use std::fmt;
 use stored::report::Report;
 
@@ -116,7 +117,8 @@ impl<'a, R: Print> Trial<'a, R> {
         let size = wanted.len();
         self.prints(call, size, wanted, next);
         if 0 < size {
-            self.refuses(call, size - 1, 20, size as u64);
+            let short = u64::from(Reason::PageOverBuffer);
+            self.refuses(call, size - 1, short, size as u64);
         }
     }
 
@@ -156,10 +158,11 @@ impl<'a, R: Print> Trial<'a, R> {
     // Positions at and past the line count: 21, and that count, with room over and with none.
     pub fn past_the_end(&mut self, count: u64) {
         let first = count as usize;
-        self.refuses(Call::Line(first), ROOM, 21, count);
-        self.refuses(Call::Line(first), 0, 21, count);
-        self.refuses(Call::Line(LAST), ROOM, 21, count);
-        self.refuses(Call::From(first), ROOM, 21, count);
+        let past = u64::from(Reason::NoSuchLine);
+        self.refuses(Call::Line(first), ROOM, past, count);
+        self.refuses(Call::Line(first), 0, past, count);
+        self.refuses(Call::Line(LAST), ROOM, past, count);
+        self.refuses(Call::From(first), ROOM, past, count);
     }
 
     // A refused sheet: its number comes before 20 and 21.

@@ -4,3 +4,4 @@ pub mod Joined
 pub mod Open
 pub mod ByColumn
 pub mod Heights
+pub mod Props

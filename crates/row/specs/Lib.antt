@@ -4,4 +4,3 @@ pub mod Pending
 pub mod Open
 pub mod Height
 pub mod Visible
-pub mod Props

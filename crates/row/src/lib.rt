@@ -88,6 +88,7 @@ fn missing_cell(v: VisibleColumn, n: usize, plain: bool) -> Pending
 
 // What is known of cells stays a clause, here and below: `row_pairs` asks nothing of their texts, so that one type for all would ask it of more. And
 // `plain` goes with them, since cells of both kinds are walked by the same code.
+
 // The first of the cells at its line n.
 pub fn open_cell(sheet: &[u8], cells: Cells, v: VisibleColumn, n: usize, plain: bool) -> Pending
     requires width_nonzero { (0 < v.width) × Printable v.delimiter }
@@ -116,6 +117,7 @@ pub fn open_cell(sheet: &[u8], cells: Cells, v: VisibleColumn, n: usize, plain: 
 }
 
 // That columns rise stays a clause, here and in the two below: it is what `VisibleCells::new` asks; a walk that is handed over may have begun.
+
 // Every visible column's cell of a row at its line n; whether there is one.
 pub fn format_row(
     sheet: &[u8],

@@ -1,4 +1,5 @@
-// The rows of a sheet: rows of cells, cells of lines. `pairs`: whether pairs are looked for in them.
+// The rows of a sheet: rows of cells, cells of lines. `pairs`: whether pairs are looked for in them. It stays a parameter: with `const PAIRS: bool`
+// the check fails at the closures here (`rattle cites ℕ of the module Prim.Native.Nat, which it did not state as an import`).
 ghost use Rattle.std.specs.Prelude.{◌≡◌};
 ghost use Rattle.rules.specs.Description.{counted};
 ghost use Rattle.rules.specs.Format as format;

@@ -44,6 +44,7 @@ fn next_bad(sheet: &[u8], from: usize, end: usize) -> usize
     requires { (from ≤ end) × (end ≤ length sheet.now) }
     ensures { BadIs sheet.now from end result }
 {
+    // Kept over places: by `position` the place found is one in a part of the sheet, from which its own is a sum.
     for i in from..end {
         if !is_printable(sheet[i]) {
             return i;
@@ -108,6 +109,7 @@ fn bytes(
     ensures { read_to result ≡ bytes_from pairs sheet.now end from }
 {
     let mut i = next_bad(sheet, from, inside);
+    // Kept: no index is counted; a pair is passed as a whole, and the next byte to look at is found behind it.
     while i < end {
         let next = other_at(sheet, i, end, pairs)?;
         i = rare_bad(sheet, next, inside);

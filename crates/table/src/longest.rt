@@ -22,6 +22,7 @@ impl<'a> AcceptedSheet<'a> {
             lines: 0,
         };
         let mut longest = [0u16; MOST_COLUMNS];
+        // Kept: a step is lent the longest so far, which an iterator would have to hold while they change.
         while let Some(taken) = step::step(&self.bytes[at..], left, &longest) {
             longest[taken.column] = taken.longest;
             at += taken.end;

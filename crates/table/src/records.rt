@@ -18,7 +18,7 @@ pub struct Settings {
 }
 
 // Rows still to come: `left` of them, the first at `at` in the sheet. Rows, cells and lines are types of their own, so that none is taken
-// for another.
+// for another. That they stand in a sheet stays a clause: they are what is kept of it between two calls, and the fact would need the sheet in them.
 #[derive(Clone, Copy)]
 pub struct Rows {
     pub at: usize,

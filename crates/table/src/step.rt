@@ -151,6 +151,7 @@ pub fn step(rest: &[u8], left: Left, longest: &[u16; MOST_COLUMNS]) -> Option<Ta
     ensures { StepIs rest.now left longest.now result }
 {
     let mut p = Stand { at: 0, left };
+    // Kept: no index is counted; heads are passed until one has lines, or there is none.
     while p.left.lines == 0 {
         p = pass_head(rest, p)?;
     }

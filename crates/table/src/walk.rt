@@ -7,6 +7,8 @@ ghost use Rattle.table.specs.Walk.{rows_in, rows_end, cells_end, lines_end, firs
 use super::accepted::AcceptedSheet;
 use super::records::{Cell, Cells, Lines, Row, Rows};
 
+// Rows, cells and lines have a function each, here and below: their heads differ, and so do their types, on purpose.
+
 // Where the line at `at` ends.
 fn line_end(sheet: &[u8], at: usize) -> usize
     requires { line_stop sheet.now at ≤ length sheet.now }

@@ -61,6 +61,7 @@ fn walk(text: &[u8], from: usize, width: usize) -> Place
     ensures { Reached text.now from width result.at result.left }
 {
     let mut left = width;
+    // Kept over places: a place is the answer, and in a part of the text each would begin at 0.
     for e in from..text.len() {
         let one = usize::from(width_of(text[e]));
         if left < one {

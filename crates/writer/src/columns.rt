@@ -13,7 +13,6 @@ use editor::walk::{Missing, Slices, Walk};
 use rules::Reason;
 
 // A width, of which an unused one is all zero.
-// From here on stand the check's fields (crate `sheet`) again: a trait for both was tried, whose laws would speak of all formats, and such a law is refused (`expected type Type 0, but this has type Type 1`).
 fn width(table: &Slices<'_>, sheet: &mut [u8], from: Walk, used: bool) -> Result<Walk, Missing>
     ensures { state (walked_to result) sheet.new ≡ walked (format.width used) table.now.numbers.now table.now.text.now (state (walk_of from) sheet.old) }
 {

@@ -1,5 +1,6 @@
 // The writer: the editor's table, two slices of numbers and text, becomes a sheet, or is refused with a number and a place.
-// The check (crate `sheet`) reads the same fields, but of bytes; what both share is the format, a definition.
+// The check (crate `sheet`) reads the same fields, but of bytes; what both share is the format, a definition. One trait for both was tried: its laws
+// would speak of all formats, and the check refuses such a law (`expected type Type 0, but this has type Type 1`).
 // One walk over the fields judges and writes: the first run is lent no buffer, the second the sheet's, once all is in order and fits.
 #![tactic(auto, using(crate::proofs::Laws::sections))]
 
