@@ -12,6 +12,7 @@ use Rattle.parts.specs.declared.cursor.Cursor.{Cursor}
 use Rattle.lines.specs.declared.Totals.{Totals}
 use Rattle.lines.specs.declared.Sought.{Sought}
 use Rattle.lines.specs.declared.Found.{Found}
+use Rattle.lines.specs.declared.Unfound.{Unfound}
 use Rattle.lines.specs.declared.Written.{Written}
 
 -- the page's lines and bytes
@@ -50,9 +51,9 @@ pub data LineRefused (s : List ℕ) (p : DisplayInfo) (k room : ℕ) (r : Refusa
   past : length (lines_of s p) ≤ k → refused_as r ≡ Refused 21 (length (lines_of s p)) → LineRefused s p k room r
   short : k < length (lines_of s p) → room < size_of s p k → refused_as r ≡ Refused 20 (size_of s p k) → LineRefused s p k room r
 
-abbrev pub FoundIs : List ℕ → DisplayInfo → ℕ → ℕ → Result Found Refusal → Type 0
+abbrev pub FoundIs : List ℕ → DisplayInfo → ℕ → ℕ → Result Found Unfound → Type 0
 FoundIs s p k room (Ok f) = LineFound s p k room f
-FoundIs s p k room (Err r) = LineRefused s p k room r
+FoundIs s p k room (Err u) = LineRefused s p k room u.refusal × At s p u.cursor
 
 -- of the lines before the cursor as many as fit are written over b, which is then a; the others come next
 pub record WroteIs (s : List ℕ) (p : DisplayInfo) (c : Cursor) (b a : List ℕ) (r : Written) : Type 0 where

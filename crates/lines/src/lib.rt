@@ -1,7 +1,7 @@
 // The lines of an opened page: counted, sought and written, all part after part in one order.
 #![tactic(auto)]
 
-ghost use Rattle.std.specs.Prelude.{◌≤◌, length};
+ghost use Rattle.std.specs.Prelude.{◌≡◌, ◌≤◌, length};
 ghost use Rattle.rules.specs.Limits.{most_lines};
 ghost use Rattle.parts.specs.Ahead.{At, ahead};
 ghost use Rattle.lines.specs.Walk.{TotalsAre, SoughtIs, LongestIs, FoundIs, WroteIs};
@@ -73,24 +73,45 @@ pub struct Found {
     pub cursor: Cursor,
 }
 
+// A line that isn't there or doesn't fit: why, and the cursor at which the search ended.
+#[derive(Clone, Copy)]
+pub struct Unfound {
+    pub refusal: Refusal,
+    pub cursor: Cursor,
+}
+
+impl From<Unfound> for Refusal {
+    ghost from_gives = { λ u r. r ≡ u.refusal };
+
+    fn from(unfound: Unfound) -> Refusal {
+        unfound.refusal
+    }
+}
+
 // Line k, to be written into some room.
-pub fn find(p: &Page<'_>, k: usize, room: usize) -> Result<Found, Refusal>
+pub fn find(p: &Page<'_>, k: usize, room: usize) -> Result<Found, Unfound>
     ensures { FoundIs p.now.sheet.now p.now.info k room result }
 {
     let sought = seek(p, k);
     let cursor = sought.cursor;
     if cursor::is_end(cursor) {
-        return Err(Refusal {
-            reason: Reason::NoSuchLine,
-            place: sought.passed,
+        return Err(Unfound {
+            refusal: Refusal {
+                reason: Reason::NoSuchLine,
+                place: sought.passed,
+            },
+            cursor,
         });
     }
     let part = PagePart::at(p, cursor);
     let size = part.line_size(p, cursor.line);
     if room < size {
-        return Err(Refusal {
-            reason: Reason::PageOverBuffer,
-            place: size,
+        return Err(Unfound {
+            refusal: Refusal {
+                reason: Reason::PageOverBuffer,
+                place: size,
+            },
+            cursor,
         });
     }
     Ok(Found { size, cursor })

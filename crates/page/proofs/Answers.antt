@@ -26,6 +26,7 @@ use Rattle.rules.specs.declared.Refusal.{Refusal}
 use Rattle.rules.proofs.Refusals.{number_some}
 use Rattle.sheet.specs.Examine.{ExaminedIs, checked_of}
 use Rattle.sheet.specs.declared.Examined.{Examined}
+use Rattle.sheet.specs.declared.RefusedSheet.{RefusedSheet}
 use Rattle.table.specs.Held.{IsAccepted, table_of}
 use Rattle.table.specs.Walk.{rows_in}
 use Rattle.table.proofs.Held.{held, is_accepted}
@@ -94,7 +95,10 @@ plain_table s e E h = let g = held s (accepted s e E) in E.plain h (table_of s) 
 
 -- ---- a refused sheet
 
-module _ (s : List ℕ) (r : Refusal) (E : ExaminedIs s (Err r)) where
+module _ (s : List ℕ) (f : RefusedSheet) (E : ExaminedIs s (Err f)) where
+  abbrev r : Refusal
+  r = f.refusal
+
   pub refused_by : sheet s ≡ refused (number_of r.reason) r.place
   unfolding check check_of
   refused_by = go (sheet s) refl
@@ -104,7 +108,7 @@ module _ (s : List ℕ) (r : Refusal) (E : ExaminedIs s (Err r)) where
           let z : number_of r.reason ≡ 0 = ap (λ (x : Checked). x.number) E.checked ∙ rw e in
           absurd (number_some r.reason z)
       go (refused n p) e =
-          let k : checked_of (Err r) ≡ record { number = n; place = p } = E.checked ∙ rw e in
+          let k : checked_of (Err f) ≡ record { number = n; place = p } = E.checked ∙ rw e in
           let a : number_of r.reason ≡ n = ap (λ (x : Checked). x.number) k in
           let b : r.place ≡ p = ap (λ (x : Checked). x.place) k in
           rw (e, a, b)

@@ -27,8 +27,8 @@ pub fn check(sheet: &[u8]) -> Checked
 pub fn widths(sheet: &[u8]) -> Measured
     ensures { result ≡ calls.measure sheet.now }
 {
-    if let Err(refusal) = sheet::examine(sheet) {
-        return Measured::from(refusal);
+    if let Err(refused) = sheet::examine(sheet) {
+        return Measured::from(refused.refusal);
     }
     // Locals: an array goes from a field into a literal only by a variable.
     let found = display_info::content_widths(&AcceptedSheet { bytes: sheet });
@@ -63,7 +63,7 @@ pub fn reasons(sheet: &[u8]) -> Reasoned
 {
     let examined = match sheet::examine(sheet) {
         Ok(examined) => examined,
-        Err(refusal) => return Reasoned::from(refusal),
+        Err(refused) => return Reasoned::from(refused.refusal),
     };
     let accepted = AcceptedSheet { bytes: sheet };
     let found = width_steps::explain(&accepted);
@@ -88,7 +88,7 @@ pub fn count(sheet: &[u8]) -> Counted
 {
     let examined = match sheet::examine(sheet) {
         Ok(examined) => examined,
-        Err(refusal) => return Counted::from(refusal),
+        Err(refused) => return Counted::from(refused.refusal),
     };
     let accepted = AcceptedSheet { bytes: sheet };
     let p = display_info::open(&accepted, examined.plain);

@@ -50,7 +50,7 @@ fn print<R: Print + Clock>(rt: &R, sheet: &[u8], space: &mut [u8]) -> Result<(),
 {
     let examined = match sheet::examine(sheet) {
         Ok(examined) => examined,
-        Err(refusal) => return write_refusal(rt, refusal).map_err(Error::Untold),
+        Err(refused) => return write_refusal(rt, refused.refusal).map_err(Error::Untold),
     };
     let p = display_info::open(&AcceptedSheet { bytes: sheet }, examined.plain);
     let mut c = cursor::first(p.info.rows);

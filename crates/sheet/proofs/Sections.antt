@@ -162,10 +162,19 @@ examined_good s false q read again b e =
     rw e (record { checked = k.answer; plain = λ f. k.plain; stood = rw (← read, unread s q) })
 
 pub examined_bad : (s : List ℕ) (pairs : Bool) (r : Refusal) → refused_as r ≡ reading_of pairs s
-    → (pairs ≡ true) ⊎ (at_first s (refused_as r) ≡ false) → ExaminedIs s (Err r)
-examined_bad s true r read h = record { checked = second-stands s (refused_as r) read; plain = tt; stood = tt }
-examined_bad s false r read (inl h) = let z : ◌≡◌ {A = ℕ} 0 1 = cc in absurd (omega arith)
-examined_bad s false r read (inr h) = record { checked = (first-stands s (refused_as r) read h).answer; plain = tt; stood = tt }
+    → (pairs ≡ true → at_first s (reading_of false s) ≡ true) → (pairs ≡ true) ⊎ (at_first s (refused_as r) ≡ false)
+    → (b : Bool) → b ≡ not pairs → ExaminedIs s (Err (record { refusal = r; plain = b }))
+examined_bad s true r read again h b e =
+    rw e
+    (record {
+      checked = second-stands s (refused_as r) read;
+      plain = λ f. let z : ◌≡◌ {A = ℕ} 0 1 = cc in absurd (omega arith);
+      stood = rw (again refl);
+    })
+examined_bad s false r read again (inl h) b e = let z : ◌≡◌ {A = ℕ} 0 1 = cc in absurd (omega arith)
+examined_bad s false r read again (inr h) b e =
+    let k = first-stands s (refused_as r) read h in
+    rw e (record { checked = k.answer; plain = λ f. k.plain; stood = rw (← read, h) })
 
 -- the end of the sheet
 module _ (s : List ℕ) (p : ℕ) where

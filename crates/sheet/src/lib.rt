@@ -86,8 +86,23 @@ pub struct Examined {
     pub plain: bool,
 }
 
+// What is known of a refused sheet: why it is, and `plain` as above.
+#[derive(Clone, Copy)]
+pub struct RefusedSheet {
+    pub refusal: Refusal,
+    pub plain: bool,
+}
+
+impl From<RefusedSheet> for Refusal {
+    ghost from_gives = { λ s r. r ≡ s.refusal };
+
+    fn from(sheet: RefusedSheet) -> Refusal {
+        sheet.refusal
+    }
+}
+
 // Any bytes may be asked about. Both readings are one call, so that it is compiled into the loop.
-pub fn examine(sheet: &[u8]) -> Result<Examined, Refusal>
+pub fn examine(sheet: &[u8]) -> Result<Examined, RefusedSheet>
     ensures { ExaminedIs sheet.now result }
 {
     let mut pairs = false;
@@ -96,7 +111,10 @@ pub fn examine(sheet: &[u8]) -> Result<Examined, Refusal>
             return Ok(Examined { plain: !pairs });
         };
         if pairs || !at_first(sheet, refusal) {
-            return Err(refusal);
+            return Err(RefusedSheet {
+                refusal,
+                plain: !pairs,
+            });
         }
         pairs = true;
     }
@@ -111,6 +129,6 @@ pub fn check(sheet: &[u8]) -> Checked
             number: 0,
             place: 0,
         },
-        Err(refusal) => Checked::from(refusal),
+        Err(refused) => Checked::from(refused.refusal),
     }
 }

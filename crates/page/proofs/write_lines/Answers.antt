@@ -19,7 +19,7 @@ pub returns-in_err-found : goal.returns-in_err-found
 returns-in_err-found c =
     let p = err_from_is_err_and c.from_residual-in_err-found.result c.from_residual-in_err-found.ensures.1 in
     let h = accepted _ _ c.in_ok-examined.ensures in
-    let e = lines_turned _ h _ c.open-p.ensures.all_rows c.args.line c.args.page.now _ (rw c.open-p.ensures.same_sheet at c.in_err-found.ensures) in
+    let e = lines_turned _ h _ c.open-p.ensures.all_rows c.args.line c.args.page.now _ (rw c.open-p.ensures.same_sheet at c.in_err-found.ensures.0) in
     record { value = rw (p.1, p.2) (sym (ap (λ (w : Several). w.answer) e)); page_after = sym (ap (λ (w : Several). w.buffer) e); few = rw (p.1) tt }
 
 pub write-wrote-requires : goal.write-wrote-requires

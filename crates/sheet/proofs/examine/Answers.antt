@@ -11,7 +11,8 @@ returns-in_default c = examined_good _ c.loop-refusal.pairs _ c.in_default.ensur
 pub returns-then-pairs : goal.returns-then-pairs
 returns-then-pairs c =
     elim c.then-pairs.branch [
-      | then-pairs-via-then-pairs w ↦ examined_bad _ c.loop-refusal.pairs _ c.in-Err.ensures (inl w.if-pairs.true)
+      | then-pairs-via-then-pairs w ↦ examined_bad _ c.loop-refusal.pairs _ c.in-Err.ensures c.loop-refusal.invariant (inl w.if-pairs.true) _ refl
       | then-pairs-via-else-pairs+then-not-at_first w ↦
-          examined_bad _ c.loop-refusal.pairs _ c.in-Err.ensures (inr (sym w.at_first.ensures ∙ w.if-not-at_first.true))
+          examined_bad _ c.loop-refusal.pairs _ c.in-Err.ensures c.loop-refusal.invariant
+          (inr (sym w.at_first.ensures ∙ w.if-not-at_first.true)) _ refl
     ]
