@@ -1,11 +1,10 @@
 -- A layout that is read from a sheet describes its table, and what is arranged by it is the table's widths. Assumes nothing.
-use Prim.Native.Nat.{ℕ, zero, suc, ◌-◌, ◌≤◌, ◌<◌}
+use Prim.Native.Nat.{ℕ, zero, suc, ◌≤◌, ◌<◌}
 use mathlib.Core.Path.{◌≡◌, refl, sym, ap, ◌∙◌}
-use mathlib.Core.List.{List, [], ◌∷◌, ◌++◌, map, append_assoc}
+use mathlib.Core.List.{List, [], map}
 use mathlib.Core.Bool.{false}
 use native.Mathlib.Omega.{arith}
-use lib.ListN.{length, get_or, set, replicate, length-map, length-append}
-use lib.Seq.{set_at}
+use lib.ListN.{length, get_or, set, replicate, length-map}
 use Rattle.arrayvec.specs.ArrayVec.{ArrayVec}
 use Rattle.rules.specs.declared.Column.{Column}
 use Rattle.rules.specs.Text.{up_from}
@@ -15,6 +14,7 @@ use Rattle.rules.specs.Calls.{as_array}
 use Rattle.rules.specs.Widths as doc
 use Rattle.rules.specs.Widths.{longest_part, contents}
 use Rattle.laws.proofs.Lists.{get_d_map, get_d-up_from, length-up_from, map_below}
+use Rattle.style.proofs.Front.{set_padded}
 use Rattle.table.specs.Held.{IsAccepted, table_of, columns_of}
 use Rattle.constraint.specs.declared.Layout.{Layout}
 use Rattle.constraint.specs.Widths.{in_order, column}
@@ -50,14 +50,6 @@ longest_read t few ns e j h =
     ∙ ap (doc.longest t) (get_d-up_from 0 most_columns j 0 (omega arith) ∙ omega arith))
 
 -- entries set one after another
-set_padded : {A : Type 0} (a : A) (n : ℕ) (xs : List A) (v : A) → length xs ≡ n → n < most_columns → set (as_array a xs) n v ≡ as_array a (xs ++ (v ∷ []))
-unfolding as_array
-set_padded a n xs v k h =
-    let m = length-append xs (v ∷ []) in
-    let q : most_columns - length xs ≡ suc (most_columns - length (xs ++ (v ∷ []))) = omega arith in
-    rw q (set_at xs a (replicate (most_columns - length (xs ++ (v ∷ []))) a) v n k)
-    ∙ sym (append_assoc xs (v ∷ []) (replicate (most_columns - length (xs ++ (v ∷ []))) a))
-
 none_padded : {A : Type 0} (a : A) → replicate most_columns a ≡ as_array a []
 unfolding as_array
 none_padded a = refl

@@ -66,7 +66,7 @@ fn target_from(width: u16) -> Option<u16>
     (width != 0).then_some(width)
 }
 
-// The settings and columns by value, so that changed ones can be arranged as well.
+// The settings and columns by value, so that a changed copy of them can be arranged as well.
 #[tactic(auto, using(crate::proofs::Layouts::longest_held), unfolding(table::specs::Held::settings_of, table::specs::Held::columns_of))]
 pub fn layout(sheet: &AcceptedSheet<'_>) -> Layout
     ensures { Describes result (table_of sheet.now.bytes.now) }

@@ -92,7 +92,7 @@ pub fn widths_of(t: &Layout, c: &Course) -> Widths
 }
 
 // The layout that a sheet's widths go by, and the course that they took.
-#[derive(Drop)]
+#[derive(Clone, Copy)]
 pub struct Found {
     pub layout: Layout,
     pub course: Course,

@@ -9,23 +9,23 @@ ghost use Rattle.constraint.specs.Widths.{visible, borders, room, percent, bound
 ghost use Rattle.constraint.specs.Widths.{decided, fixed, taking, evaluated};
 ghost use Rattle.rules.specs.Sheet.{most_columns};
 
-use arrayvec::ArrayVec;
 use column_set::ColumnSet;
 use rules::{Column, MOST_COLUMNS};
 use style::column;
 use style::column::{ColumnConstraint, ConstraintWidth, ContentWidth, Width};
+use style::columns::Columns;
 use style::table::ContentArrangement;
 
 // What the widths depend on, beside the parts that cell lines split into. There is no heap: columns and longest lines have room for the most
 // columns.
-#[derive(Drop)]
+#[derive(Clone, Copy)]
 pub struct Layout {
     pub arrangement: ContentArrangement,
     pub target: Option<u16>,
     pub left: bool,
     pub right: bool,
     pub junction: bool,
-    pub columns: ArrayVec<Column, MOST_COLUMNS>,
+    pub columns: Columns,
     pub longest: [u16; MOST_COLUMNS],
 }
 

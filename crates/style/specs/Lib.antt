@@ -1,3 +1,4 @@
 pub mod Bytes
 pub mod Column
+pub mod Front
 pub mod Table

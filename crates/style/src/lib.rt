@@ -2,5 +2,6 @@
 #![tactic(auto)]
 
 pub mod column;
+pub mod columns;
 pub mod table;
 pub mod table_style;

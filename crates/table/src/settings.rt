@@ -5,8 +5,8 @@ ghost use Rattle.table.specs.Held.{table_of, settings_of, columns_of};
 
 use super::accepted::AcceptedSheet;
 use super::records::Settings;
-use arrayvec::ArrayVec;
-use rules::{Column, MOST_COLUMNS, STYLE_CHARACTERS, Width};
+use rules::{Column, STYLE_CHARACTERS, Width};
+use style::columns::Columns;
 
 // Two bytes, low byte first.
 fn word_at(sheet: &[u8], at: usize) -> u16
@@ -74,12 +74,12 @@ impl<'a> AcceptedSheet<'a> {
     }
 
     // The columns are copied once: widths and drawing ask for them again and again.
-    pub fn columns(&self) -> ArrayVec<Column, MOST_COLUMNS>
+    pub fn columns(&self) -> Columns
         ensures { result ≡ columns_of (table_of self.now.bytes.now) }
     {
         let place = self.columns_place();
         let count = usize::from(self.bytes[place]);
-        let mut columns = ArrayVec::new();
+        let mut columns = Columns::new();
         // Kept over numbers: by definition a column stands at a place of the sheet; as a part of it each would begin at 0, and no line is saved.
         for i in 0..count {
             columns.push(column_at(self.bytes, place + 1 + 11 * i));
