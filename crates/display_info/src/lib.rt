@@ -2,6 +2,7 @@
 #![tactic(auto)]
 
 pub mod lengths;
+pub mod visible_columns;
 
 ghost use Rattle.std.specs.Prelude.{◌≡◌, true, ◌+◌, ◌<◌};
 ghost use Rattle.rules.specs.Sheet.{most_columns};
@@ -23,14 +24,14 @@ ghost use Rattle.row.proofs.Props.{props};
 ghost use Rattle.display_info.specs.Opening.{edges_of, showing};
 
 use crate::lengths::Lengths;
+use crate::visible_columns::VisibleColumns;
 use arrangement::{Widths, layout};
-use arrayvec::ArrayVec;
 use borders::RuleStyle;
 use buffer::Edges;
 use row::{CellAlignment, VisibleColumn};
 use rules::{
-    BOTTOM_BORDER, CONTENT_LINES, Column, HEADER_LINES, HEADER_RULE, MOST_COLUMNS, ROW_RULE,
-    STYLE_CHARACTERS, TOP_BORDER,
+    BOTTOM_BORDER, CONTENT_LINES, Column, HEADER_LINES, HEADER_RULE, ROW_RULE, STYLE_CHARACTERS,
+    TOP_BORDER,
 };
 use style::column;
 use style::table_style::TableStyle;
@@ -55,10 +56,10 @@ pub struct LineStyles {
 }
 
 // What a page over some rows of the sheet is drawn from. On a plain page no cell has a pair, so that each text line has as many bytes as columns.
-#[derive(Drop)]
+#[derive(Clone, Copy)]
 pub struct DisplayInfo {
     pub plain: bool,
-    pub columns: ArrayVec<VisibleColumn, MOST_COLUMNS>,
+    pub columns: VisibleColumns,
     pub styles: LineStyles,
     pub lengths: Lengths,
     pub header: Rows,
@@ -66,7 +67,7 @@ pub struct DisplayInfo {
 }
 
 // An accepted sheet, lent, and what its page is drawn from.
-#[derive(Drop)]
+#[derive(Clone, Copy)]
 pub struct Page<'a> {
     pub sheet: &'a [u8],
     pub info: DisplayInfo,
@@ -170,13 +171,7 @@ fn styles(b: [u8; STYLE_CHARACTERS]) -> LineStyles
 }
 
 // Column j behind the visible ones before it, unless it is hidden. Its codes stand in for those that a cell leaves unset.
-fn show_column(
-    columns: &mut ArrayVec<VisibleColumn, MOST_COLUMNS>,
-    j: usize,
-    c: Column,
-    width: u16,
-    delimiter: u8,
-)
+fn show_column(columns: &mut VisibleColumns, j: usize, c: Column, width: u16, delimiter: u8)
     requires { array_vec_len columns.old < most_columns }
     ensures { columns.new.items ≡ showing columns.old.items j c width delimiter }
 {
@@ -194,7 +189,7 @@ fn show_column(
 }
 
 // The visible columns, from left to right.
-fn show_columns(sheet: &AcceptedSheet<'_>, widths: Widths) -> ArrayVec<VisibleColumn, MOST_COLUMNS>
+fn show_columns(sheet: &AcceptedSheet<'_>, widths: Widths) -> VisibleColumns
     requires { widths ≡ arranged_widths (table_of sheet.now.bytes.now) }
     ensures { Views (table_of sheet.now.bytes.now) (contents (table_of sheet.now.bytes.now)) result.items
         × (Rising result.items × (UsableAll result.items × NarrowAll result.items)) }
@@ -202,7 +197,7 @@ fn show_columns(sheet: &AcceptedSheet<'_>, widths: Widths) -> ArrayVec<VisibleCo
     let head = sheet.settings();
     let delimiter = records::set(head.delimiter).unwrap_or(b' ');
     let found = sheet.columns();
-    let mut columns = ArrayVec::new();
+    let mut columns = VisibleColumns::new();
     for (j, &c) in found.iter().enumerate() {
         show_column(&mut columns, j, c, widths.content[j], delimiter);
     }
