@@ -35,7 +35,8 @@ styles_of S = record {
   bottom = then_some (is_visible S bottom_border) (rule_style_of S true bottom_border);
 }
 
--- rows of the sheet, within it and within the limits: those of the header or of the body, all but the first few
+-- rows of the sheet, within it and within the limits: those of the header or of the body, all but the first few. That is truncated, so that a ghost
+-- field may say it; `among_of` of proofs/Among.antt gives which of the two it is
 pub record RowsAt (s : List ℕ) (c : Rows) : Type 0 where
   pub ends : rows_end s c ≤ length s
   pub sound : All (RowLimits (length (table_of s).columns)) (rows_in s c)
