@@ -2,7 +2,7 @@
 use Prim.Native.Nat.{ℕ, zero, suc, ◌+◌, ◌-◌, ◌*◌, ◌≤◌, ◌<◌}
 use mathlib.Core.Path.{◌≡◌, refl, sym, ap, ◌∙◌}
 use mathlib.Core.List.{List, [], ◌∷◌, ◌++◌, map, append_assoc, append-nil}
-use mathlib.Core.Logic.{∥∥₁_map, ∥∥₁_elim, inl, inr, ⊎_elim}
+use mathlib.Core.Logic.{∥∥₁_map, inl, inr, ⊎_elim}
 use mathlib.Core.Bool.{Bool, true, false}
 use native.Mathlib.Omega.{arith}
 use lib.ListN.{length, drop, get_or, length-drop}
@@ -40,9 +40,9 @@ use Rattle.std.specs.Prelude.{Option, Some, None}
 use Rattle.formatting.specs.Stand.{text_style_of}
 use Rattle.formatting.proofs.Whole.{styled_text}
 use Rattle.borders.proofs.Rule.{rule-drawn}
+use Rattle.display_info.proofs.Among.{among-skipped}
 use Rattle.display_info.proofs.Opening.{limits_of}
 use Rattle.display_info.specs.Opened.{widths_in, styles_of, RowsAt, Opened}
-use Rattle.row.proofs.Props.{props}
 use Rattle.parts.specs.Ahead.{rule_lines, text_lines, first_ruled, header_lines_of, row_lines_of, body_lines, part_by, part_lines, rest_by, rest_lines}
 use Rattle.parts.specs.Ahead.{ahead, lines_of, is_end, first_cursor, At, Next, AfterRow}
 use Rattle.parts.specs.Band.{rule_by, SizedRule, band_lines, body_style, SizedBand}
@@ -78,16 +78,21 @@ rows_next s c n A N = record {
       (λ (e : rows_in s c ≡ drop (length (table_of s).rows - c.left) (table_of s).rows). inr (N.rows ∙ one-less s c n N (table_of s).rows e)));
 }
 
+-- what holds of all rows of the table holds of the first of these
+pub first_has : (P : Row → Type 0) (s : List ℕ) (c : Rows) → RowsAt s c → 0 < c.left → All P (all_rows (table_of s)) → P (first_row s c)
+first_has P s c A h a =
+    let skipped = (among-skipped s c A).0 in
+    let header = all_left P (table_of s).header (table_of s).rows a in
+    let rows = all_right P (table_of s).header (table_of s).rows a in
+    all_get_d P (rows_in s c) 0 no_row (omega (arith, rows_number s c))
+    (⊎_elim
+    (λ (e : rows_in s c ≡ drop skipped (table_of s).header). rw e (all_drop P skipped (table_of s).header header))
+    (λ (e : rows_in s c ≡ drop skipped (table_of s).rows). rw e (all_drop P skipped (table_of s).rows rows))
+    (among-skipped s c A).1)
+
 -- where the table is plain, the first of these rows is
 pub first_plain : (s : List ℕ) (c : Rows) → RowsAt s c → 0 < c.left → All PlainRow (all_rows (table_of s)) → PlainRow (first_row s c)
-first_plain s c A h a =
-    let header = all_left PlainRow (table_of s).header (table_of s).rows a in
-    let rows = all_right PlainRow (table_of s).header (table_of s).rows a in
-    all_get_d PlainRow (rows_in s c) 0 no_row (omega (arith, rows_number s c))
-    (∥∥₁_elim A.among (Prim.hlevel props)
-    (⊎_elim
-    (λ (e : rows_in s c ≡ drop (length (table_of s).header - c.left) (table_of s).header). rw e (all_drop PlainRow _ (table_of s).header header))
-    (λ (e : rows_in s c ≡ drop (length (table_of s).rows - c.left) (table_of s).rows). rw e (all_drop PlainRow _ (table_of s).rows rows))))
+first_plain = first_has PlainRow
 
 -- a first row keeps the limits
 pub first_limits : (s : List ℕ) (c : Rows) → RowsAt s c → 0 < c.left → RowLimits (length (table_of s).columns) (first_row s c)

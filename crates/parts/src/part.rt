@@ -25,7 +25,7 @@ pub enum PagePart {
 }
 
 // The rows' style: no rule stands after the last of them.
-fn body_style(style: RowStyle, left: usize) -> RowStyle
+pub fn body_style(style: RowStyle, left: usize) -> RowStyle
     ensures { result ≡ body_style style left }
 {
     RowStyle {
