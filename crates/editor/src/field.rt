@@ -27,13 +27,13 @@ pub struct Field {
 }
 
 // The sheet's tests are of bytes: with a type parameter for the number, these two lines would be no plainer.
-fn between(value: u16, low: u16, high: u16) -> bool
+pub fn between(value: u16, low: u16, high: u16) -> bool
     ensures { result ≡ field.between low high value }
 {
     low <= value && value <= high
 }
 
-fn printable_or_zero(value: u16) -> bool
+pub fn printable_or_zero(value: u16) -> bool
     ensures { result ≡ field.printable_or_zero value }
 {
     value == 0 || between(value, 32, 126)
