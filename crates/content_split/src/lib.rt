@@ -248,7 +248,7 @@ fn split_line<const PLAIN: bool>(
 
 // The same of a text that may have pairs. It stands apart, so that what is done for plain texts is short enough to go into its callers.
 #[inline(never)]
-fn split_paired(bytes: &[u8], from: usize, width: usize, delimiter: u8) -> Option<Part>
+pub fn split_paired(bytes: &[u8], from: usize, width: usize, delimiter: u8) -> Option<Part>
     requires { (from ≤ length bytes.now) × ((0 < width) × Sound delimiter bytes.now from) }
     ensures { PartIs width delimiter bytes.now from result }
 {
