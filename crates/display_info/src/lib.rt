@@ -4,7 +4,7 @@
 pub mod lengths;
 pub mod visible_columns;
 
-ghost use Rattle.std.specs.Prelude.{◌≡◌, true, ◌+◌, ◌<◌};
+ghost use Rattle.std.specs.Prelude.{◌≡◌, true, ◌+◌, ◌<◌, []};
 ghost use Rattle.rules.specs.Sheet.{most_columns};
 ghost use Rattle.arrayvec.specs.ArrayVec.{array_vec_len};
 ghost use Rattle.rules.specs.Limits.{PlainTable};
@@ -188,20 +188,19 @@ fn show_column(columns: &mut VisibleColumns, j: usize, c: Column, width: u16, de
     });
 }
 
-// The visible columns, from left to right.
-fn show_columns(sheet: &AcceptedSheet<'_>, widths: Widths) -> VisibleColumns
-    requires { widths ≡ arranged_widths (table_of sheet.now.bytes.now) }
-    ensures { Views (table_of sheet.now.bytes.now) (contents (table_of sheet.now.bytes.now)) result.items
-        × (Rising result.items × (UsableAll result.items × NarrowAll result.items)) }
+// The visible columns, from left to right, put where there are none yet. The place is lent: what is returned lies on the stack once more.
+fn show_columns(columns: &mut VisibleColumns, sheet: &AcceptedSheet<'_>, widths: Widths)
+    requires fresh { columns.old.items ≡ [] }
+    requires arranged { widths ≡ arranged_widths (table_of sheet.now.bytes.now) }
+    ensures { Views (table_of sheet.now.bytes.now) (contents (table_of sheet.now.bytes.now)) columns.new.items
+        × (Rising columns.new.items × (UsableAll columns.new.items × NarrowAll columns.new.items)) }
 {
     let head = sheet.settings();
     let delimiter = records::set(head.delimiter).unwrap_or(b' ');
     let found = sheet.columns();
-    let mut columns = VisibleColumns::new();
     for (j, &c) in found.iter().enumerate() {
-        show_column(&mut columns, j, c, widths.content[j], delimiter);
+        show_column(columns, j, c, widths.content[j], delimiter);
     }
-    columns
 }
 
 // The content widths of an accepted sheet.
@@ -220,7 +219,8 @@ pub fn open_by<'a>(sheet: &AcceptedSheet<'a>, plain: bool, widths: Widths) -> Pa
     ensures same_sheet { result.sheet.now ≡ sheet.now.bytes.now }
     ensures all_rows { rows_in sheet.now.bytes.now result.info.rows ≡ (table_of sheet.now.bytes.now).rows }
 {
-    let columns = show_columns(sheet, widths);
+    let mut columns = VisibleColumns::new();
+    show_columns(&mut columns, sheet, widths);
     let styles = styles(sheet.style());
     let lengths = lengths::measure(columns.as_slice(), styles.body.lines);
     let header = sheet.header();

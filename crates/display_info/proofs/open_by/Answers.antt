@@ -7,7 +7,7 @@ use Rattle.display_info.proofs.open_by.Goals as goal
 pub invariant_of-result : goal.invariant_of-result
 invariant_of-result c =
     let passes = c.args.sheet.now.accepted in
-    let v = c.show_columns-columns.ensures in
+    let v = c.show_columns.ensures in
     let y = c.styles-styles.ensures ∙ ap styles_of c.style.ensures in
     let h = c.header-header.ensures in
     let r = c.rows-rows.ensures in

@@ -11,7 +11,7 @@ use Rattle.display_info.proofs.Opening.{view_rising, view_usable, view_narrow}
 use Rattle.display_info.proofs.show_columns.Goals as goal
 
 pub loop-j-init : goal.loop-j-init
-loop-j-init c = showing_begin _ _ c.new-columns.ensures
+loop-j-init c = showing_begin _ _ c.requires.fresh
 
 pub offset_bounds-widths-j : goal.offset_bounds-widths-j
 offset_bounds-widths-j c = omega (arith, count_fits _ (limits_of _ c.args.sheet.now.accepted) _ c.columns-found.ensures)
@@ -31,8 +31,8 @@ loop-j-preserved c =
     let lent = c.deref-c-items.ensures.0 in
     let column = ap (λ (l : List Column). get_or l c.loop-j.j no_column) lent ∙ column-at t T _ e c.loop-j.j in
     showing-on t c.loop-j.j _ c.loop-j.invariant _ _ _ _ column
-    (width_is t _ c.loop-j.j c.requires (omega (arith, h, columns-count t _ e, ap length lent))) (delimiter_is t c.settings-head.result _ c.settings-head.ensures
-    (c.unwrap_or-delimiter.ensures ∙ c.set.ensures 32))
+    (width_is t _ c.loop-j.j c.requires.arranged (omega (arith, h, columns-count t _ e, ap length lent)))
+    (delimiter_is t c.settings-head.result _ c.settings-head.ensures (c.unwrap_or-delimiter.ensures ∙ c.set.ensures 32))
     c.show_column.ensures
 
 pub returns : goal.returns
