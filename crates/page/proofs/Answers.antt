@@ -26,7 +26,6 @@ use Rattle.rules.specs.declared.Refusal.{Refusal}
 use Rattle.rules.proofs.Refusals.{number_some}
 use Rattle.sheet.specs.Examine.{ExaminedIs, checked_of}
 use Rattle.sheet.specs.declared.Examined.{Examined}
-use Rattle.sheet.specs.declared.RefusedSheet.{RefusedSheet}
 use Rattle.table.specs.Held.{IsAccepted, table_of}
 use Rattle.table.specs.Walk.{rows_in}
 use Rattle.table.proofs.Held.{held, is_accepted}
@@ -93,22 +92,19 @@ accepted s e E = is_accepted s (checked_of (Ok e)) E.checked refl
 pub plain_table : (s : List ℕ) (e : Examined) → ExaminedIs s (Ok e) → e.plain ≡ true → PlainTable (table_of s)
 plain_table s e E h = let g = held s (accepted s e E) in E.plain h (table_of s) g.end g.reads
 
--- ---- a refused sheet
+-- ---- a refused sheet, of which nothing is asked but what the check answers
 
-module _ (s : List ℕ) (f : RefusedSheet) (E : ExaminedIs s (Err f)) where
-  abbrev r : Refusal
-  r = f.refusal
-
+module _ (s : List ℕ) (r : Refusal) (told : ◌≡◌ {A = Checked} (record { number = number_of r.reason; place = r.place }) (check s)) where
   pub refused_by : sheet s ≡ refused (number_of r.reason) r.place
   unfolding check check_of
   refused_by = go (sheet s) refl
     where
       go : (y : Read Table) → sheet s ≡ y → sheet s ≡ refused (number_of r.reason) r.place
       go (got t p) e =
-          let z : number_of r.reason ≡ 0 = ap (λ (x : Checked). x.number) E.checked ∙ rw e in
+          let z : number_of r.reason ≡ 0 = ap (λ (x : Checked). x.number) told ∙ rw e in
           absurd (number_some r.reason z)
       go (refused n p) e =
-          let k : checked_of (Err f) ≡ record { number = n; place = p } = E.checked ∙ rw e in
+          let k : ◌≡◌ {A = Checked} (record { number = number_of r.reason; place = r.place }) (record { number = n; place = p }) = told ∙ rw e in
           let a : number_of r.reason ≡ n = ap (λ (x : Checked). x.number) k in
           let b : r.place ≡ p = ap (λ (x : Checked). x.place) k in
           rw (e, a, b)

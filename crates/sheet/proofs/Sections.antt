@@ -161,20 +161,37 @@ examined_good s false q read again b e =
     let k = first-stands s (At q) read (unread s q) in
     rw e (record { checked = k.answer; plain = λ f. k.plain; stood = rw (← read, unread s q) })
 
+-- a refusal from either reading is what the check answers; the sheet is called plain exactly where the reading without pairs didn't stop at a C2
 pub examined_bad : (s : List ℕ) (pairs : Bool) (r : Refusal) → refused_as r ≡ reading_of pairs s
+    → (pairs ≡ true) ⊎ (at_first s (refused_as r) ≡ false)
+    → ExaminedIs s (Err (record { refusal = r; plain = not (at_first s (reading_of false s)) }))
+examined_bad s pairs r read h = record {
+  checked = answered pairs read h;
+  plain = λ f. (first-stands s (reading_of false s) refl (not_first _ f)).plain;
+  stood = refl;
+}
+  where
+    answered : (b : Bool) → refused_as r ≡ reading_of b s → (b ≡ true) ⊎ (at_first s (refused_as r) ≡ false) → answer_of (refused_as r) ≡ check s
+    answered true e k = second-stands s (refused_as r) e
+    answered false e (inl k) = let z : ◌≡◌ {A = ℕ} 0 1 = cc in absurd (omega arith)
+    answered false e (inr k) = (first-stands s (refused_as r) e k).answer
+
+    not_first : (b : Bool) → not b ≡ true → b ≡ false
+    not_first true e = let z : ◌≡◌ {A = ℕ} 0 1 = cc in absurd (omega arith)
+    not_first false e = refl
+
+-- the same of readings of which the second looked for pairs only where the first had stopped at a C2
+pub examined_refused : (s : List ℕ) (pairs : Bool) (r : Refusal) → refused_as r ≡ reading_of pairs s
     → (pairs ≡ true → at_first s (reading_of false s) ≡ true) → (pairs ≡ true) ⊎ (at_first s (refused_as r) ≡ false)
     → (b : Bool) → b ≡ not pairs → ExaminedIs s (Err (record { refusal = r; plain = b }))
-examined_bad s true r read again h b e =
-    rw e
-    (record {
-      checked = second-stands s (refused_as r) read;
-      plain = λ f. let z : ◌≡◌ {A = ℕ} 0 1 = cc in absurd (omega arith);
-      stood = rw (again refl);
-    })
-examined_bad s false r read again (inl h) b e = let z : ◌≡◌ {A = ℕ} 0 1 = cc in absurd (omega arith)
-examined_bad s false r read again (inr h) b e =
-    let k = first-stands s (refused_as r) read h in
-    rw e (record { checked = k.answer; plain = λ f. k.plain; stood = rw (← read, h) })
+examined_refused s pairs r read again h b e = rw (e ∙ ap not (sym (stopped pairs read again h))) (examined_bad s pairs r read h)
+  where
+    stopped : (p : Bool) → refused_as r ≡ reading_of p s → (p ≡ true → at_first s (reading_of false s) ≡ true)
+        → (p ≡ true) ⊎ (at_first s (refused_as r) ≡ false)
+        → at_first s (reading_of false s) ≡ p
+    stopped true i a k = a refl
+    stopped false i a (inl k) = let z : ◌≡◌ {A = ℕ} 0 1 = cc in absurd (omega arith)
+    stopped false i a (inr k) = rw (← i, k)
 
 -- the end of the sheet
 module _ (s : List ℕ) (p : ℕ) where

@@ -5,7 +5,7 @@ use Rattle.page.proofs.count.Goals as goal
 
 pub returns-in-Err : goal.returns-in-Err
 unfolding count
-returns-in-Err c = rw (c.from.ensures, refused_by _ _ c.in-Err.ensures)
+returns-in-Err c = rw (c.from.ensures, refused_by _ _ c.in-Err.ensures.checked)
 
 pub open-p-requires : goal.open-p-requires
 open-p-requires c = let e = c.in-Ok.ensures in plain_table _ _ e

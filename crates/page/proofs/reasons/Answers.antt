@@ -9,7 +9,7 @@ use Rattle.page.proofs.reasons.Goals as goal
 
 pub returns-in-Err : goal.returns-in-Err
 unfolding reasons
-returns-in-Err c = rw (c.from.ensures, refused_by _ _ c.in-Err.ensures)
+returns-in-Err c = rw (c.from.ensures, refused_by _ _ c.in-Err.ensures.checked)
 
 pub difference-difference-requires : goal.difference-difference-requires
 difference-difference-requires c =

@@ -9,7 +9,7 @@ use Rattle.page.proofs.write_lines.Goals as goal
 pub returns-in_err-examined : goal.returns-in_err-examined
 returns-in_err-examined c =
     let p = err_from_is_err_and c.from_residual.result c.from_residual.ensures.1 in
-    let e = lines_refused _ _ c.in_err-examined.ensures c.args.line c.args.page.now in
+    let e = lines_refused _ _ c.in_err-examined.ensures.checked c.args.line c.args.page.now in
     record { value = rw (p.1, p.2) (sym (ap (λ (w : Several). w.answer) e)); page_after = sym (ap (λ (w : Several). w.buffer) e); few = rw (p.1) tt }
 
 pub open-p-requires : goal.open-p-requires

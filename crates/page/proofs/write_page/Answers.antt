@@ -10,7 +10,7 @@ use Rattle.page.proofs.write_page.Goals as goal
 pub returns-in_err-examined : goal.returns-in_err-examined
 returns-in_err-examined c =
     let p = err_from_is_err_and c.from_residual.result c.from_residual.ensures.1 in
-    let e = page_refused _ _ c.in_err-examined.ensures c.args.page.now in
+    let e = page_refused _ _ c.in_err-examined.ensures.checked c.args.page.now in
     record { value = rw (p.1, p.2) (sym (ap (λ (w : Written). w.answer) e)); page_after = sym (ap (λ (w : Written). w.buffer) e) }
 
 pub open-p-requires : goal.open-p-requires
