@@ -19,7 +19,7 @@ use Rattle.rules.specs.Calls.{check, check_of, count, count_of, put_or, put, not
 use Rattle.laws.proofs.Counts.{line-count-bound}
 use Rattle.laws.proofs.Fitting.{fitting_few, fitting-none, fitting_more, fitting_stops, fitting-all}
 use Rattle.laws.proofs.Sizes.{closed-one, byte-count-closed}
-use Rattle.std.specs.Prelude.{Ok, Err}
+use Rattle.std.specs.Prelude.{Ok}
 use Rattle.rules.specs.Refusals.{number_of}
 use Rattle.rules.specs.Steps.{Refused, refused_as}
 use Rattle.rules.specs.declared.Refusal.{Refusal}
