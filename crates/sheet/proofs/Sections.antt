@@ -10,6 +10,7 @@ use native.Mathlib.Omega.{arith}
 use lib.ListN.{length, get_or}
 use lib.Dec.{eqb, leb}
 use borrow.Author.Tests.{lt-ltb, le-ltb, eq-eqb}
+use Rattle.std.proofs.lemmas.Bool.{not-true, false≢true}
 use Rattle.rules.specs.Sheet.{Table, most_columns}
 use Rattle.rules.specs.Field.{Read, got, refused, byte_at, between, printable, printable_or_zero, ended}
 use Rattle.rules.specs.Description.{Format, Faithful, reads, stands, word_to, optional, zero_word, counted, text}
@@ -167,18 +168,14 @@ pub examined_bad : (s : List ℕ) (pairs : Bool) (r : Refusal) → refused_as r 
     → ExaminedIs s (Err (record { refusal = r; plain = not (at_first s (reading_of false s)) }))
 examined_bad s pairs r read h = record {
   checked = answered pairs read h;
-  plain = λ f. (first-stands s (reading_of false s) refl (not_first _ f)).plain;
+  plain = λ f. (first-stands s (reading_of false s) refl (not-true _ f)).plain;
   stood = refl;
 }
   where
     answered : (b : Bool) → refused_as r ≡ reading_of b s → (b ≡ true) ⊎ (at_first s (refused_as r) ≡ false) → answer_of (refused_as r) ≡ check s
     answered true e k = second-stands s (refused_as r) e
-    answered false e (inl k) = let z : ◌≡◌ {A = ℕ} 0 1 = cc in absurd (omega arith)
+    answered false e (inl k) = absurd (false≢true k)
     answered false e (inr k) = (first-stands s (refused_as r) e k).answer
-
-    not_first : (b : Bool) → not b ≡ true → b ≡ false
-    not_first true e = let z : ◌≡◌ {A = ℕ} 0 1 = cc in absurd (omega arith)
-    not_first false e = refl
 
 -- the same of readings of which the second looked for pairs only where the first had stopped at a C2
 pub examined_refused : (s : List ℕ) (pairs : Bool) (r : Refusal) → refused_as r ≡ reading_of pairs s
@@ -190,7 +187,7 @@ examined_refused s pairs r read again h b e = rw (e ∙ ap not (sym (stopped pai
         → (p ≡ true) ⊎ (at_first s (refused_as r) ≡ false)
         → at_first s (reading_of false s) ≡ p
     stopped true i a k = a refl
-    stopped false i a (inl k) = let z : ◌≡◌ {A = ℕ} 0 1 = cc in absurd (omega arith)
+    stopped false i a (inl k) = absurd (false≢true k)
     stopped false i a (inr k) = rw (← i, k)
 
 -- the end of the sheet
